@@ -1,0 +1,42 @@
+-- The effect of a command on the records of a network: add, modify and delete in strict form.
+use mathlib.Core.Bool.{Bool, true, false, cond}
+use mathlib.Core.List.{[], _∷_, _++_}
+use Prim.Native.Nat.{ℕ}
+use lib.Dec.{eqb, ltb}
+use lib.ListN.{take, drop}
+use Rattle.records.specs.Record.{Rec, Net, kind, sameRule, present}
+
+-- the rule of a command, stored as kind 4
+unfoldable pub asRule : Rec → Rec
+asRule c = 4 ∷ drop 1 c
+
+-- a rule with the action count and actions of a command, bytes 8 to 20
+unfoldable pub withActions : Rec → Rec → Rec
+withActions c r = take 8 r ++ (take 13 (drop 8 c) ++ drop 21 r)
+
+-- the same rule as c changed in its place
+unfoldable pub changed : (Rec → Rec) → Rec → Net → Net
+changed f c [] = []
+changed f c (r ∷ rest) = elim (sameRule c r) [ true ↦ f r ∷ rest | false ↦ r ∷ changed f c rest ]
+
+-- the rule of c after the last rule, after the last miss if none: before the first record of a higher kind
+unfoldable pub inserted : Rec → Net → Net
+inserted c [] = asRule c ∷ []
+inserted c (r ∷ rest) = elim (ltb 4 (kind r)) [ true ↦ asRule c ∷ r ∷ rest | false ↦ r ∷ inserted c rest ]
+
+-- the same rule as c removed
+unfoldable pub removed : Rec → Net → Net
+removed c [] = []
+removed c (r ∷ rest) = elim (sameRule c r) [ true ↦ rest | false ↦ r ∷ removed c rest ]
+
+-- add replaces the same rule in its place, or else inserts
+unfoldable pub added : Rec → Net → Net
+added c net = elim (present c net) [ true ↦ changed (λ r. asRule c) c net | false ↦ inserted c net ]
+
+-- the network that a command would leave: 6 add, 7 modify, 8 delete; without the same rule, modify and delete change nothing
+unfoldable pub applied : Rec → Net → Net
+applied c net =
+    let add = added c net in
+    let modify = changed (withActions c) c net in
+    let delete = removed c net in
+    cond (eqb (kind c) 6) add (cond (eqb (kind c) 7) modify delete)

@@ -1,0 +1,1 @@
+// The transitive closure of a plane.

@@ -1,0 +1,1 @@
+// Bits of a plane in a lent byte buffer.

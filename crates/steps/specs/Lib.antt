@@ -1,0 +1,3 @@
+-- One step of a packet state.
+pub mod Step
+pub mod Example

@@ -1,0 +1,1 @@
+// The truth of policies and the verdict on a network.
