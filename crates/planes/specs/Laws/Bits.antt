@@ -102,7 +102,8 @@ pub bit-top : (high k low : ℕ) → low < 2 ^ k → bitOf (high * 2 ^ k + low) 
 unfolding bitOf
 bit-top high k low h = ap (λ (m : ℕ). eqb (m % 2) 1) (high-of high k h)
 
-bit-zero : (i : ℕ) → bitOf 0 i ≡ false
+-- zero has no bit
+pub bit-zero : (i : ℕ) → bitOf 0 i ≡ false
 bit-zero zero = bit-low 0
 bit-zero (suc i) = sym (bit-half 0 i) ∙ bit-zero i
 

@@ -1,0 +1,116 @@
+//! Times the library's closure against a plain Rust Warshall on 64-bit words, at 1024 states.
+use std::hint::black_box;
+use std::time::Instant;
+
+#[link(name = "closure", kind = "static")]
+extern "C" {
+    fn wegbaro_close(work: *mut u8, len: usize, base: usize, w: usize);
+}
+
+const STATES: usize = 1024;
+const BYTES: usize = STATES / 8;
+const WORDS: usize = STATES / 64;
+const RUNS: usize = 101;
+
+/// A relation: row x has bit y if x is related to y.
+type Plane = Vec<u8>;
+
+/// Warshall's algorithm on rows of 64-bit words.
+#[inline(never)]
+fn warshall(plane: &mut [u64]) {
+    for k in 0..STATES {
+        let row: [u64; WORDS] = plane[k * WORDS..(k + 1) * WORDS].try_into().unwrap();
+        for x in plane.chunks_exact_mut(WORDS) {
+            if x[k / 64] >> (k % 64) & 1 == 1 {
+                for (a, b) in x.iter_mut().zip(&row) {
+                    *a |= b;
+                }
+            }
+        }
+    }
+}
+
+/// A small random generator (xorshift).
+struct Random(u64);
+
+impl Random {
+    fn below(&mut self, n: usize) -> usize {
+        self.0 ^= self.0 << 13;
+        self.0 ^= self.0 >> 7;
+        self.0 ^= self.0 << 17;
+        (self.0 >> 20) as usize % n
+    }
+}
+
+fn relate(plane: &mut Plane, x: usize, y: usize) {
+    plane[x * BYTES + y / 8] |= 1 << (y % 8);
+}
+
+fn cycle(states: &[usize]) -> Plane {
+    let mut plane = vec![0; STATES * BYTES];
+    for i in 0..states.len() {
+        relate(&mut plane, states[i], states[(i + 1) % states.len()]);
+    }
+    plane
+}
+
+fn random(degree: usize, r: &mut Random) -> Plane {
+    let mut plane = vec![0; STATES * BYTES];
+    for x in 0..STATES {
+        for _ in 0..degree {
+            relate(&mut plane, x, r.below(STATES));
+        }
+    }
+    plane
+}
+
+fn words(plane: &Plane) -> Vec<u64> {
+    plane
+        .chunks_exact(8)
+        .map(|c| u64::from_le_bytes(c.try_into().unwrap()))
+        .collect()
+}
+
+/// Microseconds that a call takes.
+fn time(f: impl FnOnce()) -> f64 {
+    let start = Instant::now();
+    f();
+    start.elapsed().as_secs_f64() * 1e6
+}
+
+fn median(mut times: Vec<f64>) -> f64 {
+    times.sort_by(f64::total_cmp);
+    times[times.len() / 2]
+}
+
+fn main() {
+    let mut r = Random(88172645463325252);
+    let ordered: Vec<usize> = (0..512).collect();
+    let mut shuffled = ordered.clone();
+    for i in (1..shuffled.len()).rev() {
+        shuffled.swap(i, r.below(i + 1));
+    }
+    let cases = [
+        ("cycle of 512, in order", cycle(&ordered)),
+        ("cycle of 512, shuffled", cycle(&shuffled)),
+        ("random, out-degree 1", random(1, &mut r)),
+        ("random, out-degree 4", random(4, &mut r)),
+        ("dense, 512 picks a state", random(512, &mut r)),
+    ];
+    println!("| relation on {STATES} states | library, µs | Rust on 64-bit words, µs | ratio |");
+    println!("|---|---|---|---|");
+    for (name, plane) in &cases {
+        let (mut library, mut rust) = (vec![], vec![]);
+        for _ in 0..RUNS {
+            let mut ours = black_box(plane.clone());
+            let mut theirs = black_box(words(plane));
+            library.push(time(|| unsafe {
+                wegbaro_close(ours.as_mut_ptr(), ours.len(), 0, BYTES)
+            }));
+            rust.push(time(|| warshall(&mut theirs)));
+            assert_eq!(words(&ours), theirs, "{name}: the two closures differ");
+        }
+        let (a, b) = (median(library), median(rust));
+        println!("| {name} | {a:.0} | {b:.0} | {:.2} |", a / b);
+    }
+}
