@@ -17,7 +17,7 @@ use Rattle.records.specs.Widths.{states, planeBytes, withinLimits, widthsOf}
 use Rattle.records.specs.State.{state, headerOf, portOf, switchOf, directionOf, ordinary}
 use Rattle.records.specs.Pattern.{ternary, matches, putBits, patternGood}
 use Rattle.records.specs.Policy.{X, Y, R, TC, nodeKind, nodeSays, firstNodes, formula, nodesOf, policyCount, forbidden, longestOf, longest, free}
-use Rattle.records.specs.Rows.{row1, row2, row3, row4, row5, row6, row7, row8, row9, row10, row11, row12, row13, zeros, pointGood, actionGood, actionsGood, matchGood, nodeGood, fieldsGood, missesIncomplete, operandsGood, endsPolicy, freeAt, workNeeded, commandGood}
+use Rattle.records.specs.Rows.{row1, row2, row3, row4, row5, row6, row7, row8, row9, row10, row11, row12, row13, zeros, pointGood, actionOf, actionGood, actionsGood, matchGood, nodeGood, fieldsGood, missesIncomplete, operandsGood, endsPolicy, freeAt, workNeeded, commandGood}
 use Rattle.records.specs.Refusal.{recordRow, fileRow, argumentsRow, networkRow, checkRefusal, commandRow, commandRefusal}
 use Rattle.steps.specs.Step.{ruleMatches, outranked, best, orMiss, chosen, reached, copies, sent, across, next, Step, external}
 use Rattle.verdict.specs.Truth.{Truth, modelOf}
@@ -33,7 +33,7 @@ use Rattle.records.specs.NetK.{record24, node, A, B, policy0, K, inStore, addAn
 
 -- all that a starred case computes with
 unfoldable pub computing : Unit {0}
-unfolding flatMap bitOf cell orRow addRow round rounds tab grid closed keep any all member sameNumbers from records flat ofKind priority sameRule present endsAt linked states planeBytes withinLimits widthsOf state headerOf portOf switchOf directionOf ordinary ternary matches putBits patternGood nodeKind nodeSays firstNodes formula nodesOf policyCount forbidden longestOf longest free row1 row2 row3 row4 row5 row6 row7 row8 row9 row10 row11 row12 row13 zeros pointGood actionGood actionsGood matchGood nodeGood fieldsGood missesIncomplete operandsGood endsPolicy freeAt workNeeded commandGood recordRow fileRow argumentsRow networkRow checkRefusal commandRow commandRefusal ruleMatches outranked best orMiss chosen reached copies sent across next external tableOf anyBelow allBelow truth firstFrom lowestState verdictFrom judgement verdict asRule withActions changed inserted removed added applied checkAnswer step judged stored record24 node A B policy0 K inStore addAny addZero addSet addDrop deleteAbsent addD deleteD
+unfolding flatMap bitOf cell orRow addRow round rounds tab grid closed keep any all member sameNumbers from records flat ofKind priority sameRule present endsAt linked states planeBytes withinLimits widthsOf state headerOf portOf switchOf directionOf ordinary ternary matches putBits patternGood nodeKind nodeSays firstNodes formula nodesOf policyCount forbidden longestOf longest free row1 row2 row3 row4 row5 row6 row7 row8 row9 row10 row11 row12 row13 zeros pointGood actionOf actionGood actionsGood matchGood nodeGood fieldsGood missesIncomplete operandsGood endsPolicy freeAt workNeeded commandGood recordRow fileRow argumentsRow networkRow checkRefusal commandRow commandRefusal ruleMatches outranked best orMiss chosen reached copies sent across next external tableOf anyBelow allBelow truth firstFrom lowestState verdictFrom judgement verdict asRule withActions changed inserted removed added applied checkAnswer step judged stored record24 node A B policy0 K inStore addAny addZero addSet addDrop deleteAbsent addD deleteD
 computing = tt
 
 -- the network with the first add's rule and D in the file

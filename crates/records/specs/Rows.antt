@@ -41,16 +41,23 @@ zeros k m r = all (eqb 0) (drop k (take m r))
 unfoldable pub pointGood : Widths → ℕ → ℕ → Bool
 pointGood w sw p = ltb sw (2 ^ w .w) && ltb p (2 ^ w .p)
 
--- action i of a record that uses `count` of them: OUTPUT with a port pattern, or, not as the last, SET with a header pattern; unused, zero
+-- the bytes of an action that is used: OUTPUT with a port pattern, or, not as the last, SET with a header pattern
+abbrev pub usedGood : Widths → ℕ → ℕ → ℕ → Bool → Bool
+usedGood w k value care last =
+    (eqb k 1 && patternGood (w .p) value care) || (eqb k 2 && patternGood (w .h) value care && not last)
+
+-- the bytes of an action that is not used are zero
+abbrev pub unusedGood : ℕ → ℕ → ℕ → Bool
+unusedGood k value care = eqb k 0 && eqb value 0 && eqb care 0
+
+-- action i of `count` by its three bytes
+unfoldable pub actionOf : Widths → ℕ → ℕ → ℕ → ℕ → ℕ → Bool
+actionOf w k value care count i =
+    elim (ltb i count) [ true ↦ usedGood w k value care (eqb (suc i) count) | false ↦ unusedGood k value care ]
+
+-- action i of a record that uses `count` of them
 unfoldable pub actionGood : Widths → Rec → ℕ → ℕ → Bool
-actionGood w r count i =
-    let k = at r (9 + 3 * i) in
-    let value = at r (10 + 3 * i) in
-    let care = at r (11 + 3 * i) in
-    elim (ltb i count) [
-      | true ↦ (eqb k 1 && patternGood (w .p) value care) || (eqb k 2 && patternGood (w .h) value care && not (eqb (suc i) count))
-      | false ↦ eqb k 0 && eqb value 0 && eqb care 0
-    ]
+actionGood w r count i = actionOf w (at r (9 + 3 * i)) (at r (10 + 3 * i)) (at r (11 + 3 * i)) count i
 
 -- an action count of 1–4 and its actions, bytes 8 to 20
 unfoldable pub actionsGood : Widths → Rec → Bool

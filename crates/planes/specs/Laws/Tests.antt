@@ -33,6 +33,10 @@ pub and-right : (a b : Bool) → (a && b) ≡ true → b ≡ true
 and-right true b t = t
 and-right false b t = absurd (false≢true t)
 
+-- two tests that pass together pass each
+pub both : (a b : Bool) → (a && b) ≡ true → (a ≡ true) × (b ≡ true)
+both a b e = (and-left a b e, and-right a b e)
+
 pub or-left : (a b : Bool) → a ≡ true → (a || b) ≡ true
 or-left true b t = refl
 or-left false b t = absurd (false≢true t)

@@ -1,0 +1,150 @@
+-- Fields of a record: read from a rule's body, bytes 1 to 20; by the record's kind; action by action; and zero bytes one at a time.
+use mathlib.Core.Path.{_≡_, refl, ap, _∙_}
+use mathlib.Core.Bool.{Bool, true, false, not, _&&_, _||_, and-false}
+use mathlib.Core.List.{List, _∷_}
+use mathlib.Core.Logic.{_⊎_, inl, inr}
+use Prim.Native.Nat.{ℕ, zero, suc, _+_, _-_, _*_, _^_, _≤_, _<_}
+use native.Mathlib.Numerals.{one-add}
+use native.Mathlib.Omega.{arith}
+use borrow.Author.Tests.{lt-ltb, le-ltb, le-leb, lt-leb}
+use lib.Dec.{eqb, leb, ltb, lit<, lit≤}
+use lib.ListN.{length, getD, take, drop, length-drop}
+use lib.Seq.{length-take-le, getD-take, getD-drop, slice-cons, slice-empty}
+use Rattle.records.specs.Lists.{all}
+use Rattle.records.specs.Record.{Rec, at, kind}
+use Rattle.records.specs.Pattern.{patternGood}
+use Rattle.records.specs.Rows.{zeros, usedGood, unusedGood, actionOf, actionGood, actionsGood, pointGood, matchGood, nodeGood, fieldsGood, commandGood}
+use Rattle.records.specs.declared.Widths.{Widths}
+
+-- a byte after the kind byte
+after-kind : (b : List ℕ) (n k : ℕ) → n ≡ suc k → at (0 ∷ b) n ≡ getD b k 0
+after-kind b n k e = ap (λ (m : ℕ). getD (0 ∷ b) m 0) e
+
+-- the bytes of a rule's body are the record's
+pub body-at : (r : Rec) (n : ℕ) → 0 < n → n ≤ 20 → at (0 ∷ take 20 (drop 1 r)) n ≡ at r n
+body-at r zero l h = absurd (omega arith)
+body-at r (suc k) l h =
+    getD-take 20 (drop 1 r) k 0 (omega arith) ∙ getD-drop 1 r k 0 ∙ ap (λ (n : ℕ). getD r n 0) (one-add k)
+
+-- a body has 20 bytes
+pub body-length : (r : Rec) → length r ≡ 24 → length (take 20 (drop 1 r)) ≡ 20
+body-length r h = length-take-le 20 (drop 1 r) (simp length-drop (omega arith))
+
+-- a match read from the body is the record's
+pub match-body : (w : Widths) (r : Rec) → matchGood w (0 ∷ take 20 (drop 1 r)) ≡ matchGood w r
+unfolding matchGood
+match-body w r =
+    simp (body-at r 1 (lit< tt) (lit≤ tt), body-at r 4 (lit< tt) (lit≤ tt), body-at r 5 (lit< tt) (lit≤ tt), body-at r 6 (lit< tt) (lit≤ tt), body-at r 7 (lit< tt) (lit≤ tt))
+
+-- an action goes by its three bytes alone
+action-of : (w : Widths) (r : Rec) (count i : ℕ) → actionGood w r count i ≡ actionOf w (at r (9 + 3 * i)) (at r (10 + 3 * i)) (at r (11 + 3 * i)) count i
+unfolding actionGood
+action-of w r count i = refl
+
+-- an action has the bytes of the body
+action-body : (w : Widths) (r : Rec) (count i : ℕ) → i < 4 → actionGood w (0 ∷ take 20 (drop 1 r)) count i ≡ actionGood w r count i
+action-body w r count i h =
+    rw (action-of w (0 ∷ take 20 (drop 1 r)) count i, action-of w r count i)
+    (simp (body-at r (9 + 3 * i) (omega arith) (omega arith), body-at r (10 + 3 * i) (omega arith) (omega arith), body-at r (11 + 3 * i) (omega arith) (omega arith)))
+
+-- an action by the bytes of a body: one that is used, and one that is not
+module _ (w : Widths) (b : List ℕ) (count i : ℕ) where
+  in-body : actionGood w (0 ∷ b) count i ≡ actionOf w (getD b (8 + 3 * i) 0) (getD b (8 + 3 * i + 1) 0) (getD b (8 + 3 * i + 2) 0) count i
+  in-body =
+      rw (action-of w (0 ∷ b) count i)
+      (simp (after-kind b (9 + 3 * i) (8 + 3 * i) (omega arith), after-kind b (10 + 3 * i) (8 + 3 * i + 1) (omega arith), after-kind b (11 + 3 * i) (8 + 3 * i + 2) (omega arith)))
+
+  pub action-used : i < count → actionGood w (0 ∷ b) count i ≡ usedGood w (getD b (8 + 3 * i) 0) (getD b (8 + 3 * i + 1) 0) (getD b (8 + 3 * i + 2) 0) (eqb (suc i) count)
+  unfolding actionOf
+  action-used h = rw in-body (rw (lt-ltb i count h, actionOf))
+
+  pub action-unused : count ≤ i → actionGood w (0 ∷ b) count i ≡ unusedGood (getD b (8 + 3 * i) 0) (getD b (8 + 3 * i + 1) 0) (getD b (8 + 3 * i + 2) 0)
+  unfolding actionOf
+  action-unused h = rw in-body (rw (le-ltb i count h, actionOf))
+
+-- actions read from the body are the record's
+pub actions-body : (w : Widths) (r : Rec) → actionsGood w (0 ∷ take 20 (drop 1 r)) ≡ actionsGood w r
+unfolding actionsGood
+actions-body w r =
+    simp
+    (body-at r 8 (lit< tt) (lit≤ tt), action-body w r (at r 8) 0 (lit< tt), action-body w r (at r 8) 1 (lit< tt), action-body w r (at r 8) 2 (lit< tt), action-body w r (at r 8) 3 (lit< tt))
+
+-- one of four tests fails, after any test
+one-fails : (b : Bool) (f : ℕ → Bool) (i : ℕ) → i < 4 → f i ≡ false → (b && f 0 && f 1 && f 2 && f 3) ≡ false
+one-fails b f zero h e = simp (e, and-false)
+one-fails b f (suc zero) h e = simp (e, and-false)
+one-fails b f (suc (suc zero)) h e = simp (e, and-false)
+one-fails b f (suc (suc (suc zero))) h e = simp (e, and-false)
+one-fails b f (suc (suc (suc (suc i)))) h e = absurd (omega arith)
+
+-- the actions fail by their count or by one of them, and pass where all pass
+module _ (w : Widths) (r : Rec) where
+  pub count-low : at r 8 < 1 → actionsGood w r ≡ false
+  unfolding actionsGood
+  count-low h = rw (lt-leb 1 (at r 8) h)
+
+  pub count-high : 4 < at r 8 → actionsGood w r ≡ false
+  unfolding actionsGood
+  count-high h = rw (lt-leb (at r 8) 4 h, and-false)
+
+  pub action-fails : (i : ℕ) → i < 4 → actionGood w r (at r 8) i ≡ false → actionsGood w r ≡ false
+  unfolding actionsGood
+  action-fails i h e = one-fails (leb 1 (at r 8) && leb (at r 8) 4) (actionGood w r (at r 8)) i h e
+
+  pub actions-pass : 1 ≤ at r 8 → at r 8 ≤ 4 → ((i : ℕ) → i < 4 → actionGood w r (at r 8) i ≡ true) → actionsGood w r ≡ true
+  unfolding actionsGood
+  actions-pass l h f =
+      simp (le-leb 1 (at r 8) l, le-leb (at r 8) 4 h, f 0 (lit< tt), f 1 (lit< tt), f 2 (lit< tt), f 3 (lit< tt))
+
+-- no node has a kind above 8
+pub no-node : (w : Widths) (k a b : ℕ) → 9 ≤ k → nodeGood w k a b ≡ false
+unfolding nodeGood
+no-node w k a b h =
+    let e : k ≡ suc (suc (suc (suc (suc (suc (suc (suc (suc (k - 9))))))))) = omega arith in
+    ap (λ (n : ℕ). nodeGood w n a b) e
+
+-- the fields of a record by its kind; none has a kind above 5
+module _ (w : Widths) (r : Rec) where
+  pub widths-fields : kind r ≡ 1 → fieldsGood w r ≡ zeros 4 24 r
+  unfolding fieldsGood
+  widths-fields e = rw e
+
+  pub link-fields : kind r ≡ 2 → fieldsGood w r ≡ (pointGood w (at r 1) (at r 2) && pointGood w (at r 3) (at r 4) && zeros 5 24 r)
+  unfolding fieldsGood
+  link-fields e = rw e
+
+  pub miss-fields : kind r ≡ 3 → fieldsGood w r ≡ (ltb (at r 1) (2 ^ w .w) && zeros 2 8 r && actionsGood w r && zeros 21 24 r)
+  unfolding fieldsGood
+  miss-fields e = rw e
+
+  pub rule-fields : kind r ≡ 4 → fieldsGood w r ≡ (matchGood w r && actionsGood w r && zeros 21 24 r)
+  unfolding fieldsGood
+  rule-fields e = rw e
+
+  pub node-fields : kind r ≡ 5 → fieldsGood w r ≡ (leb (at r 1) 8 && nodeGood w (at r 2) (at r 3) (at r 4) && zeros 5 24 r)
+  unfolding fieldsGood
+  node-fields e = rw e
+
+  pub no-record : 6 ≤ kind r → fieldsGood w r ≡ false
+  unfolding fieldsGood
+  no-record h = let e : kind r ≡ suc (suc (suc (suc (suc (suc (kind r - 6)))))) = omega arith in rw e
+
+-- the fields of a command by its kind
+module _ (w : Widths) (c : Rec) where
+  pub change-fields : (kind c ≡ 6) ⊎ (kind c ≡ 7) → commandGood w c ≡ (matchGood w c && (actionsGood w c && zeros 21 24 c))
+  unfolding commandGood
+  change-fields (inl e) = rw e
+  change-fields (inr e) = rw e
+
+  pub delete-fields : kind c ≡ 8 → commandGood w c ≡ (matchGood w c && zeros 8 24 c)
+  unfolding commandGood
+  delete-fields e = rw e
+
+-- no byte, and one more byte
+pub zeros-none : (m : ℕ) (r : Rec) → zeros m m r ≡ true
+unfolding zeros all
+zeros-none m r = rw (slice-empty m r)
+
+pub zeros-more : (k m : ℕ) (r : Rec) → k < m → m ≤ length r → zeros k m r ≡ (eqb 0 (at r k) && zeros (suc k) m r)
+unfolding zeros all
+zeros-more k m r h l = rw (slice-cons k m r 0 h l)
