@@ -1,3 +1,4 @@
 -- One step of a packet state.
 pub mod Step
 pub mod Example
+pub mod Laws
