@@ -65,10 +65,7 @@ fn random(degree: usize, r: &mut Random) -> Plane {
 }
 
 fn words(plane: &Plane) -> Vec<u64> {
-    plane
-        .chunks_exact(8)
-        .map(|c| u64::from_le_bytes(c.try_into().unwrap()))
-        .collect()
+    plane.chunks_exact(8).map(|c| u64::from_le_bytes(c.try_into().unwrap())).collect()
 }
 
 /// Microseconds that a call takes.
@@ -104,9 +101,8 @@ fn main() {
         for _ in 0..RUNS {
             let mut ours = black_box(plane.clone());
             let mut theirs = black_box(words(plane));
-            library.push(time(|| unsafe {
-                wegbaro_close(ours.as_mut_ptr(), ours.len(), 0, BYTES)
-            }));
+            library
+                .push(time(|| unsafe { wegbaro_close(ours.as_mut_ptr(), ours.len(), 0, BYTES) }));
             rust.push(time(|| warshall(&mut theirs)));
             assert_eq!(words(&ours), theirs, "{name}: the two closures differ");
         }

@@ -1,0 +1,81 @@
+//! Rows 1 and 2: the count and the store's length.
+
+use super::starred::K_WORK;
+use super::{holds, refused, violated, CheckCase, PLENTY};
+use crate::formulas::{and, bit, external, or, policy, r, some, tc, X, Y};
+use crate::gate::{Lent, STORE};
+use crate::k::k;
+use crate::networks::largest_without_policies;
+use crate::random::Random;
+use crate::records::Record;
+
+/// The work of the largest network: 34 planes of 131,072 bytes.
+pub const LARGEST_WORK: usize = 4_456_448;
+
+pub fn cases() -> Vec<CheckCase> {
+    [counts(), lengths()].concat()
+}
+
+fn counts() -> Vec<CheckCase> {
+    let mut broken = largest_holding();
+    broken[640] = policy(7, &[bit(X, 9)])[0];
+    vec![
+        with_count("n of 0", 0, 1, 0),
+        with_count("n of 642", 642, 1, 0),
+        with_count("n beyond every store", usize::MAX, 1, 0),
+        with_count("n of 641, other bytes behind K", 641, 3, 20),
+        with_count("n of 1", 1, 7, 1),
+        holds("641 records", &largest_holding(), LARGEST_WORK),
+        violated("641 records, last node BIT X 9", &broken, 7, 512, LARGEST_WORK),
+    ]
+}
+
+/// K in its store, with another count.
+fn with_count(name: &str, n: usize, number: usize, place: usize) -> CheckCase {
+    let mut case = refused(name, &k(), number, place);
+    case.lent.n = n;
+    case
+}
+
+fn lengths() -> Vec<CheckCase> {
+    let mut just = holds("store of 15,384 bytes", &k(), K_WORK);
+    just.lent.store.truncate(STORE);
+    let mut largest = holds("641 records in 15,384 bytes", &largest_holding(), LARGEST_WORK);
+    largest.lent.store.truncate(STORE);
+    let mut short = refused("store of 15,383 bytes", &k(), 2, 0);
+    short.lent.store.truncate(STORE - 1);
+    vec![
+        just,
+        largest,
+        short,
+        of_ones("short store of other bytes", STORE - 1, 20, 2),
+        of_ones("no store", 0, 1, 2),
+        of_ones("no store, n of 641", 0, 641, 2),
+        of_ones("no store, n of 0", 0, 0, 1),
+        of_ones("short store, n of 642", STORE - 1, 642, 1),
+    ]
+}
+
+/// A store of bytes FF, refused by its length or by n.
+fn of_ones(name: &str, length: usize, n: usize, number: usize) -> CheckCase {
+    let mut case = refused(name, &[], number, 0);
+    case.lent = Lent { store: vec![0xFF; length], n, work: vec![0xC3; PLENTY] };
+    case
+}
+
+/// A network of 641 records. Every ordinary point is linked, so none is external. Its policies forbid
+/// to be at an external point, the first one also to reach one.
+pub fn largest_holding() -> Vec<Record> {
+    let mut reaching =
+        vec![external(X), external(Y), r(X, Y), tc(2, X, Y), and(1, 3), some(4, Y), or(0, 5)];
+    while reaching.len() < 32 {
+        let last = reaching.len() as u8 - 1;
+        reaching.push(or(last, last));
+    }
+    let mut records = largest_without_policies(&mut Random::new(1));
+    records.extend(policy(0, &reaching));
+    for number in 1..8 {
+        records.extend(policy(number, &[external(X); 32]));
+    }
+    records
+}

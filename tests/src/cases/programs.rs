@@ -1,0 +1,214 @@
+//! The program on whole inputs.
+
+use super::door::largest_holding;
+use super::ProgramCase;
+use crate::formulas::{policy, r, X};
+use crate::k::{
+    delete_d, dropping_add, first_add, k, k_set, k_with_d, rule_d, second_add, setting_add,
+};
+use crate::records::{add, delete, miss, modify, output, record, widths, with, Record};
+
+pub fn cases() -> Vec<ProgramCase> {
+    [starts(), series(), strange_commands(), cuts(), counts(), work()].concat()
+}
+
+fn case(name: &str, input: &[u8], lines: &[&str]) -> ProgramCase {
+    ProgramCase {
+        name: name.to_string(),
+        input: input.to_vec(),
+        output: lines.iter().map(|line| format!("{line}\n")).collect(),
+    }
+}
+
+/// Network records, then commands, as one input.
+fn input(network: &[Record], commands: &[Record]) -> Vec<u8> {
+    [network.concat(), commands.concat()].concat()
+}
+
+/// K with the first add's rule: state 3 breaks it.
+fn broken() -> Vec<Record> {
+    let mut records = k();
+    records.insert(6, with(first_add(), 0, 4));
+    records
+}
+
+fn starts() -> Vec<ProgramCase> {
+    let commands = [first_add(), second_add()];
+    let refused = ["start refused 1 0"];
+    vec![
+        case("empty input", &[], &refused),
+        case("command first", &input(&[], &[first_add()]), &refused),
+        case("commands, then K", &input(&commands, &k()), &refused),
+        case("K", &input(&k(), &[]), &["start holds"]),
+        case("broken network", &input(&broken(), &[]), &["start violated 0 3"]),
+        case("broken, commands", &input(&broken(), &commands), &["start violated 0 3"]),
+        case("kind 0 first", &input(&[[0; 24]], &commands), &["start refused 3 0"]),
+        case("kind 9 behind K", &input(&k(), &[record(&[9])]), &["start refused 3 20"]),
+        case("kind 0 behind K", &input(&k(), &[[0; 24], first_add()]), &["start refused 3 20"]),
+        case("K[0:18], command", &input(&k()[..18], &commands), &["start refused 9 17"]),
+        case("K[0:3], command", &input(&k()[..3], &commands), &["start refused 7 3"]),
+        case(
+            "operand 9, kind 0",
+            &input(&k_set(&[(8, 3, 9), (9, 0, 0)]), &commands),
+            &["start refused 9 8"],
+        ),
+    ]
+}
+
+fn series() -> Vec<ProgramCase> {
+    let mends = input(
+        &k(),
+        &[
+            add(rule_d()),
+            first_add(),
+            delete_d(),
+            delete(first_add()),
+            delete_d(),
+            delete_d(),
+            modify(with(dropping_add(), 0, 4)),
+            delete(k()[4]),
+            setting_add(),
+            first_add(),
+            delete(k()[5]),
+            first_add(),
+        ],
+    );
+    vec![
+        case(
+            "K, two adds",
+            &input(&k(), &[first_add(), second_add()]),
+            &["start holds", "1 blocked 0 3", "2 forwarded 21"],
+        ),
+        case(
+            "twelve commands",
+            &mends,
+            &[
+                "start holds",
+                "1 forwarded 21",
+                "2 forwarded 22",
+                "3 blocked 0 3",
+                "4 forwarded 21",
+                "5 forwarded 20",
+                "6 forwarded 20",
+                "7 forwarded 20",
+                "8 forwarded 19",
+                "9 blocked 0 2",
+                "10 blocked 0 3",
+                "11 forwarded 18",
+                "12 forwarded 19",
+            ],
+        ),
+        case(
+            "K with D",
+            &input(&k_with_d(), &[delete_d(), dropping_add(), delete_d()]),
+            &["start holds", "1 blocked 0 3", "2 forwarded 22", "3 blocked 0 3"],
+        ),
+    ]
+}
+
+/// Behind the first command every record is one, whatever its kind.
+fn strange_commands() -> Vec<ProgramCase> {
+    let strange = [
+        with(second_add(), 21, 1),
+        [0; 24],
+        k()[0],
+        k()[4],
+        k()[19],
+        record(&[9]),
+        [255; 24],
+        second_add(),
+        second_add(),
+    ];
+    let lines = [
+        "start holds",
+        "1 refused 12 0",
+        "2 refused 12 0",
+        "3 refused 12 0",
+        "4 refused 12 0",
+        "5 refused 12 0",
+        "6 refused 12 0",
+        "7 refused 12 0",
+        "8 forwarded 21",
+        "9 forwarded 21",
+    ];
+    vec![case("strange commands", &input(&k(), &strange), &lines)]
+}
+
+fn cuts() -> Vec<ProgramCase> {
+    let cut = |network: &[Record], commands: &[Record], tail: &[u8]| {
+        [&input(network, commands)[..], tail].concat()
+    };
+    let short = ["end short"];
+    let started = ["start holds", "end short"];
+    let mut cases = vec![
+        case("byte 05 alone", &[5], &short),
+        case("byte 00 alone", &[0], &short),
+        case("byte 06 alone", &[6], &["start refused 1 0"]),
+        case("23 bytes of a command alone", &first_add()[..23], &["start refused 1 0"]),
+        case("K and 23 bytes of a rule", &cut(&k(), &[], &k()[4][..23]), &short),
+        case("K and 23 bytes of a command", &cut(&k(), &[], &first_add()[..23]), &started),
+        case("faulty network, byte 05", &cut(&[[9; 24]], &[], &[5]), &short),
+        case("faulty network, byte 06", &cut(&[[9; 24]], &[], &[6]), &["start refused 3 0"]),
+        case("broken network, byte 05", &cut(&broken(), &[], &[5]), &short),
+        case("broken network, byte 08", &cut(&broken(), &[], &[8]), &["start violated 0 3"]),
+        case(
+            "broken network, command, byte 06",
+            &cut(&broken(), &[first_add()], &[6]),
+            &["start violated 0 3"],
+        ),
+    ];
+    for kind in [6, 7, 8] {
+        let name = format!("K and byte {kind}");
+        cases.push(case(&name, &cut(&k(), &[], &[kind]), &started));
+    }
+    for kind in [0, 1, 4, 5, 9, 255] {
+        let name = format!("K and byte {kind}");
+        cases.push(case(&name, &cut(&k(), &[], &[kind]), &short));
+    }
+    for kind in [0, 1, 5, 6, 8, 9, 255] {
+        let name = format!("K, a command and byte {kind}");
+        let lines = ["start holds", "1 forwarded 21", "end short"];
+        cases.push(case(&name, &cut(&k(), &[second_add()], &[kind]), &lines));
+    }
+    cases
+}
+
+/// 641 and 642 network records. The largest network needs more work than the program has.
+fn counts() -> Vec<ProgramCase> {
+    let largest = largest_holding();
+    let more = |record: Record, tail: &[u8]| [&largest.concat()[..], &record, tail].concat();
+    let with_tail = |tail: &[u8]| [&largest.concat()[..], tail].concat();
+    let zeros = |count: usize| vec![0; 24 * count];
+    let (too_many, too_large) = (["start refused 1 0"], ["start refused 11 0"]);
+    vec![
+        case("641 records", &with_tail(&[]), &too_large),
+        case("641 records, a command", &with_tail(&first_add()), &too_large),
+        case("641 records, byte 06", &with_tail(&[6]), &too_large),
+        case("641 records, byte 05", &with_tail(&[5]), &["end short"]),
+        case("642 records", &more(largest[640], &[]), &too_many),
+        case("642 records, byte 05", &more(largest[640], &[5]), &too_many),
+        case("642 records, byte 06", &more(largest[640], &[6]), &too_many),
+        case("642 records, a command", &more(largest[640], &first_add()), &too_many),
+        case("641 records of zeros", &zeros(641), &["start refused 3 0"]),
+        case("642 records of zeros", &zeros(642), &too_many),
+        case("1000 records of zeros", &zeros(1_000), &too_many),
+    ]
+}
+
+/// The program's work is 65,536 bytes: 8 planes for N of 8, and 2 for N of 9.
+fn work() -> Vec<ProgramCase> {
+    let network = |h: u8, p: u8, nodes: usize| {
+        let mut records = vec![widths(h, p, 0), miss(0, &[output(0, 0)])];
+        records.extend(policy(0, &vec![r(X, X); nodes]));
+        records.concat()
+    };
+    vec![
+        case("N of 8, 6 nodes", &network(5, 2, 6), &["start holds"]),
+        case("N of 8, 7 nodes", &network(5, 2, 7), &["start refused 11 0"]),
+        case("N of 9, no policy", &network(6, 2, 0), &["start holds"]),
+        case("N of 9, 1 node", &network(6, 2, 1), &["start refused 11 0"]),
+        case("N of 10, no policy", &network(6, 3, 0), &["start refused 11 0"]),
+        case("N of 7, 30 nodes", &network(4, 2, 30), &["start holds"]),
+        case("N of 7, 31 nodes", &network(4, 2, 31), &["start refused 11 0"]),
+    ]
+}

@@ -1,0 +1,271 @@
+//! Two gates run on the same buffers; a difference is told in words.
+
+use crate::commands::random_command;
+use crate::damage::damage;
+use crate::formulas::{policy, random_formula};
+use crate::gate::{Checked, Commanded, Gate, Lent, Program, MOST_RECORDS, RECORD, STORE};
+use crate::inputs::random_input;
+use crate::networks::{
+    all_widths, crowded, guarded_network, largest, random_network, random_rule, work_needed, Sizes,
+    Widths, MODEST,
+};
+use crate::random::Random;
+use crate::records::Record;
+
+/// How often each answer came.
+#[derive(Clone, Debug, Default)]
+pub struct Tally {
+    pub holds: usize,
+    pub violated: usize,
+    pub forwarded: usize,
+    pub blocked: usize,
+    /// By number, from 1.
+    pub refused: [usize; 14],
+}
+
+impl Tally {
+    fn checked(&mut self, answer: Checked) {
+        match answer {
+            Checked::Holds => self.holds += 1,
+            Checked::Violated { .. } => self.violated += 1,
+            Checked::Refused { number, .. } => self.refused[number] += 1,
+        }
+    }
+
+    fn commanded(&mut self, answer: Commanded) {
+        match answer {
+            Commanded::Forwarded { .. } => self.forwarded += 1,
+            Commanded::Blocked { .. } => self.blocked += 1,
+            Commanded::Refused { number, .. } => self.refused[number] += 1,
+        }
+    }
+}
+
+/// Records lent in a store of random length, with random bytes behind them and in the work.
+pub fn lend(random: &mut Random, records: &[Record], work: usize) -> Lent {
+    let mut store = records.concat();
+    let behind = STORE.saturating_sub(store.len()) + random.below(64);
+    store.extend(random.bytes(behind));
+    Lent { store, n: records.len(), work: random.bytes(work) }
+}
+
+/// The check call on both gates: the answer, if answers and buffers agree.
+pub fn same_check(one: &dyn Gate, other: &dyn Gate, lent: &Lent) -> Result<Checked, String> {
+    let (mut first, mut second) = (lent.clone(), lent.clone());
+    let answer = one.check(&first.store, first.n, &mut first.work);
+    let its = other.check(&second.store, second.n, &mut second.work);
+    agree(lent, &[], (&answer, &first), (&its, &second))?;
+    Ok(answer)
+}
+
+/// The command call on both gates: the answer and the buffers left, if they agree.
+pub fn same_command(
+    one: &dyn Gate,
+    other: &dyn Gate,
+    lent: &Lent,
+    given: &[u8],
+) -> Result<(Commanded, Lent), String> {
+    let (mut first, mut second) = (lent.clone(), lent.clone());
+    let answer = one.command(&mut first.store, first.n, &mut first.work, given);
+    let its = other.command(&mut second.store, second.n, &mut second.work, given);
+    agree(lent, given, (&answer, &first), (&its, &second))?;
+    Ok((answer, first))
+}
+
+/// An error that shows the call, unless answers and buffers are the same.
+fn agree<A: PartialEq + std::fmt::Debug>(
+    lent: &Lent,
+    given: &[u8],
+    (answer, first): (&A, &Lent),
+    (its, second): (&A, &Lent),
+) -> Result<(), String> {
+    if answer == its && first == second {
+        return Ok(());
+    }
+    let n = lent.n.min(MOST_RECORDS).min(lent.store.len() / RECORD);
+    Err(format!(
+        "{answer:?} against {its:?}, store same: {}, work same: {}, n {}, store {}, work {}, \
+         command {given:02X?}, records {:02X?}",
+        first.store == second.store,
+        first.work == second.work,
+        lent.n,
+        lent.store.len(),
+        lent.work.len(),
+        lent.store[..n * RECORD].chunks(RECORD).collect::<Vec<_>>(),
+    ))
+}
+
+/// Checks of sound networks, so many of each width.
+pub fn sound_networks(
+    one: &dyn Gate,
+    other: &dyn Gate,
+    seed: u64,
+    rounds: usize,
+    most: Sizes,
+) -> Result<Tally, String> {
+    let mut random = Random::new(seed);
+    let mut tally = Tally::default();
+    for of in all_widths() {
+        for _ in 0..rounds {
+            let records = random_network(&mut random, of, most);
+            let work = random_work(&mut random, work_needed(&records));
+            let lent = lend(&mut random, &records, work);
+            tally.checked(same_check(one, other, &lent)?);
+        }
+    }
+    Ok(tally)
+}
+
+/// A length that suffices, mostly with some to spare, or now and then just does not.
+fn random_work(random: &mut Random, needed: usize) -> usize {
+    match random.below(16) {
+        0 => needed - 1,
+        1 => needed,
+        _ => needed + random.below(100),
+    }
+}
+
+/// Checks of largest networks.
+pub fn largest_networks(
+    one: &dyn Gate,
+    other: &dyn Gate,
+    seed: u64,
+    rounds: usize,
+) -> Result<Tally, String> {
+    let mut random = Random::new(seed);
+    let mut tally = Tally::default();
+    for _ in 0..rounds {
+        let records = largest(&mut random);
+        let lent = lend(&mut random, &records, work_needed(&records));
+        tally.checked(same_check(one, other, &lent)?);
+    }
+    Ok(tally)
+}
+
+/// Checks and commands on damaged networks of widths up to so many bits.
+pub fn damaged_networks(
+    one: &dyn Gate,
+    other: &dyn Gate,
+    seed: u64,
+    rounds: usize,
+    bits: u8,
+) -> Result<Tally, String> {
+    let mut random = Random::new(seed);
+    let mut tally = Tally::default();
+    let widths = widths_up_to(bits);
+    for _ in 0..rounds {
+        let of = random.pick(&widths);
+        let sound = random_network(&mut random, of, MODEST);
+        let mut records = sound.clone();
+        damage(&mut random, &mut records);
+        let lent = lend(&mut random, &records, 4 * work_needed(&sound));
+        tally.checked(same_check(one, other, &lent)?);
+        let given = random_command(&mut random, &sound);
+        tally.commanded(same_command(one, other, &lent, &given)?.0);
+    }
+    Ok(tally)
+}
+
+/// Commands on networks with the most rules, policies and nodes, and checks with one record more.
+pub fn crowded_networks(
+    one: &dyn Gate,
+    other: &dyn Gate,
+    seed: u64,
+    rounds: usize,
+    bits: u8,
+) -> Result<Tally, String> {
+    let mut random = Random::new(seed);
+    let mut tally = Tally::default();
+    let widths = widths_up_to(bits);
+    for _ in 0..rounds {
+        let of = random.pick(&widths);
+        let mut records = crowded(&mut random, of);
+        let work = work_needed(&records);
+        let lent = lend(&mut random, &records, work);
+        let given = random_command(&mut random, &records);
+        tally.commanded(same_command(one, other, &lent, &given)?.0);
+        let rules_end = records.len() - 8 * 32;
+        if random.one_in(2) {
+            records.insert(rules_end, random_rule(&mut random, of));
+        } else {
+            let number = 6 + random.below(3) as u8;
+            records.extend(policy(number, &random_formula(&mut random, of.bits(), 1)));
+        }
+        let lent = lend(&mut random, &records, work);
+        tally.checked(same_check(one, other, &lent)?);
+    }
+    Ok(tally)
+}
+
+/// Series of commands, each on the store and count that the ones before left. The first gate finds the
+/// networks to start with.
+pub fn series(
+    one: &dyn Gate,
+    other: &dyn Gate,
+    seed: u64,
+    rounds: usize,
+    bits: u8,
+) -> Result<Tally, String> {
+    let mut random = Random::new(seed);
+    let mut tally = Tally::default();
+    let widths = widths_up_to(bits);
+    for _ in 0..rounds {
+        let of = random.pick(&widths);
+        let mut lent = holding_network(&mut random, one, of);
+        for _ in 0..16 {
+            let given = random_command(&mut random, &records_of(&lent));
+            let (answer, left) = same_command(one, other, &lent, &given)?;
+            tally.commanded(answer);
+            lent.store = left.store;
+            if let Commanded::Forwarded { count } = answer {
+                lent.n = count;
+            }
+            let length = lent.work.len();
+            lent.work = random.bytes(length);
+        }
+    }
+    Ok(tally)
+}
+
+/// Whole inputs through both programs.
+pub fn programs(one: Program, other: Program, seed: u64, rounds: usize) -> Result<(), String> {
+    let mut random = Random::new(seed);
+    for _ in 0..rounds {
+        let input = random_input(&mut random);
+        let (printed, its) = (one(&input), other(&input));
+        if printed != its {
+            let (printed, its) = (String::from_utf8_lossy(&printed), String::from_utf8_lossy(&its));
+            return Err(format!("{printed:?} against {its:?} for {input:02X?}"));
+        }
+    }
+    Ok(())
+}
+
+/// The widths with at most so many bits of state.
+pub fn widths_up_to(bits: u8) -> Vec<Widths> {
+    let mut widths = all_widths();
+    widths.retain(|widths| widths.bits() <= bits);
+    widths
+}
+
+/// A random network of which the gate says that it holds, mostly one that commands may break.
+pub fn holding_network(random: &mut Random, gate: &dyn Gate, of: Widths) -> Lent {
+    for _ in 0..1_000 {
+        let records = match random.one_in(4) {
+            true => random_network(random, of, MODEST),
+            false => guarded_network(random, of),
+        };
+        let lent = lend(random, &records, work_needed(&records));
+        let answer = gate.check(&lent.store, lent.n, &mut lent.work.clone());
+        if answer == Checked::Holds {
+            return lent;
+        }
+    }
+    panic!("the gate lets none of 1,000 networks hold");
+}
+
+/// The records that the store holds up to the count.
+pub fn records_of(lent: &Lent) -> Vec<Record> {
+    let (records, _) = lent.store[..lent.n * RECORD].as_chunks::<RECORD>();
+    records.to_vec()
+}

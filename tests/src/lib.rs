@@ -1,0 +1,17 @@
+//! The gate executed: a second implementation, generators, and cases for any gate.
+//!
+//! A gate to be tested implements [`gate::Gate`]. [`cases`] holds calls with answers written by hand;
+//! [`compare`] runs a gate against another one on generated networks, commands and inputs.
+
+pub mod cases;
+pub mod commands;
+pub mod compare;
+pub mod damage;
+pub mod formulas;
+pub mod gate;
+pub mod inputs;
+pub mod k;
+pub mod networks;
+pub mod random;
+pub mod records;
+pub mod second;

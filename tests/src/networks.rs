@@ -1,0 +1,229 @@
+//! Random sound networks of every width, and the largest one.
+
+use crate::formulas::{
+    policy, random_formula, random_guard, random_probe, random_sentence, Node, GUARD,
+};
+use crate::random::Random;
+use crate::records::{link, miss, output, rule, same_rule, set, widths, Action, Pattern, Record};
+
+/// Header, port and switch widths.
+#[derive(Clone, Copy, Debug, PartialEq, Eq)]
+pub struct Widths {
+    pub h: u8,
+    pub p: u8,
+    pub w: u8,
+}
+
+impl Widths {
+    /// The widths in a widths record.
+    pub fn of(record: &Record) -> Widths {
+        let [_, h, p, w, ..] = *record;
+        Widths { h, p, w }
+    }
+
+    pub fn bits(self) -> u8 {
+        1 + self.h + self.p + self.w
+    }
+}
+
+/// Every combination of widths within the limits.
+pub fn all_widths() -> Vec<Widths> {
+    let mut found = vec![];
+    for h in 1..=6 {
+        for p in 2..=4 {
+            for w in 0..=4 {
+                let widths = Widths { h, p, w };
+                if widths.bits() <= 10 {
+                    found.push(widths);
+                }
+            }
+        }
+    }
+    found
+}
+
+/// Bytes of so many planes for N bits.
+pub fn planes(count: usize, bits: u8) -> usize {
+    count << (2 * bits) >> 3
+}
+
+/// The work that a sound network needs.
+pub fn work_needed(records: &[Record]) -> usize {
+    let mut nodes = [0; 8];
+    for node in records.iter().filter(|record| record[0] == 5) {
+        nodes[usize::from(node[1])] += 1;
+    }
+    let longest = nodes.into_iter().max().unwrap_or(0);
+    planes(longest + 2, Widths::of(&records[0]).bits())
+}
+
+/// The most of each part that a random network has.
+#[derive(Clone, Copy, Debug)]
+pub struct Sizes {
+    pub links: usize,
+    pub rules: usize,
+    pub policies: usize,
+    pub nodes: usize,
+}
+
+/// Sizes for networks that are judged quickly.
+pub const MODEST: Sizes = Sizes { links: 6, rules: 12, policies: 3, nodes: 20 };
+
+/// A random network that no row refuses.
+pub fn random_network(random: &mut Random, of: Widths, most: Sizes) -> Vec<Record> {
+    let links = random.up_to(most.links.min(most_links(of)));
+    let rules = random.up_to(most.rules);
+    let mut records = without_policies(random, of, links, rules);
+    for number in 0..random.up_to(most.policies) {
+        let formula = random_policy(random, of, most.nodes);
+        records.extend(policy(number as u8, &formula));
+    }
+    records
+}
+
+/// A network with a few rules that drops most of what they miss, and with one or two guards: it often
+/// holds, and a command often breaks it.
+pub fn guarded_network(random: &mut Random, of: Widths) -> Vec<Record> {
+    let mut records = vec![widths(of.h, of.p, of.w)];
+    let links = random.up_to(most_links(of) / 2);
+    records.extend(random_links(random, of, links));
+    let drop = [output(0, (1 << of.p) - 1)];
+    for missed in random_misses(random, of) {
+        let dropping = miss(missed[1], &drop);
+        records.push(random.pick(&[missed, dropping, dropping, dropping]));
+    }
+    let rules = random.up_to(4);
+    records.extend(random_rules(random, of, rules));
+    for number in 0..1 + random.bits(1) {
+        records.extend(policy(number, &random_guard(random, of.bits())));
+    }
+    records
+}
+
+/// The largest network: every ordinary point linked, and the most rules, policies and nodes.
+pub fn largest(random: &mut Random) -> Vec<Record> {
+    let mut records = largest_without_policies(random);
+    records.extend(most_policies(random, 10));
+    records
+}
+
+/// The 385 records of a largest network before its policies.
+pub fn largest_without_policies(random: &mut Random) -> Vec<Record> {
+    without_policies(random, Widths { h: 1, p: 4, w: 4 }, 112, 256)
+}
+
+/// A network of any widths with the most rules, policies and nodes.
+pub fn crowded(random: &mut Random, of: Widths) -> Vec<Record> {
+    let mut records = without_policies(random, of, 0, 256);
+    records.extend(most_policies(random, of.bits()));
+    records
+}
+
+/// A random network with so many links and rules and no policy.
+fn without_policies(random: &mut Random, of: Widths, links: usize, rules: usize) -> Vec<Record> {
+    let mut records = vec![widths(of.h, of.p, of.w)];
+    records.extend(random_links(random, of, links));
+    records.extend(random_misses(random, of));
+    records.extend(random_rules(random, of, rules));
+    records
+}
+
+/// Eight policies of 32 nodes.
+fn most_policies(random: &mut Random, bits: u8) -> Vec<Record> {
+    (0..8).flat_map(|number| policy(number, &random_formula(random, bits, 32))).collect()
+}
+
+/// How many pairs of ordinary points there are.
+fn most_links(of: Widths) -> usize {
+    ((1 << of.p) - 2) << of.w >> 1
+}
+
+/// Links between so many pairs of distinct ordinary points.
+fn random_links(random: &mut Random, of: Widths, count: usize) -> Vec<Record> {
+    let mut points = vec![];
+    for switch in 0..1 << of.w {
+        for port in 1..(1 << of.p) - 1 {
+            points.push((switch, port));
+        }
+    }
+    random.shuffle(&mut points);
+    let pairs = points.chunks(2).take(count);
+    pairs.map(|pair| link(pair[0].0, pair[0].1, pair[1].0, pair[1].1)).collect()
+}
+
+fn random_misses(random: &mut Random, of: Widths) -> Vec<Record> {
+    (0..1 << of.w).map(|switch| miss(switch, &random_actions(random, of))).collect()
+}
+
+fn random_rules(random: &mut Random, of: Widths, count: usize) -> Vec<Record> {
+    let mut rules: Vec<Record> = vec![];
+    while rules.len() < count {
+        rules.push(random_new_rule(random, of, &rules));
+    }
+    rules
+}
+
+/// A rule that is not the same as any of the records.
+pub fn random_new_rule(random: &mut Random, of: Widths, records: &[Record]) -> Record {
+    loop {
+        let rule = random_rule(random, of);
+        if !records.iter().any(|other| same_rule(&rule, other)) {
+            return rule;
+        }
+    }
+}
+
+pub fn random_rule(random: &mut Random, of: Widths) -> Record {
+    let any = random.word() as u16;
+    let priority = random.pick(&[0, 1, 1, 2, 0x00FF, 0x0100, 0xFFFF, any]);
+    rule(
+        random.bits(of.w),
+        priority,
+        random_pattern(random, of.p),
+        random_pattern(random, of.h),
+        &random_actions(random, of),
+    )
+}
+
+/// A pattern with random stars, now and then with none or with stars only.
+fn random_pattern(random: &mut Random, width: u8) -> Pattern {
+    let full = (1 << width) - 1;
+    let some = random.bits(width);
+    let care = random.pick(&[0, full, some]);
+    [random.bits(width) & care, care]
+}
+
+/// One to four actions, the last OUTPUT.
+pub fn random_actions(random: &mut Random, of: Widths) -> Vec<Action> {
+    let earlier = random.pick(&[0, 0, 1, 1, 2, 3]);
+    let mut actions: Vec<Action> = vec![];
+    for _ in 0..earlier {
+        actions.push(match random.one_in(3) {
+            true => random_output(random, of),
+            false => random_set(random, of),
+        });
+    }
+    actions.push(random_output(random, of));
+    actions
+}
+
+fn random_output(random: &mut Random, of: Widths) -> Action {
+    let [value, care] = random_pattern(random, of.p);
+    output(value, care)
+}
+
+fn random_set(random: &mut Random, of: Widths) -> Action {
+    let [value, care] = random_pattern(random, of.h);
+    set(value, care)
+}
+
+/// A policy of at most so many nodes: a guard or a probe of paths, or any formula, closed or not.
+fn random_policy(random: &mut Random, of: Widths, most: usize) -> Vec<Node> {
+    let length = 1 + random.below(most);
+    match random.below(4) {
+        0 if most >= GUARD => random_guard(random, of.bits()),
+        1 if most >= GUARD => random_probe(random, of.bits()),
+        2 if length >= 3 => random_sentence(random, of.bits(), length),
+        _ => random_formula(random, of.bits(), length),
+    }
+}

@@ -1,0 +1,42 @@
+//! Commands and what they make of a network.
+
+use super::fields;
+use super::file::MOST_RULES;
+use super::network::{Match, Network, Record, Rule};
+use super::states::Widths;
+
+pub enum Command {
+    Add(Rule),
+    Modify(Rule),
+    Delete(Match),
+}
+
+/// The command in some bytes; `None` is row 12.
+pub fn read(widths: Widths, given: &[u8]) -> Option<Command> {
+    let record: &Record = given.try_into().ok()?;
+    match record[0] {
+        6 => fields::rule(widths, record).map(Command::Add),
+        7 => fields::rule(widths, record).map(Command::Modify),
+        8 => fields::delete(widths, record).map(Command::Delete),
+        _ => None,
+    }
+}
+
+/// The network that a command leaves; `None` is row 13.
+pub fn apply(network: &Network, command: Command) -> Option<Network> {
+    let mut left = network.clone();
+    match command {
+        Command::Add(rule) => match left.same_rule(rule.matching) {
+            Some(place) => left.rules[place] = rule,
+            None if left.rules.len() == MOST_RULES => return None,
+            None => left.rules.push(rule),
+        },
+        Command::Modify(rule) => {
+            if let Some(place) = left.same_rule(rule.matching) {
+                left.rules[place].actions = rule.actions;
+            }
+        }
+        Command::Delete(matching) => left.rules.retain(|rule| rule.matching != matching),
+    }
+    Some(left)
+}

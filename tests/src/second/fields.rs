@@ -1,0 +1,111 @@
+//! Reading the fields of one record; `None` stands for a field fault (row 5, or 12 in a command).
+
+use super::network::{Action, Link, Match, Node, Pattern, Record, Rule, Variable};
+use super::states::{Point, Widths};
+
+/// Actions of a rule: their count, then room for four of three bytes.
+const ACTIONS: std::ops::Range<usize> = 8..21;
+
+/// The fields of a link record.
+pub fn link(widths: Widths, record: &Record) -> Option<Link> {
+    let one = Point { switch: record[1], port: record[2] };
+    let other = Point { switch: record[3], port: record[4] };
+    let sound = widths.has(one) && widths.has(other) && are_zero(&record[5..]);
+    sound.then_some(Link { one, other })
+}
+
+/// The switch and the actions of a miss record.
+pub fn miss(widths: Widths, record: &Record) -> Option<(usize, Vec<Action>)> {
+    let rule = rule(widths, record)?;
+    are_zero(&record[2..8]).then_some((usize::from(rule.matching.switch), rule.actions))
+}
+
+/// The fields of a rule, from a record or a command.
+pub fn rule(widths: Widths, record: &Record) -> Option<Rule> {
+    let matching = matching(widths, record)?;
+    let actions = actions(widths, record[ACTIONS.start], &record[9..ACTIONS.end])?;
+    Some(Rule { matching, actions })
+}
+
+/// The fields of a delete: a match alone.
+pub fn delete(widths: Widths, record: &Record) -> Option<Match> {
+    let matching = matching(widths, record)?;
+    are_zero(&record[ACTIONS]).then_some(matching)
+}
+
+/// The match of a rule record, whose unnamed bytes are zero.
+fn matching(widths: Widths, record: &Record) -> Option<Match> {
+    let switch = record[1];
+    let sound = usize::from(switch) < widths.switches() && are_zero(&record[ACTIONS.end..]);
+    if !sound {
+        return None;
+    }
+    Some(Match {
+        switch,
+        priority: u16::from_le_bytes([record[2], record[3]]),
+        port: pattern(widths.port, record[4], record[5])?,
+        header: pattern(widths.header, record[6], record[7])?,
+    })
+}
+
+/// A pattern: value within care, care within the width.
+fn pattern(width: u8, value: u8, care: u8) -> Option<Pattern> {
+    let sound = value & !care == 0 && u16::from(care) < 1 << width;
+    sound.then_some(Pattern { value, care })
+}
+
+/// The used actions, the last of them OUTPUT; unused ones are zero.
+fn actions(widths: Widths, count: u8, bytes: &[u8]) -> Option<Vec<Action>> {
+    if !(1..=4).contains(&count) {
+        return None;
+    }
+    let (used, unused) = bytes.split_at(3 * usize::from(count));
+    let actions =
+        used.chunks(3).map(|bytes| action(widths, bytes)).collect::<Option<Vec<Action>>>()?;
+    let sound = matches!(actions.last(), Some(Action::Output(_))) && are_zero(unused);
+    sound.then_some(actions)
+}
+
+/// One action: kind, value, care.
+fn action(widths: Widths, bytes: &[u8]) -> Option<Action> {
+    match bytes[0] {
+        1 => pattern(widths.port, bytes[1], bytes[2]).map(Action::Output),
+        2 => pattern(widths.header, bytes[1], bytes[2]).map(Action::Set),
+        _ => None,
+    }
+}
+
+/// The policy number and the node of a policy record. Policy 8 is left to the later rows, and so is
+/// every operand.
+pub fn node(widths: Widths, record: &Record) -> Option<(usize, Node)> {
+    let [_, policy, kind, one, other, ..] = *record;
+    if policy > 8 || !are_zero(&record[5..]) {
+        return None;
+    }
+    let operand = usize::from(one);
+    let node = match kind {
+        0 if other < widths.bits() => Node::Bit(variable(one)?, other),
+        1 => Node::Steps(variable(one)?, variable(other)?),
+        2 if other == 0 => Node::External(variable(one)?),
+        3 if other == 0 => Node::Not(operand),
+        4 => Node::And(operand, usize::from(other)),
+        5 => Node::Or(operand, usize::from(other)),
+        6 => Node::Some(operand, variable(other)?),
+        7 => Node::All(operand, variable(other)?),
+        8 => Node::Closure(operand, variable(other / 2)?, variable(other % 2)?),
+        _ => return None,
+    };
+    Some((usize::from(policy), node))
+}
+
+fn variable(byte: u8) -> Option<Variable> {
+    match byte {
+        0 => Some(Variable::X),
+        1 => Some(Variable::Y),
+        _ => None,
+    }
+}
+
+fn are_zero(bytes: &[u8]) -> bool {
+    bytes.iter().all(|byte| *byte == 0)
+}

@@ -1,0 +1,21 @@
+//! The verdict on a network.
+
+use super::network::Network;
+use super::steps::all_steps;
+use super::truth::Truth;
+
+/// A policy and a state that breaks it.
+#[derive(Clone, Copy, Debug)]
+pub struct Breach {
+    pub policy: usize,
+    pub state: usize,
+}
+
+/// The lowest broken policy and the lowest state breaking it.
+pub fn judge(network: &Network) -> Option<Breach> {
+    let steps = all_steps(network);
+    network.policies.iter().enumerate().find_map(|(policy, formula)| {
+        let state = Truth::new(network, &steps, formula).lowest_breaking()?;
+        Some(Breach { policy, state })
+    })
+}

@@ -1,0 +1,171 @@
+//! The rules over the records' bytes, plain and slow: a third reading, for small sound networks.
+
+use wegbaro_tests::networks::Widths;
+use wegbaro_tests::records::Record;
+
+/// The lowest broken policy and the lowest state breaking it.
+pub fn first_broken(records: &[Record]) -> Option<(usize, usize)> {
+    (0..8).find_map(|policy| {
+        let nodes: Vec<&Record> =
+            records.iter().filter(|record| record[..2] == [5, policy]).collect();
+        let table = last_table(records, &nodes)?;
+        let state = table.iter().position(|row| row[0])?;
+        Some((usize::from(policy), state))
+    })
+}
+
+/// The truth of a node for all X and, within, all Y.
+type Table = Vec<Vec<bool>>;
+
+fn states(records: &[Record]) -> usize {
+    1 << Widths::of(&records[0]).bits()
+}
+
+/// The table of the last node, from the tables of all.
+fn last_table(records: &[Record], nodes: &[&Record]) -> Option<Table> {
+    let mut tables: Vec<Table> = vec![];
+    for node in nodes {
+        tables.push(table(records, node, &tables));
+    }
+    tables.pop()
+}
+
+fn table(records: &[Record], node: &Record, earlier: &[Table]) -> Table {
+    let states = states(records);
+    let (one, other) = (usize::from(node[3]), usize::from(node[4]));
+    let fill = |truth: &dyn Fn([usize; 2]) -> bool| -> Table {
+        let row = |x| (0..states).map(|y| truth([x, y])).collect();
+        (0..states).map(row).collect()
+    };
+    let at = |operand: usize, [x, y]: [usize; 2]| earlier[operand][x][y];
+    let put = |variable: usize, state: usize, mut xy: [usize; 2]| {
+        xy[variable] = state;
+        xy
+    };
+    match node[2] {
+        0 => fill(&|xy| xy[one] & 1 << other != 0),
+        1 => fill(&|xy| is_step(records, xy[one], xy[other])),
+        2 => fill(&|xy| is_external(records, xy[one])),
+        3 => fill(&|xy| !at(one, xy)),
+        4 => fill(&|xy| at(one, xy) & at(other, xy)),
+        5 => fill(&|xy| at(one, xy) | at(other, xy)),
+        6 => fill(&|xy| (0..states).any(|state| at(one, put(other, state, xy)))),
+        7 => fill(&|xy| (0..states).all(|state| at(one, put(other, state, xy)))),
+        _ => {
+            let closed = closure(&earlier[one]);
+            fill(&|xy| closed[xy[other / 2]][xy[other % 2]])
+        }
+    }
+}
+
+/// Chains made one pair longer until nothing is new.
+fn closure(pairs: &Table) -> Table {
+    let states = pairs.len();
+    let mut chains = pairs.clone();
+    loop {
+        let mut longer = chains.clone();
+        for from in 0..states {
+            for by in (0..states).filter(|by| chains[from][*by]) {
+                for to in 0..states {
+                    longer[from][to] |= pairs[by][to];
+                }
+            }
+        }
+        if longer == chains {
+            return chains;
+        }
+        chains = longer;
+    }
+}
+
+/// Direction, switch, port and header of a state number.
+fn parts(records: &[Record], state: usize) -> [usize; 4] {
+    let Widths { h, p, w } = Widths::of(&records[0]);
+    [
+        state / (1 << (h + p + w)),
+        state / (1 << (h + p)) % (1 << w),
+        state / (1 << h) % (1 << p),
+        state % (1 << h),
+    ]
+}
+
+/// The two ends of each link, one way and the other.
+fn ends(records: &[Record]) -> Vec<[usize; 4]> {
+    let links = records.iter().filter(|record| record[0] == 2);
+    let both = |link: &Record| {
+        let [_, a, b, c, d, ..] = link.map(usize::from);
+        [[a, b, c, d], [c, d, a, b]]
+    };
+    links.flat_map(both).collect()
+}
+
+fn is_external(records: &[Record], state: usize) -> bool {
+    let [_, switch, port, _] = parts(records, state);
+    let controller = (1 << records[0][2]) - 1;
+    let linked = ends(records).iter().any(|end| end[..2] == [switch, port]);
+    port != 0 && port != controller && !linked
+}
+
+fn is_step(records: &[Record], from: usize, to: usize) -> bool {
+    let [direction, switch, port, header] = parts(records, from);
+    let [to_direction, to_switch, to_port, to_header] = parts(records, to);
+    if direction == to_direction {
+        false
+    } else if direction == 1 {
+        to_header == header && ends(records).contains(&[switch, port, to_switch, to_port])
+    } else {
+        port != 0
+            && switch == to_switch
+            && sends(records, deciding(records, switch, port, header), header, to_port, to_header)
+    }
+}
+
+/// The rule that an arriving packet takes, or the miss record.
+fn deciding(records: &[Record], switch: usize, port: usize, header: usize) -> Record {
+    let fits = |bits: usize, value: u8, care: u8| bits & usize::from(care) == usize::from(value);
+    let miss = records.iter().find(|r| r[0] == 3 && usize::from(r[1]) == switch);
+    let mut best = *miss.expect("a miss per switch");
+    for rule in records.iter().filter(|record| record[0] == 4) {
+        let matches = usize::from(rule[1]) == switch
+            && fits(port, rule[4], rule[5])
+            && fits(header, rule[6], rule[7]);
+        let higher = (rule[3], rule[2]) > (best[3], best[2]);
+        if matches && (best[0] == 3 || higher) {
+            best = *rule;
+        }
+    }
+    best
+}
+
+/// Whether the actions of a record send a copy with a header to a port.
+fn sends(records: &[Record], record: Record, header: usize, port: usize, sent: usize) -> bool {
+    let full = (1 << records[0][2]) - 1;
+    let mut header = header;
+    let mut found = false;
+    for action in record[9..21].chunks(3).take(usize::from(record[8])) {
+        let (value, care) = (usize::from(action[1]), usize::from(action[2]));
+        if action[0] == 2 {
+            header = header - (header & care) + value;
+        } else {
+            let allowed = care == full || (port != 0 && port != full);
+            found |= header == sent && port & care == value && allowed;
+        }
+    }
+    found
+}
+
+/// The records that a sound command leaves.
+pub fn apply(records: &[Record], command: &Record) -> Vec<Record> {
+    let mut left = records.to_vec();
+    let same = left.iter().position(|record| record[0] == 4 && record[1..8] == command[1..8]);
+    let behind = left.iter().rposition(|record| record[0] == 3 || record[0] == 4);
+    let mut rule = *command;
+    rule[0] = 4;
+    match (command[0], same) {
+        (6, None) => left.insert(behind.expect("a miss") + 1, rule),
+        (6 | 7, Some(place)) => left[place] = rule,
+        (8, Some(place)) => drop(left.remove(place)),
+        _ => {}
+    }
+    left
+}

@@ -1,0 +1,422 @@
+//! Tests of the second implementation, of the generators and of the cases themselves.
+
+mod plain;
+mod worthless;
+
+use wegbaro_tests::cases::{self, CheckCase, CommandCase, ProgramCase};
+use wegbaro_tests::commands::{command, Wish, FAULTS, SOUND};
+use wegbaro_tests::compare::{self, Tally};
+use wegbaro_tests::damage::damage;
+use wegbaro_tests::formulas::{and, bit, external, not, policy, r, some, tc, X, Y};
+use wegbaro_tests::gate::{Checked, Commanded, Gate, Lent, MOST_RECORDS, STORE};
+use wegbaro_tests::inputs::random_input;
+use wegbaro_tests::k;
+use wegbaro_tests::networks::{
+    all_widths, largest, random_network, work_needed, Sizes, Widths, MODEST,
+};
+use wegbaro_tests::random::Random;
+use wegbaro_tests::records::{add, delete, link, miss, output, rule, set, widths, Record, ANY};
+use wegbaro_tests::second::{program, Second};
+use worthless::{Vice, Worthless, VICES};
+
+/// Fails with every error, one per line.
+fn expect_all(results: impl IntoIterator<Item = Result<(), String>>) {
+    let wrong: Vec<String> = results.into_iter().filter_map(Result::err).collect();
+    assert!(wrong.is_empty(), "{}", wrong.join("\n"));
+}
+
+/// Runs check cases as they are, without work, and through the command call.
+fn run_checks(cases: Vec<CheckCase>) {
+    expect_all(cases.iter().flat_map(|case| {
+        [
+            case.run(&Second),
+            case.without_work().run(&Second),
+            case.with_empty_command().run(&Second),
+        ]
+    }));
+}
+
+fn run_commands(cases: Vec<CommandCase>) {
+    expect_all(cases.iter().map(|case| case.run(&Second)));
+}
+
+#[test]
+fn starred_cases() {
+    run_checks(cases::starred::checks());
+    run_commands(cases::starred::commands());
+}
+
+#[test]
+fn rows_1_and_2() {
+    run_checks(cases::door::cases());
+}
+
+#[test]
+fn row_3() {
+    run_checks(cases::kinds::cases());
+}
+
+#[test]
+fn row_4() {
+    run_checks(cases::widths::cases());
+}
+
+#[test]
+fn row_5() {
+    run_checks(cases::fields::cases());
+}
+
+#[test]
+fn row_6() {
+    run_checks(cases::links::cases());
+}
+
+#[test]
+fn row_7() {
+    run_checks(cases::misses::cases());
+}
+
+#[test]
+fn rows_8_and_10_for_rules() {
+    run_checks(cases::rules::cases());
+}
+
+#[test]
+fn rows_9_and_10_for_policies() {
+    run_checks(cases::policies::cases());
+}
+
+#[test]
+fn row_11() {
+    run_checks(cases::work::cases());
+}
+
+#[test]
+fn commands_and_rows_12_and_13() {
+    run_commands(cases::commands::cases());
+}
+
+#[test]
+fn steps() {
+    run_checks(cases::steps::cases());
+}
+
+#[test]
+fn truths() {
+    run_checks(cases::truths::cases());
+}
+
+#[test]
+fn programs() {
+    let cases: Vec<ProgramCase> = cases::programs::cases();
+    expect_all(cases.iter().map(|case| case.run(&program)));
+}
+
+#[test]
+fn every_row_has_cases() {
+    let mut numbers = [0; 14];
+    for case in cases::all_checks() {
+        if let Checked::Refused { number, .. } = case.answer {
+            numbers[number] += 1;
+        }
+    }
+    for case in cases::all_commands() {
+        if let Commanded::Refused { number, .. } = case.answer {
+            numbers[number] += 1;
+        }
+    }
+    assert!(numbers[1..].iter().all(|count| *count > 0), "{numbers:?}");
+}
+
+#[test]
+fn k_is_as_described() {
+    let out = |port| [output(port, 3)];
+    let mut described = vec![
+        widths(1, 2, 1),
+        link(0, 2, 1, 1),
+        miss(0, &out(0)),
+        miss(1, &out(0)),
+        rule(0, 10, [1, 3], [0, 1], &out(2)),
+        rule(1, 10, [1, 3], ANY, &out(2)),
+    ];
+    described.extend(policy(
+        0,
+        &[
+            external(X),
+            bit(X, 4),
+            not(1),
+            and(0, 2),
+            r(X, Y),
+            tc(4, X, Y),
+            external(Y),
+            bit(Y, 4),
+            bit(Y, 0),
+            and(6, 7),
+            and(9, 8),
+            and(5, 10),
+            some(11, Y),
+            and(3, 12),
+        ],
+    ));
+    let d = rule(0, 8, ANY, [1, 1], &out(0));
+    let setting = [set(1, 1), output(2, 3)];
+    assert_eq!(k::k(), described);
+    assert_eq!(k::first_add(), add(rule(0, 5, ANY, ANY, &out(2))));
+    assert_eq!(k::second_add(), add(rule(0, 5, ANY, [0, 1], &out(2))));
+    assert_eq!(k::setting_add(), add(rule(0, 20, [1, 3], ANY, &setting)));
+    assert_eq!(k::dropping_add(), add(rule(0, 10, [1, 3], [0, 1], &out(0))));
+    assert_eq!(k::rule_d(), d);
+    assert_eq!(k::delete_d(), delete(d));
+}
+
+/// A store of the records with random bytes behind, and just enough work.
+fn lend(random: &mut Random, records: &[Record]) -> Lent {
+    compare::lend(random, records, work_needed(records))
+}
+
+#[test]
+fn generated_networks_are_sound_and_judged_as_plainly() {
+    let mut random = Random::new(11);
+    let (mut holding, mut broken) = (0, 0);
+    for of in compare::widths_up_to(6) {
+        for _ in 0..12 {
+            let records = random_network(&mut random, of, MODEST);
+            let mut lent = lend(&mut random, &records);
+            let answer = Second.check(&lent.store, lent.n, &mut lent.work);
+            let expected = match plain::first_broken(&records) {
+                None => Checked::Holds,
+                Some((policy, state)) => Checked::Violated { policy, state },
+            };
+            assert_eq!(answer, expected, "{records:?}");
+            assert!(lent.work.iter().all(|byte| *byte == 0));
+            holding += usize::from(answer == Checked::Holds);
+            broken += usize::from(answer != Checked::Holds);
+        }
+    }
+    assert!(holding > 20 && broken > 20, "{holding} and {broken}");
+}
+
+#[test]
+fn series_go_as_in_the_plain_book() {
+    let mut random = Random::new(12);
+    let (mut forwarded, mut blocked) = (0, 0);
+    for of in compare::widths_up_to(5).into_iter().cycle().take(60) {
+        let mut lent = compare::holding_network(&mut random, &Second, of);
+        for _ in 0..10 {
+            let wish = random.pick(&SOUND);
+            let given = command(&mut random, &compare::records_of(&lent), wish);
+            match play(&mut lent, &given) {
+                true => forwarded += 1,
+                false => blocked += 1,
+            }
+        }
+    }
+    assert!(forwarded > 100 && blocked > 20, "{forwarded} and {blocked}");
+}
+
+/// One sound command on the gate and on the book; tells whether it was forwarded.
+fn play(lent: &mut Lent, given: &[u8]) -> bool {
+    lent.work.fill(0xC3);
+    let before = lent.clone();
+    let left = plain::apply(&compare::records_of(lent), given.try_into().unwrap());
+    let answer = Second.command(&mut lent.store, lent.n, &mut lent.work, given);
+    assert!(lent.work.iter().all(|byte| *byte == 0));
+    match plain::first_broken(&left) {
+        None => {
+            let mut store = left.concat();
+            store.resize(STORE, 0);
+            store.extend(&before.store[STORE..]);
+            lent.n = left.len();
+            assert_eq!(answer, Commanded::Forwarded { count: left.len() });
+            assert_eq!(lent.store, store);
+            true
+        }
+        Some((policy, state)) => {
+            assert_eq!(answer, Commanded::Blocked { policy, state });
+            assert_eq!(lent.store, before.store);
+            false
+        }
+    }
+}
+
+#[test]
+fn malformed_commands_are_refused() {
+    let mut random = Random::new(13);
+    for of in all_widths() {
+        let sizes = Sizes { policies: 0, ..MODEST };
+        let records = random_network(&mut random, of, sizes);
+        let lent = lend(&mut random, &records);
+        for fault in FAULTS {
+            let given = command(&mut random, &records, Wish::Malformed(fault));
+            let mut left = lent.clone();
+            let answer = Second.command(&mut left.store, left.n, &mut left.work, &given);
+            let expected = Commanded::Refused { number: 12, place: 0 };
+            assert_eq!(answer, expected, "{fault:?} {given:?}");
+            assert!(left == lent, "{fault:?} {given:?}");
+        }
+    }
+}
+
+#[test]
+fn wishes_are_met() {
+    let mut random = Random::new(14);
+    let of = Widths { h: 2, p: 3, w: 1 };
+    for wish in SOUND.into_iter().cycle().take(60) {
+        let mut records = random_network(&mut random, of, MODEST);
+        records.insert(3, rule(0, 7, ANY, ANY, &[output(0, 0)]));
+        let given = command(&mut random, &records, wish);
+        let is_same = |record: &Record| record[0] == 4 && record[1..8] == given[1..8];
+        let (kind, present) = match wish {
+            Wish::AddNew => (6, false),
+            Wish::AddSame => (6, true),
+            Wish::ModifyPresent => (7, true),
+            Wish::ModifyAbsent => (7, false),
+            Wish::DeletePresent => (8, true),
+            Wish::DeleteAbsent => (8, false),
+            Wish::Malformed(_) => unreachable!("not a sound wish"),
+        };
+        assert_eq!(given[0], kind, "{wish:?}");
+        assert_eq!(records.iter().any(is_same), present, "{wish:?}");
+    }
+}
+
+#[test]
+fn every_width_is_generated_and_sound() {
+    let mut random = Random::new(15);
+    let mut kinds = [false; 9];
+    assert_eq!(all_widths().len(), 59);
+    for of in all_widths() {
+        let records = random_network(&mut random, of, MODEST);
+        assert_eq!(records[0], widths(of.h, of.p, of.w));
+        for node in records.iter().filter(|record| record[0] == 5) {
+            kinds[usize::from(node[2])] = true;
+        }
+        let mut lent = lend(&mut random, &records);
+        let answer = Second.check(&lent.store, lent.n, &mut lent.work);
+        assert!(!matches!(answer, Checked::Refused { .. }), "{answer:?}");
+    }
+    assert_eq!(kinds, [true; 9]);
+}
+
+#[test]
+fn the_largest_network_is_sound() {
+    let mut random = Random::new(16);
+    let records = largest(&mut random);
+    let mut lent = lend(&mut random, &records);
+    let count = |kind: u8| records.iter().filter(|record| record[0] == kind).count();
+    assert_eq!([1, 2, 3, 4, 5].map(count), [1, 112, 16, 256, 256]);
+    assert_eq!((lent.n, lent.work.len()), (MOST_RECORDS, 4_456_448));
+    let answer = Second.check(&lent.store, lent.n, &mut lent.work);
+    assert!(!matches!(answer, Checked::Refused { .. }), "{answer:?}");
+}
+
+/// A refusal stands at a damaged record or behind it, or one before it, whose node has become the
+/// last one; and nothing behind the record after it matters.
+#[test]
+fn damage_is_refused_where_it_is() {
+    let mut random = Random::new(17);
+    let mut refused = 0;
+    for of in compare::widths_up_to(6).into_iter().cycle().take(1_500) {
+        let mut records = random_network(&mut random, of, MODEST);
+        let room = 4 * work_needed(&records);
+        let first = damage(&mut random, &mut records);
+        let lent = compare::lend(&mut random, &records, room);
+        let answer = Second.check(&lent.store, lent.n, &mut lent.work.clone());
+        let Checked::Refused { number, place } = answer else {
+            continue;
+        };
+        refused += 1;
+        assert!((3..=11).contains(&number), "{number}");
+        assert!(number == 11 || place + 1 >= first, "{place} before {first}");
+        let mut other = lent.clone();
+        for record in other.store.chunks_mut(24).skip(place + 2) {
+            record.fill(0xEE);
+        }
+        if number < 11 && place < lent.n {
+            assert_eq!(Second.check(&other.store, other.n, &mut other.work), answer);
+        }
+    }
+    assert!(refused > 500, "{refused}");
+}
+
+#[test]
+fn cases_notice_every_vice() {
+    let mut checks = cases::all_checks();
+    let mut commands = cases::all_commands();
+    checks.retain(|case| case.lent.n < MOST_RECORDS);
+    commands.retain(|case| case.lent.n < MOST_RECORDS);
+    for vice in VICES {
+        let gate = Worthless::new(vice);
+        let in_commands = commands.iter().any(|case| case.run(&gate).is_err());
+        let in_checks = checks.iter().any(|case| case.run(&gate).is_err());
+        assert!(in_commands || in_checks, "{vice:?}");
+    }
+}
+
+/// The first error of a gate in any comparison.
+fn comparisons_against(gate: &dyn Gate) -> Result<(), String> {
+    compare::series(&Second, gate, 21, 40, 5)?;
+    compare::damaged_networks(&Second, gate, 22, 60, 5)?;
+    compare::sound_networks(&Second, gate, 23, 1, SMALL)?;
+    Ok(())
+}
+
+const SMALL: Sizes = Sizes { links: 4, rules: 4, policies: 1, nodes: 4 };
+
+#[test]
+fn comparisons_notice_every_vice_but_a_full_table() {
+    for vice in VICES.into_iter().filter(|vice| *vice != Vice::SaysFullEarly) {
+        let found = comparisons_against(&Worthless::new(vice));
+        assert!(found.is_err(), "{vice:?}");
+    }
+}
+
+#[test]
+fn comparisons_meet_every_answer() {
+    let of_series: Tally = compare::series(&Second, &Second, 24, 60, 5).unwrap();
+    assert!(of_series.forwarded > 100 && of_series.blocked > 50, "{of_series:?}");
+    assert!(of_series.refused[12] > 50, "{of_series:?}");
+    let of_damage = compare::damaged_networks(&Second, &Second, 25, 1_500, 6).unwrap();
+    assert!(of_damage.holds > 50 && of_damage.violated > 50, "{of_damage:?}");
+    assert!(of_damage.forwarded > 50 && of_damage.blocked > 50, "{of_damage:?}");
+    for number in [3, 4, 5, 6, 7, 8, 9, 12] {
+        assert!(of_damage.refused[number] > 0, "{number}: {of_damage:?}");
+    }
+    let of_crowd = compare::crowded_networks(&Second, &Second, 29, 60, 5).unwrap();
+    for number in [8, 9, 10, 12, 13] {
+        assert!(of_crowd.refused[number] > 0, "{number}: {of_crowd:?}");
+    }
+    let of_sound = compare::sound_networks(&Second, &Second, 26, 2, SMALL).unwrap();
+    assert!(of_sound.holds > 10 && of_sound.violated > 10, "{of_sound:?}");
+    assert!(of_sound.refused[11] > 0, "{of_sound:?}");
+}
+
+#[test]
+fn random_inputs_meet_every_line() {
+    let mut random = Random::new(27);
+    let mut printed = String::new();
+    for _ in 0..400 {
+        let output = program(&random_input(&mut random));
+        printed += std::str::from_utf8(&output).unwrap();
+    }
+    for words in [
+        "start holds",
+        "start violated",
+        "start refused",
+        " forwarded ",
+        " blocked ",
+        " refused 12 0",
+        "end short",
+    ] {
+        assert!(printed.contains(words), "{words}");
+    }
+}
+
+#[test]
+fn comparisons_of_programs_notice_a_missing_line() {
+    let silent = |input: &[u8]| {
+        let output = String::from_utf8(program(input)).unwrap();
+        output.replace("end short\n", "").into_bytes()
+    };
+    assert!(compare::programs(&program, &silent, 28, 200).is_err());
+}
