@@ -2,3 +2,4 @@
 pub mod Shift
 pub mod Calls
 pub mod Range
+pub mod NodeKinds

@@ -8,4 +8,8 @@ pub mod Policy
 pub mod Rows
 pub mod Refusal
 pub mod NetK
+pub mod Search
+pub mod Scan
+pub mod Layout
+pub mod Count
 pub mod Laws

@@ -1,9 +1,14 @@
 // The 24-byte records of a network.
-pub mod fields;
-
 ghost use mathlib.Core.Path.{_≡_};
 ghost use Prim.Native.Nat.{ℕ, _≤_, _^_};
 ghost use Rattle.records.specs.Widths.{width, states, planeBytes, withinLimits};
+
+pub mod fields;
+pub mod links;
+pub mod nodes;
+pub mod rules;
+pub mod scan;
+pub mod turns;
 
 // The widths of a network: of headers, of ports and of switches.
 pub struct Widths {

@@ -1,7 +1,7 @@
 -- Laws of patterns, over the width.
 use borrow.Author.Tests.{eqb-true, eq-eqb, ltb-true, ltb-false}
 use mathlib.Core.Path.{_≡_, refl, sym, ap, ap₂, subst, _∙_}
-use mathlib.Core.Bool.{Bool, true, false, cond, not, _&&_, _||_, true≢false, false≢true}
+use mathlib.Core.Bool.{Bool, true, false, cond, not, _&&_, _||_, and-true, and-false, or-false, true≢false, false≢true}
 use mathlib.Core.Logic.{_↔_, _⊎_, inl, inr}
 use Prim.Native.Nat.{ℕ, zero, suc, _+_, _-_, _*_, _%_, _^_, _<_, _≤_}
 use native.Mathlib.Nat.{not-suc-le-zero, pow-suc}
@@ -13,7 +13,7 @@ use lib.Pow.{pow-pos, pow-mono}
 use Rattle.planes.specs.Bit.{bitOf}
 use Rattle.planes.specs.Laws.Bits.{bit-and, bit-or, bit-not, bit-block, bit-top, bit-above, bits-ext}
 use Rattle.records.specs.Pattern.{Ternary, fixed0, fixed1, star, ternary, agrees, FixedToOther, written, matches, putBits, patternGood}
-use Rattle.planes.specs.Laws.Tests.{same-test, not-both, true-of, and-both, and-left, and-right, and-true, and-false, or-false}
+use Rattle.planes.specs.Laws.Tests.{same-test, not-both, true-of, and-both, and-left, and-right}
 
 other-iff : (t : Ternary) (b : Bool) → agrees t b ≡ true ↔ (FixedToOther t b → ⊥)
 other-iff fixed0 true = (λ e. absurd (false≢true e), λ f. absurd (f refl))

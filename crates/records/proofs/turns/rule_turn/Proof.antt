@@ -1,0 +1,77 @@
+use borrow.Author.Needs.{needs}
+use borrow.Author.Tests.{le-leb, lt-leb}
+use mathlib.Core.Path.{sym, _∙_}
+use native.Mathlib.Omega.{arith}
+use Rattle.records.specs.Laws.Limits.{limits}
+use Rattle.records.specs.Laws.Rows.{rule-rows, row-first, row-none}
+use Rattle.records.specs.Laws.Scan.{seen-rule, misses-known}
+use Rattle.records.proofs.turns.rule_turn.Statement.{statement}
+use Rattle.records.proofs.turns.rule_turn.Tie as tie
+
+form-row-requires : tie.Need-form-row-requires
+form-row-requires c κs =
+    let p = c .before .before .pre in
+    (p .0 .whole, omega (arith, p .1), omega (arith, p .1), p .0 .seen .limits)
+
+returns : tie.Need-returns
+returns c after =
+    let p = c .before .before .before .before .pre in
+    rule-rows _ _ after (p .1) ∙ row-first _ _ _ _ (c .before .form-row .ensures .first _ (p .0 .seen)) (c .if1 .taken)
+
+incomplete-requires : tie.Need-incomplete-requires
+incomplete-requires c κs = limits _ (c .before .before .before .before .before .pre .0 .seen .limits (c .before .before .form-row .ensures .later (c .before .if1 .left))) .high-w
+
+returns-2 : tie.Need-returns-2
+returns-2 c after =
+    let p = c .before .before .before .before .before .before .before .pre in
+    rule-rows _ _ after (p .1) ∙ row-none _ _ _ _ (c .before .before .before .before .form-row .ensures .first _ (p .0 .seen)) (c .before .before .before .if1 .left)
+    ∙ rw (misses-known _ _ (p .0 .seen) ∙ sym (c .before .incomplete .ensures) ∙ c .if2 .taken)
+
+is-present-requires : tie.Need-is-present-requires
+is-present-requires c κs =
+    let p = c .before .before .before .before .before .before .before .pre in
+    (p .0 .stored, p .0 .whole)
+
+returns-3 : tie.Need-returns-3
+returns-3 c after =
+    let p = c .before .before .before .before .before .before .before .before .before .pre in
+    rule-rows _ _ after (p .1) ∙ row-none _ _ _ _ (c .before .before .before .before .before .before .form-row .ensures .first _ (p .0 .seen)) (c .before .before .before .before .before .if1 .left)
+    ∙ rw (misses-known _ _ (p .0 .seen) ∙ sym (c .before .before .before .incomplete .ensures) ∙ c .before .before .if2 .left, sym (c .before .is-present .ensures) ∙ c .if3 .taken)
+
+returns-4 : tie.Need-returns-4
+returns-4 c after =
+    let p = c .before .before .before .before .before .before .before .before .before .before .pre in
+    rule-rows _ _ after (p .1) ∙ row-none _ _ _ _ (c .before .before .before .before .before .before .before .form-row .ensures .first _ (p .0 .seen)) (c .before .before .before .before .before .before .if1 .left)
+    ∙ rw (
+      misses-known _ _ (p .0 .seen) ∙ sym (c .before .before .before .before .incomplete .ensures) ∙ c .before .before .before .if2 .left,
+      sym (c .before .before .is-present .ensures) ∙ c .before .if3 .left,
+      ← (p .0 .seen .rules),
+      le-leb _ _ (c .if4 .taken),
+    )
+
+returns-5 : tie.Need-returns-5
+returns-5 c after =
+    let p = c .before .before .before .before .before .before .before .before .before .before .pre in (
+      rule-rows _ _ after (p .1) ∙ row-none _ _ _ _ (c .before .before .before .before .before .before .before .form-row .ensures .first _ (p .0 .seen)) (c .before .before .before .before .before .before .if1 .left)
+          ∙ rw (
+            misses-known _ _ (p .0 .seen) ∙ sym (c .before .before .before .before .incomplete .ensures) ∙ c .before .before .before .if2 .left,
+            sym (c .before .before .is-present .ensures) ∙ c .before .if3 .left,
+            ← (p .0 .seen .rules),
+            lt-leb _ _ (c .if4 .left),
+          ),
+      seen-rule _ _ (p .0 .seen) _ (c .before .before .before .before .before .before .before .form-row .ensures .later (c .before .before .before .before .before .before .if1 .left)) (p .1),
+    )
+
+pub rule-turn-spec : {M : Type 1} → statement M
+rule-turn-spec =
+    tie.close
+    (tie.spec
+    form-row-requires
+    returns
+    incomplete-requires
+    returns-2
+    is-present-requires
+    returns-3
+    returns-4
+    (λ c. search needs)
+    returns-5)

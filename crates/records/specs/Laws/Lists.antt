@@ -1,0 +1,77 @@
+-- Laws of lists by a test: what joining two lists, and one element more, do to them.
+use mathlib.Core.Path.{_≡_, refl, sym, ap, _∙_}
+use mathlib.Core.Bool.{Bool, true, false, cond, _&&_, _||_, or-assoc, or-false}
+use mathlib.Core.List.{List, [], _∷_, _++_, append-nil}
+use Prim.Native.Nat.{ℕ, suc, _+_, _-_, _<_, _≤_}
+use native.Mathlib.Numerals.{add-one}
+use native.Mathlib.Omega.{arith}
+use lib.Dec.{eqb}
+use lib.ListN.{length, getD, take, drop, replicate, getD-replicate, drop-of-length-le}
+use lib.Seq.{drop-cons, getD-drop, getD-take}
+use Rattle.records.specs.Lists.{keep, any, sameNumbers}
+
+module _ {A : Type 0} where
+  keep-step : (b : Bool) (x : A) (l m n : List A) → l ≡ m ++ n → cond b (x ∷ l) l ≡ cond b (x ∷ m) m ++ n
+  keep-step true x l m n e = ap (λ (k : List A). x ∷ k) e
+  keep-step false x l m n e = e
+
+  pub keep-append : (f : A → Bool) (xs ys : List A) → keep f (xs ++ ys) ≡ keep f xs ++ keep f ys
+  unfolding keep
+  keep-append f [] ys = refl
+  keep-append f (x ∷ xs) ys = keep-step (f x) x (keep f (xs ++ ys)) (keep f xs) (keep f ys) (keep-append f xs ys)
+
+  -- one element more, which passes or does not
+  pub keep-in : (f : A → Bool) (xs : List A) (x : A) → f x ≡ true → keep f (xs ++ (x ∷ [])) ≡ keep f xs ++ (x ∷ [])
+  unfolding keep
+  keep-in f xs x e = keep-append f xs (x ∷ []) ∙ rw e
+
+  pub keep-out : (f : A → Bool) (xs : List A) (x : A) → f x ≡ false → keep f (xs ++ (x ∷ [])) ≡ keep f xs
+  unfolding keep
+  keep-out f xs x e = keep-append f xs (x ∷ []) ∙ rw e (append-nil (keep f xs))
+
+  count-step : (b : Bool) (x : A) (l : List A) (n : ℕ) → length l ≤ n → length (cond b (x ∷ l) l) ≤ suc n
+  count-step true x l n h = omega arith
+  count-step false x l n h = omega arith
+
+  pub keep-fewer : (f : A → Bool) (xs : List A) → length (keep f xs) ≤ length xs
+  unfolding keep
+  keep-fewer f [] = omega arith
+  keep-fewer f (x ∷ xs) = count-step (f x) x (keep f xs) (length xs) (keep-fewer f xs)
+
+  pub any-append : (f : A → Bool) (xs ys : List A) → any f (xs ++ ys) ≡ (any f xs || any f ys)
+  unfolding any
+  any-append f [] ys = refl
+  any-append f (x ∷ xs) ys = ap (λ (b : Bool). f x || b) (any-append f xs ys) ∙ sym (or-assoc (f x) (any f xs) (any f ys))
+
+  pub any-snoc : (f : A → Bool) (xs : List A) (x : A) → any f (xs ++ (x ∷ [])) ≡ (any f xs || f x)
+  unfolding any
+  any-snoc f xs x = any-append f xs (x ∷ []) ∙ ap (λ (b : Bool). any f xs || b) (or-false (f x))
+
+  any-keep-step : (f : A → Bool) (b : Bool) (x : A) (l : List A) → any f (cond b (x ∷ l) l) ≡ (b && f x || any f l)
+  unfolding any
+  any-keep-step f true x l = refl
+  any-keep-step f false x l = refl
+
+  -- some element that passes one test passes another
+  pub any-keep : (f g : A → Bool) (xs : List A) → any f (keep g xs) ≡ any (λ x. g x && f x) xs
+  unfolding any keep
+  any-keep f g [] = refl
+  any-keep f g (x ∷ xs) = any-keep-step f (g x) x (keep g xs) ∙ ap (λ (b : Bool). g x && f x || b) (any-keep f g xs)
+
+-- an entry of a list in a range where all are the same
+pub getD-run : {A : Type 0} (l : List A) (v d : A) (m c k : ℕ) → take c (drop m l) ≡ replicate c v → m ≤ k → k < m + c → getD l k d ≡ v
+getD-run {A} l v d m c k e h t =
+    let q : m + (k - m) ≡ k = omega arith in
+    ap (λ (j : ℕ). getD l j d) (sym q) ∙ sym (getD-drop m l (k - m) d)
+    ∙ sym (getD-take c (drop m l) (k - m) d (omega arith))
+    ∙ ap (λ (x : List A). getD x (k - m) d) e ∙ getD-replicate c (k - m) v d (omega arith)
+
+-- two lists compared from number i on
+pub same-next : (a b : List ℕ) (i : ℕ) → i < length a → i < length b
+    → sameNumbers (drop i a) (drop i b) ≡ (eqb (getD a i 0) (getD b i 0) && sameNumbers (drop (i + 1) a) (drop (i + 1) b))
+unfolding sameNumbers
+same-next a b i h k = rw (add-one i, drop-cons a i 0, drop-cons b i 0)
+
+pub same-end : (a b : List ℕ) (i : ℕ) → length a ≤ i → length a ≡ length b → sameNumbers (drop i a) (drop i b) ≡ true
+unfolding sameNumbers
+same-end a b i h q = rw (drop-of-length-le a h, drop-of-length-le b {i = i} (omega arith))
