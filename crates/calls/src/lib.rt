@@ -1,4 +1,5 @@
 // The check call and the command call.
+pub mod apply;
 
 // What the check call answers.
 pub enum Checked {

@@ -1,0 +1,75 @@
+-- How large the numbers of an answer are.
+use mathlib.Core.Path.{_≡_, refl}
+use mathlib.Core.Bool.{Bool, true, false}
+use mathlib.Core.List.{List, [], _∷_, _++_}
+use mathlib.Core.Option.{none, some}
+use Prim.Native.Nat.{ℕ, _+_, _≤_}
+use native.Mathlib.Omega.{arith}
+use lib.Dec.{lit≤}
+use lib.ListN.{length, length-append}
+use Rattle.records.specs.Record.{Rec, Net, records}
+use Rattle.records.specs.Rows.{row1, row2, row3, row4, row5, row6, row7, row8, row9, row10, row11, row12, row13, missesIncomplete}
+use Rattle.records.specs.Refusal.{Refusal, orElse, row, recordRow, fileRow, argumentsRow, networkRow, checkRefusal, commandRow, commandRefusal}
+use Rattle.records.specs.Laws.Records.{length-records}
+use Rattle.calls.specs.Laws.Store.{arguments}
+
+-- a refusal's number is at most 13, and its place at most `last`
+pub record Within (last : ℕ) (r : Refusal) : Type 0 where
+  pub bounds : (f : ℕ × ℕ) → r ≡ some f → (f .0 ≤ 13) × (f .1 ≤ last)
+
+no-refusal : {A : Type 0} {f : ℕ × ℕ} → _≡_ {A = Refusal} none (some f) → A
+no-refusal e = let z : _≡_ {A = ℕ} 0 1 = cc in absurd (omega arith)
+
+-- a row, and a row before others
+last-row : {last : ℕ} (met : Bool) (number place : ℕ) → number ≤ 13 → place ≤ last → Within last (row met number place)
+last-row true number place h l =
+    record { bounds = λ f e. let p : number ≡ f .0 = cc in let q : place ≡ f .1 = cc in (omega arith, omega arith) }
+last-row false number place h l = record { bounds = λ f e. no-refusal e }
+
+row-before : {last : ℕ} {b : Refusal} (met : Bool) (number place : ℕ) → number ≤ 13 → place ≤ last → Within last b
+    → Within last (orElse (row met number place) b)
+row-before true number place h l w = last-row true number place h l
+row-before false number place h l w = w
+
+-- one refusal before another, which counts only where the first is not given
+either-within : {last : ℕ} (a : Refusal) {b : Refusal} → Within last a → (a ≡ none → Within last b) → Within last (orElse a b)
+either-within (some f) w v = w
+either-within none w v = v refl
+
+wider : {m n : ℕ} {r : Refusal} → m ≤ n → Within m r → Within n r
+wider h w = record { bounds = λ f e. let b = w .bounds f e in (b .0, omega (arith, b .1)) }
+
+record-within : (before : Net) (r : Rec) (after : Net) → Within (length before) (recordRow before r after)
+unfolding recordRow
+record-within before r after =
+    let place = length before in
+    row-before (row3 before r) 3 place (lit≤ tt) (omega arith)
+    (row-before (row4 r) 4 place (lit≤ tt) (omega arith)
+    (row-before (row5 before r) 5 place (lit≤ tt) (omega arith)
+    (row-before (row6 before r) 6 place (lit≤ tt) (omega arith)
+    (row-before (row7 before r) 7 place (lit≤ tt) (omega arith)
+    (row-before (row8 before r) 8 place (lit≤ tt) (omega arith)
+    (row-before (row9 before r after) 9 place (lit≤ tt) (omega arith) (last-row (row10 before r) 10 place (lit≤ tt) (omega arith))))))))
+
+file-within : (before rest : Net) → Within (length before + length rest) (fileRow before rest)
+unfolding fileRow
+file-within before [] = last-row (missesIncomplete before) 7 (length before) (lit≤ tt) (omega arith)
+file-within before (r ∷ after) =
+    either-within (recordRow before r after) (wider (omega arith) (record-within before r after))
+    (λ e. wider (omega (arith, length-append before (r ∷ []))) (file-within (before ++ (r ∷ [])) after))
+
+-- what the check call refuses
+pub check-within : (store : List ℕ) (n work : ℕ) → Within 641 (checkRefusal store n work)
+unfolding checkRefusal networkRow argumentsRow
+check-within store n work =
+    either-within (argumentsRow store n) (row-before (row1 n) 1 0 (lit≤ tt) (omega arith) (last-row (row2 store) 2 0 (lit≤ tt) (omega arith)))
+    (λ e. either-within (fileRow [] (records n store))
+    (wider (omega (arith, length-records n store, arguments store n e .few)) (file-within [] (records n store)))
+    (λ f. last-row (row11 (records n store) work) 11 0 (lit≤ tt) (omega arith)))
+
+-- what the command call refuses
+pub command-within : (store : List ℕ) (n work : ℕ) (c : Rec) → Within 641 (commandRefusal store n work c)
+unfolding commandRefusal commandRow
+command-within store n work c =
+    either-within (checkRefusal store n work) (check-within store n work)
+    (λ e. row-before (row12 (records n store) c) 12 0 (lit≤ tt) (omega arith) (last-row (row13 (records n store) c) 13 0 (lit≤ tt) (omega arith)))
