@@ -2,6 +2,7 @@
 pub mod Records
 pub mod Patterns
 pub mod Limits
+pub mod States
 pub mod Fields
 pub mod Lists
 pub mod Search
@@ -13,6 +14,8 @@ pub mod Rows
 pub mod Scan
 pub mod File
 pub mod Layout
+pub mod Places
+pub mod Good
 pub mod Fronts
 pub mod Edits
 pub mod Spread

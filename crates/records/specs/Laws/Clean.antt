@@ -4,11 +4,12 @@ use mathlib.Core.Bool.{Bool, true, false, not, _&&_, _||_}
 use mathlib.Core.List.{[], _∷_, _++_, append-assoc, append-nil}
 use mathlib.Core.Logic.{_⊎_, inl, inr, ⊎-elim}
 use mathlib.Core.Option.{none, some}
-use Prim.Native.Nat.{ℕ, suc, _^_, _<_, _≤_}
+use Prim.Native.Nat.{ℕ, zero, suc, _^_, _<_, _≤_}
+use native.Mathlib.Nat.{not-suc-le-zero, le-of-suc-le-suc}
 use native.Mathlib.Omega.{arith}
 use borrow.Author.Tests.{eq-eqb, eqb-true, eqb-false, ne-eqb, ltb-true, ltb-false, le-ltb, lt-ltb, leb-false, not-false}
 use lib.Dec.{eqb, leb, ltb}
-use lib.ListN.{length}
+use lib.ListN.{length, getD, take, drop}
 use Rattle.planes.specs.Laws.Tests.{not-both, both, or-none, or-cases}
 use Rattle.records.specs.Lists.{keep, any}
 use Rattle.records.specs.Record.{Rec, Net, at, kind, ofKind, present}
@@ -120,6 +121,17 @@ misses-complete before (r ∷ rest) e =
     subst (λ (l : Net). missesIncomplete l ≡ false) (append-assoc before (r ∷ []) rest)
     (misses-complete (before ++ (r ∷ [])) rest (file-step before r rest e .1))
 
+-- each record passes after those before it
+pub clean-from : (before rest : Net) (i : ℕ) → fileRow before rest ≡ none → i < length rest → Passes (before ++ take i rest) (getD rest i []) (drop (suc i) rest)
+clean-from before [] i e h = absurd (not-suc-le-zero h)
+clean-from before (r ∷ rest) zero e h = rw (append-nil before) (file-step before r rest e .0)
+clean-from before (r ∷ rest) (suc i) e h =
+    subst (λ (l : Net). Passes l (getD rest i []) (drop (suc i) rest)) (append-assoc before (r ∷ []) (take i rest))
+    (clean-from (before ++ (r ∷ [])) rest i (file-step before r rest e .1) (le-of-suc-le-suc h))
+
+pub clean-at : (net : Net) (i : ℕ) → fileRow [] net ≡ none → i < length net → Passes (take i net) (getD net i []) (drop (suc i) net)
+clean-at net i e h = clean-from [] net i e h
+
 -- a row is not met though its first test is
 pub and-test : (a b : Bool) → (a && b) ≡ false → a ≡ true → b ≡ false
 and-test true b e t = e
@@ -208,19 +220,25 @@ module _ (before : Net) (r : Rec) (after : Net) (p : Passes before r after) wher
       (leb-false 8 (at r 1) (n .0), leb-false 32 (length (nodesOf (at r 1) before)) (n .1))
 
   node-tests : kind r ≡ 5
-      → ((eqb (suc (at r 1)) (policyCount before) || eqb (at r 1) (policyCount before)) ≡ true) × ((endsPolicy r after && freeAt before r) ≡ false)
+      → (operandsGood (at r 2) (at r 3) (at r 4) (length (nodesOf (at r 1) before)) ≡ true)
+      × ((eqb (suc (at r 1)) (policyCount before) || eqb (at r 1) (policyCount before)) ≡ true)
+      × ((endsPolicy r after && freeAt before r) ≡ false)
   unfolding row9
   node-tests k =
-      let operands = not (operandsGood (at r 2) (at r 3) (at r 4) (length (nodesOf (at r 1) before))) in
+      let operands = operandsGood (at r 2) (at r 3) (at r 4) (length (nodesOf (at r 1) before)) in
       let follows = eqb (suc (at r 1)) (policyCount before) || eqb (at r 1) (policyCount before) in
-      let a = or-none (operands || not follows) (endsPolicy r after && freeAt before r) (and-test _ _ (p .not9) (eq-eqb (kind r) 5 k)) in
-      (not-false follows (or-none operands (not follows) (a .0) .1), a .1)
+      let a = or-none (not operands || not follows) (endsPolicy r after && freeAt before r) (and-test _ _ (p .not9) (eq-eqb (kind r) 5 k)) in
+      let b = or-none (not operands) (not follows) (a .0) in
+      (not-false operands (b .0), not-false follows (b .1), a .1)
+
+  pub node-operands : kind r ≡ 5 → operandsGood (at r 2) (at r 3) (at r 4) (length (nodesOf (at r 1) before)) ≡ true
+  node-operands k = node-tests k .0
 
   pub node-follows : kind r ≡ 5 → (suc (at r 1) ≡ policyCount before) ⊎ (at r 1 ≡ policyCount before)
-  node-follows k = ⊎-elim (λ e. inl (eqb-true _ _ e)) (λ e. inr (eqb-true _ _ e)) (or-cases _ _ (node-tests k .0))
+  node-follows k = ⊎-elim (λ e. inl (eqb-true _ _ e)) (λ e. inr (eqb-true _ _ e)) (or-cases _ _ (node-tests k .1))
 
   pub node-closed : kind r ≡ 5 → endsPolicy r after ≡ true → freeAt before r ≡ false
-  node-closed k e = and-test _ _ (node-tests k .1) e
+  node-closed k e = and-test _ _ (node-tests k .2) e
 
 -- kinds rise: from the last record read to any that is left
 pub rising : (xs before : Net) (r : Rec) (after : Net) → fileRow before (xs ++ (r ∷ after)) ≡ none → lastKind before ≤ kind r

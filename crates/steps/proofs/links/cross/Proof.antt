@@ -1,0 +1,111 @@
+use borrow.Author.Needs.{needs}
+use denote.Ref.{now}
+use mathlib.Core.Path.{_≡_, refl, ap, subst, subst⁻¹, _∙_}
+use mathlib.Core.List.{List, []}
+use Prim.Native.Nat.{ℕ, _+_, _-_, _*_, _≤_}
+use native.Mathlib.Omega.{arith}
+use lib.ListN.{length, getD}
+use Rattle.records.specs.Record.{Net, records, ofKind}
+use Rattle.steps.specs.Step.{across}
+use Rattle.steps.specs.Choice.{ofBody}
+use Rattle.steps.specs.Filled.{rowBytes, Added}
+use Rattle.steps.specs.Carried.{arriving}
+use Rattle.steps.proofs.Adding.{Toward, toward-more, added-none}
+use Rattle.steps.proofs.Body.{bodyAt, body-length}
+use Rattle.steps.proofs.Linking.{link-in, link-room, link-same, link-ends, links-left, links-after, across-same}
+use Rattle.steps.proofs.Parts.{part, part-none}
+use Rattle.steps.proofs.links.cross.Statement.{statement}
+use Rattle.steps.proofs.links.cross.Tie as tie
+
+-- the links from place i on are left
+abbrev Inv-loop : tie.InvT-loop
+Inv-loop work₀ row store n l sw p h w i₀ work i =
+    (1 ≤ i) × (i ≤ l .misses) × (length work ≡ length work₀)
+    × Toward row (rowBytes (l .widths)) (arriving (l .widths) h (across sw p (ofKind 2 (records n store)))) (arriving (l .widths) h (across sw p (part (records n store) i (l .misses)))) work₀ work
+
+abbrev μ-loop : tie.MeasureT-loop
+μ-loop work₀ row store n l sw p h w i₀ work i = l .misses - i
+
+loop-holds : tie.Need-loop-holds Inv-loop μ-loop
+loop-holds c =
+    let s = c .before .before .before in
+    let a = s .args in
+    let W = a .l .widths in (
+      omega arith,
+      s .pre .1 .laid .some-widths,
+      refl,
+      λ d R. subst⁻¹ (λ (ls : Net). Added (arriving W (a .h) (across (a .sw) (a .p) ls)) (a .row) (rowBytes W) (now (a .work)) d) (s .pre .1 .laid .links) R,
+    )
+
+-- the store has the whole of the link
+within : (c : tie.Then1 Inv-loop μ-loop) → c .before .before .loop .i * 24 + 24 ≤ length (now (c .before .before .before .before .before .before .args .store))
+within c =
+    let s = c .before .before .before .before .before .before in
+    let o = c .before .before .loop in
+    link-room (s .args .n) (s .args .l) (now (s .args .store)) (s .pre .1) (o .i) (o .inv .0) (c .if1 .taken)
+
+follow-requires : tie.Need-follow-requires Inv-loop μ-loop
+follow-requires c κs =
+    let t = c .before .before in
+    let s = t .before .before .before .before .before .before in
+    let a = s .args in
+    let b = now (a .store) in
+    let o = t .before .before .loop in
+    let R = s .pre .0 in (
+      record { limits = R .limits; room = omega (arith, R .room); header = R .header },
+      (
+        body-length (a .n) b (o .i) (link-in (a .n) (a .l) b (s .pre .1) (o .i) (o .inv .0) (t .if1 .taken)) 4 (omega arith) (s .pre .1 .room),
+        link-ends (a .n) (a .l) b (s .pre .1) (o .i) (o .inv .0) (t .if1 .taken),
+      ),
+    )
+
+loop-again : tie.Need-loop-again Inv-loop μ-loop
+loop-again c =
+    let t = c .before .before .before .before .before in
+    let s = t .before .before .before .before .before .before in
+    let a = s .args in
+    let W = a .l .widths in
+    let o = t .before .before .loop in
+    let A = c .before .before .follow .ensures in
+    let b = now (a .store) in
+    let net = records (a .n) b in (
+      omega arith,
+      omega arith,
+      A .len ∙ o .inv .2,
+      toward-more (a .row) (rowBytes W) _ _ _ _ _ _ _
+          (ap (λ (ls : Net). arriving W (a .h) (across (a .sw) (a .p) ls)) (links-left (a .n) (a .l) b (s .pre .1) (o .i) (o .inv .0) (t .if1 .taken))
+          ∙ links-after W (a .h) (a .sw) (a .p) (getD net (o .i) []) (part net (o .i + 1) (a .l .misses)))
+          (o .inv .3)
+          (subst (λ (ends : List (ℕ × ℕ)). Added (arriving W (a .h) ends) (a .row) (rowBytes W) (o .work) (c .before .before .follow .last .0))
+          (across-same (a .sw) (a .p) (ofBody (bodyAt b (o .i) 4)) (getD net (o .i) []) (link-same (a .n) (a .l) b (s .pre .1) (o .i) (o .inv .0) (t .if1 .taken))) A),
+    )
+
+same-length : tie.Need-same-length Inv-loop μ-loop
+same-length c = c .before .before .loop .inv .2
+
+returns : tie.Need-returns Inv-loop μ-loop
+unfolding across arriving
+returns c =
+    let o = c .before .before .loop in
+    let a = c .before .before .before .before .before .before .args in
+    o .inv .3 (o .work) (rw (part-none (records (a .n) (now (a .store))) (o .i) (a .l .misses) (c .if1 .left)) (added-none _ _ _))
+
+pub cross-spec : {M : Type 1} → statement M
+cross-spec =
+    tie.close
+    (tie.spec
+    Inv-loop
+    μ-loop
+    loop-holds
+    (λ c. omega (arith, within c))
+    (λ c. omega (arith, within c))
+    (λ c. omega (arith, within c))
+    (λ c. search needs)
+    (λ c. search needs)
+    (λ c. omega (arith, within (c .before)))
+    follow-requires
+    (λ c. omega (arith, within (c .before .before .before .before .before)))
+    (λ c. omega arith)
+    loop-again
+    same-length
+    returns)
