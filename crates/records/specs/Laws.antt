@@ -15,6 +15,7 @@ pub mod Scan
 pub mod File
 pub mod Layout
 pub mod Places
+pub mod Parts
 pub mod Good
 pub mod Fronts
 pub mod Edits

@@ -8,23 +8,11 @@ use lib.ListN.{length, getD, take, drop, length-drop}
 use lib.Seq.{getD-take, getD-drop, take-take, drop-drop, length-take-le}
 use Rattle.records.specs.Record.{Rec, at, priority, records}
 use Rattle.records.specs.declared.Widths.{Widths}
+use Rattle.records.specs.Laws.Records.{record-at, byte-of}
 use Rattle.steps.specs.Step.{Arrival, ruleMatches, copies, sent}
 use Rattle.steps.specs.Choice.{ofBody, rankOf}
 use Rattle.steps.specs.Sent.{sentBy, headerAfter}
 use Rattle.steps.proofs.Acting.{copies-cons}
-
--- record i of a store, and its bytes
-record-at : (n : ℕ) (s : List ℕ) (i : ℕ) → i < n → getD (records n s) i [] ≡ take 24 (drop (i * 24) s)
-unfolding records
-record-at zero s i h = absurd (not-suc-le-zero h)
-record-at (suc n) s zero h = refl
-record-at (suc n) s (suc i) h =
-    let e : 24 + i * 24 ≡ suc i * 24 = omega arith in
-    record-at n (drop 24 s) i (le-of-suc-le-suc h) ∙ ap (take 24) (drop-drop (i * 24) 24 s ∙ ap (λ (k : ℕ). drop k s) e)
-
-byte-of : (n : ℕ) (s : List ℕ) (i k : ℕ) → i < n → k < 24 → at (getD (records n s) i []) k ≡ getD s (i * 24 + k) 0
-byte-of n s i k h l =
-    ap (λ (r : Rec). at r k) (record-at n s i h) ∙ getD-take 24 (drop (i * 24) s) k 0 l ∙ getD-drop (i * 24) s k 0
 
 -- n bytes of a store from the second byte of record i
 abbrev pub bodyAt : List ℕ → ℕ → ℕ → List ℕ

@@ -12,7 +12,7 @@ use Rattle.steps.specs.Step.{Arrival, ruleMatches, best, orMiss, chosen}
 use Rattle.steps.specs.Choice.{rankOf, ActsAt}
 use Rattle.steps.specs.Stored.{Stored}
 use Rattle.steps.proofs.Leader.{leader, leader-takes, leader-stays, leader-acts}
-use Rattle.steps.proofs.Parts.{part, part-more, part-none, part-at}
+use Rattle.records.specs.Laws.Parts.{part, part-more, part-none, part-at}
 
 -- before the rule at place i, the record at place b leads with rank k
 pub record Leading (n : ℕ) (l : Layout) (s : List ℕ) (a : Arrival) (b k i : ℕ) : Type 0 where

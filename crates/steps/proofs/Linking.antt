@@ -18,7 +18,8 @@ use Rattle.steps.specs.Choice.{ofBody}
 use Rattle.steps.specs.Carried.{arriving, oneWay, Ends}
 use Rattle.steps.specs.Stored.{Stored}
 use Rattle.steps.proofs.Body.{bodyAt, SameTo, body-of}
-use Rattle.steps.proofs.Parts.{part, part-more, in-store, link-good}
+use Rattle.records.specs.Laws.Parts.{part, part-more}
+use Rattle.steps.proofs.Parts.{in-store, link-good}
 use Rattle.steps.proofs.Sending.{map-append}
 
 -- a point is within the widths

@@ -16,50 +16,9 @@ use Rattle.records.specs.Record.{Rec, Net, at, kind, records, ofKind}
 use Rattle.records.specs.Rows.{zeros, pointGood, actionsGood, matchGood}
 use Rattle.records.specs.Laws.Fields.{link-fields, miss-fields, rule-fields}
 use Rattle.records.specs.Laws.Records.{length-records}
+use Rattle.records.specs.Laws.Parts.{part, part-at, kind-in}
 use Rattle.records.specs.declared.scan.Layout.{Layout}
 use Rattle.steps.specs.Stored.{Stored}
-
--- the records from place i up to place e
-abbrev pub part : Net → ℕ → ℕ → Net
-part net i e = take (e - i) (drop i net)
-
-pub part-more : (net : Net) (i e : ℕ) → i < e → e ≤ length net → part net i e ≡ getD net i [] ∷ part net (i + 1) e
-part-more net i e h l =
-    let q : e - i ≡ suc (e - (i + 1)) = omega arith in
-    ap (λ (k : ℕ). take k (drop i net)) q
-    ∙ ap (take (suc (e - (i + 1)))) (drop-cons net i [] (omega arith) ∙ ap (λ (k : ℕ). getD net i [] ∷ drop k net) (sym (add-one i)))
-
-pub part-none : (net : Net) (i e : ℕ) → e ≤ i → part net i e ≡ []
-part-none net i e h =
-    let q : e - i ≡ 0 = omega arith in
-    ap (λ (k : ℕ). take k (drop i net)) q
-
-pub part-at : (net : Net) (i e k : ℕ) → i + k < e → getD (part net i e) k [] ≡ getD net (i + k) []
-part-at net i e k h = getD-take (e - i) (drop i net) k [] (omega arith) ∙ getD-drop i net k []
-
--- what was kept passes the test
-kept : (f : Rec → Bool) (net : Net) (i : ℕ) → i < length (keep f net) → f (getD (keep f net) i []) ≡ true
-unfolding keep
-kept f [] i h = absurd (omega arith)
-kept f (r ∷ rs) i h = go (f r) refl i h (λ j l. kept f rs j l)
-  where
-    go : (b : Bool) → f r ≡ b → (i : ℕ) → i < length (cond b (r ∷ keep f rs) (keep f rs))
-        → ((j : ℕ) → j < length (keep f rs) → f (getD (keep f rs) j []) ≡ true)
-        → f (getD (cond b (r ∷ keep f rs) (keep f rs)) i []) ≡ true
-    go true e zero l ih = e
-    go true e (suc i) l ih = ih i (omega arith)
-    go false e i l ih = ih i l
-
--- so the records of a part that has those of a kind are of that kind
-pub kind-in : (k : ℕ) (net : Net) (a b i : ℕ) → ofKind k net ≡ part net a b → b ≤ length net → a ≤ i → i < b → kind (getD net i []) ≡ k
-unfolding ofKind
-kind-in k net a b i e l h u =
-    let q : a + (i - a) ≡ i = omega arith in
-    let n : length (part net a b) ≡ b - a = length-take-le (b - a) (drop a net) (omega (arith, length-drop a net)) in
-    let t = kept (λ r. eqb (kind r) k) net (i - a) (omega (arith, ap length e)) in
-    eqb-true (kind (getD net i [])) k
-    (subst (λ (j : ℕ). eqb (kind (getD net j [])) k ≡ true) q
-    (sym (ap (λ (r : Rec). eqb (kind r) k) (ap (λ (x : Net). getD x (i - a) []) e ∙ part-at net a b (i - a) (omega arith))) ∙ t))
 
 module _ (n : ℕ) (l : Layout) (s : List ℕ) (st : Stored n l s) where
   abbrev net : Net

@@ -3,3 +3,4 @@ pub mod Tables
 pub mod Search
 pub mod Free
 pub mod Same
+pub mod Clean

@@ -3,4 +3,8 @@ pub mod Truth
 pub mod Verdict
 pub mod Computed
 pub mod Judgement
+pub mod Made
+pub mod Node
+pub mod Policy
+pub mod Judge
 pub mod Laws

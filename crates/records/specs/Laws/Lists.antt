@@ -1,13 +1,13 @@
 -- Laws of lists by a test: what joining two lists, and one element more, do to them.
-use mathlib.Core.Path.{_≡_, refl, sym, ap, _∙_}
+use mathlib.Core.Path.{_≡_, refl, sym, ap, ap₂, _∙_}
 use mathlib.Core.Bool.{Bool, true, false, cond, _&&_, _||_, or-assoc, or-false}
 use mathlib.Core.List.{List, [], _∷_, _++_, append-nil}
 use Prim.Native.Nat.{ℕ, suc, _+_, _-_, _<_, _≤_}
 use native.Mathlib.Numerals.{add-one}
 use native.Mathlib.Omega.{arith}
 use lib.Dec.{eqb}
-use lib.ListN.{length, getD, take, drop, replicate, getD-replicate, drop-of-length-le}
-use lib.Seq.{drop-cons, getD-drop, getD-take}
+use lib.ListN.{length, getD, take, drop, replicate, take-append-drop, length-take, length-drop, getD-replicate, drop-of-length-le}
+use lib.Seq.{slice, length-slice, drop-cons, getD-drop, getD-take}
 use Rattle.records.specs.Lists.{keep, any, sameNumbers}
 
 module _ {A : Type 0} where
@@ -75,3 +75,52 @@ same-next a b i h k = rw (add-one i, drop-cons a i 0, drop-cons b i 0)
 pub same-end : (a b : List ℕ) (i : ℕ) → length a ≤ i → length a ≡ length b → sameNumbers (drop i a) (drop i b) ≡ true
 unfolding sameNumbers
 same-end a b i h q = rw (drop-of-length-le a h, drop-of-length-le b {i = i} (omega arith))
+
+-- the elements that pass a test, where all or none do
+module _ {A : Type 0} (f : A → Bool) (d : A) where
+  keep-all : (l : List A) → ((i : ℕ) → i < length l → f (getD l i d) ≡ true) → keep f l ≡ l
+  unfolding keep
+  keep-all [] h = refl
+  keep-all (x ∷ xs) h =
+      ap (λ (b : Bool). cond b (x ∷ keep f xs) (keep f xs)) (h 0 (omega arith))
+      ∙ ap {B = List A} (λ r. x ∷ r) (keep-all xs (λ i l. h (suc i) (omega arith)))
+
+  keep-none : (l : List A) → ((i : ℕ) → i < length l → f (getD l i d) ≡ false) → keep f l ≡ []
+  unfolding keep
+  keep-none [] h = refl
+  keep-none (x ∷ xs) h =
+      ap (λ (b : Bool). cond b (x ∷ keep f xs) (keep f xs)) (h 0 (omega arith)) ∙ keep-none xs (λ i l. h (suc i) (omega arith))
+
+-- a list that passes a test exactly from place a up to place b
+module _ {A : Type 0} (f : A → Bool) (d : A) (l : List A) (a b : ℕ) (ab : a ≤ b) (bl : b ≤ length l)
+    (under : (i : ℕ) → i < a → f (getD l i d) ≡ false)
+    (inside : (i : ℕ) → a ≤ i → i < b → f (getD l i d) ≡ true)
+    (over : (i : ℕ) → b ≤ i → i < length l → f (getD l i d) ≡ false) where
+  front : keep f (take a (take b l)) ≡ []
+  front = keep-none f d (take a (take b l)) go
+    where
+      go : (i : ℕ) → i < length (take a (take b l)) → f (getD (take a (take b l)) i d) ≡ false
+      go i h =
+          let e : i < a = omega (arith, length-take a (take b l)) in
+          ap f (getD-take a (take b l) i d e ∙ getD-take b l i d (omega arith)) ∙ under i e
+
+  middle : keep f (slice a b l) ≡ slice a b l
+  middle = keep-all f d (slice a b l) go
+    where
+      go : (i : ℕ) → i < length (slice a b l) → f (getD (slice a b l) i d) ≡ true
+      go i h =
+          let e : a + i < b = omega (arith, length-slice a b l bl) in
+          ap f (getD-drop a (take b l) i d ∙ getD-take b l (a + i) d e) ∙ inside (a + i) (omega arith) e
+
+  tail : keep f (drop b l) ≡ []
+  tail = keep-none f d (drop b l) go
+    where
+      go : (i : ℕ) → i < length (drop b l) → f (getD (drop b l) i d) ≡ false
+      go i h = ap f (getD-drop b l i d) ∙ over (b + i) (omega arith) (omega (arith, length-drop b l))
+
+  pub keep-slice : keep f l ≡ slice a b l
+  keep-slice =
+      ap (keep f) (sym (take-append-drop b l) ∙ ap (λ (x : List A). x ++ drop b l) (sym (take-append-drop a (take b l))))
+      ∙ keep-append f (take a (take b l) ++ slice a b l) (drop b l)
+      ∙ ap₂ {C = List A} _++_ (keep-append f (take a (take b l)) (slice a b l) ∙ ap₂ {C = List A} _++_ front middle) tail
+      ∙ append-nil (slice a b l)

@@ -6,7 +6,7 @@ use native.Mathlib.Nat.{not-suc-le-zero, le-of-suc-le-suc}
 use native.Mathlib.Omega.{arith}
 use lib.ListN.{length, getD, take, drop, length-append, length-drop}
 use lib.Seq.{take-at, drop-at, drop-drop, getD-take, getD-drop, length-take-le}
-use Rattle.records.specs.Record.{Net, at, kind, records, flat}
+use Rattle.records.specs.Record.{Rec, Net, at, kind, records, flat}
 use Rattle.records.specs.Search.{recordAt, recordsAfter}
 
 -- each record has its 24 bytes
@@ -90,3 +90,15 @@ whole-join (x ∷ xs) ys a b = (a .0, whole-join xs ys (a .1) b)
 pub whole-parts : (xs ys : Net) → Whole (xs ++ ys) → Whole xs × Whole ys
 whole-parts [] ys a = (tt, a)
 whole-parts (x ∷ xs) ys a = let t = whole-parts xs ys (a .1) in ((a .0, t .0), t .1)
+
+-- record i of n records of a store, and its bytes
+pub record-at : (n : ℕ) (s : List ℕ) (i : ℕ) → i < n → getD (records n s) i [] ≡ recordAt s i
+unfolding records
+record-at zero s i h = absurd (not-suc-le-zero h)
+record-at (suc n) s zero h = refl
+record-at (suc n) s (suc i) h =
+    let e : 24 + i * 24 ≡ suc i * 24 = omega arith in
+    record-at n (drop 24 s) i (le-of-suc-le-suc h) ∙ ap (take 24) (drop-drop (i * 24) 24 s ∙ ap (λ (k : ℕ). drop k s) e)
+
+pub byte-of : (n : ℕ) (s : List ℕ) (i k : ℕ) → i < n → k < 24 → at (getD (records n s) i []) k ≡ getD s (i * 24 + k) 0
+byte-of n s i k h l = ap (λ (r : Rec). at r k) (record-at n s i h) ∙ record-byte s i k l

@@ -58,7 +58,7 @@ below {P} z k h f g = go (ℕ-discrete z k)
     go (yes e) = f e
     go (no e) = g (omega (arith, e))
 
-any-iff : (k : ℕ) (f : ℕ → Bool) → anyBelow k f ≡ true ↔ ((z : ℕ) × (z < k) × (f z ≡ true))
+pub any-iff : (k : ℕ) (f : ℕ → Bool) → anyBelow k f ≡ true ↔ ((z : ℕ) × (z < k) × (f z ≡ true))
 unfolding anyBelow
 any-iff zero f = (λ t. absurd (false≢true t), λ r. absurd (not-suc-le-zero (r .1)))
 any-iff (suc k) f = go (f k) refl (any-iff k f)

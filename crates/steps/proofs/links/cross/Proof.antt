@@ -13,7 +13,7 @@ use Rattle.steps.specs.Carried.{arriving}
 use Rattle.steps.proofs.Adding.{Toward, toward-more, added-none}
 use Rattle.steps.proofs.Body.{bodyAt, body-length}
 use Rattle.steps.proofs.Linking.{link-in, link-room, link-same, link-ends, links-left, links-after, across-same}
-use Rattle.steps.proofs.Parts.{part, part-none}
+use Rattle.records.specs.Laws.Parts.{part, part-none}
 use Rattle.steps.proofs.links.cross.Statement.{statement}
 use Rattle.steps.proofs.links.cross.Tie as tie
 

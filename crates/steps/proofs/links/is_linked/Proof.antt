@@ -11,7 +11,7 @@ use Rattle.records.specs.Record.{records, endsAt, linked}
 use Rattle.steps.specs.Choice.{ofBody}
 use Rattle.steps.proofs.Body.{bodyAt, body-length}
 use Rattle.steps.proofs.Linking.{link-in, link-room, link-same, links-left, ends-same}
-use Rattle.steps.proofs.Parts.{part, part-none}
+use Rattle.records.specs.Laws.Parts.{part, part-none}
 use Rattle.steps.proofs.links.is_linked.Statement.{statement}
 use Rattle.steps.proofs.links.is_linked.Tie as tie
 

@@ -1,0 +1,55 @@
+-- `verdict::judge::externals` meets its contract. The loop's invariant: the first z bits are made, the others are not set. Assumes nothing.
+use mathlib.Core.Path.{_≡_}
+use Prim.Native.Nat.{_-_, _≤_}
+use Rattle.records.specs.Record.{records}
+use Rattle.steps.specs.Step.{external}
+use Rattle.verdict.proofs.Bytes.{Upto, upto-none, upto-more, upto-all}
+use native.Mathlib.Omega.{arith}
+use Rattle.verdict.proofs.judge.externals.Statement.{statement}
+use Rattle.verdict.proofs.judge.externals.Tie as tie
+
+abbrev Inv-loop : tie.InvT-loop
+Inv-loop store end l s r₀ z₀ r z = (z ≤ s) × Upto (external (records end store)) z r
+
+abbrev μ-loop : tie.MeasureT-loop
+μ-loop store end l s r₀ z₀ r z = s - z
+
+loop-holds : tie.Need-loop-holds Inv-loop μ-loop
+loop-holds c = (omega arith, upto-none _)
+
+is-external-requires : tie.Need-is-external-requires Inv-loop μ-loop
+is-external-requires c κs = c .before .before .before .pre .0
+
+push-requires : tie.Need-push-requires Inv-loop μ-loop
+push-requires c κs = omega (arith, c .before .before .before .before .before .pre .1)
+
+add-z : tie.Need-add-z Inv-loop μ-loop
+add-z c = omega arith
+
+loop-less : tie.Need-loop-less Inv-loop μ-loop
+loop-less c = omega arith
+
+loop-again : tie.Need-loop-again Inv-loop μ-loop
+loop-again c =
+    let at-loop = c .before .before .before .before in
+    (omega arith, upto-more _ _ _ _ _ (at-loop .loop .inv .1) (c .push .ensures) (c .before .before .is-external .ensures))
+
+returns : tie.Need-returns Inv-loop μ-loop
+returns c =
+    let at-loop = c .before in
+    let e : at-loop .loop .z ≡ at-loop .before .before .args .s = omega arith in
+    upto-all _ _ _ _ e (at-loop .loop .inv .1)
+
+pub externals-spec : {M : Type 1} → statement M
+externals-spec =
+    tie.close
+    (tie.spec
+    Inv-loop
+    μ-loop
+    loop-holds
+    is-external-requires
+    push-requires
+    add-z
+    loop-less
+    loop-again
+    returns)

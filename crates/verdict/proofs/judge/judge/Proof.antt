@@ -1,0 +1,61 @@
+-- `verdict::judge::judge` meets its contract. Assumes nothing.
+use Rattle.records.specs.Laws.Limits.{limits}
+use Rattle.verdict.proofs.Cleans.{stored}
+use Rattle.verdict.proofs.Judging.{few-states, enough, most-fits, step-room, search-ready, judged}
+use native.Mathlib.Omega.{arith}
+use borrow.Author.Needs.{needs}
+use Rattle.verdict.proofs.judge.judge.Statement.{statement}
+use Rattle.verdict.proofs.judge.judge.Tie as tie
+
+states-requires : tie.Need-states-requires
+states-requires c κs = limits _ (c .before .before .before .pre .clean .laid .limits) .bits
+
+externals-requires : tie.Need-externals-requires
+externals-requires c κs =
+    let J = c .before .before .before .before .pre in
+    (stored _ _ _ (J .clean), omega (arith, c .states .ensures, few-states _ (J .clean .laid .limits)))
+
+fill-steps-requires : tie.Need-fill-steps-requires
+fill-steps-requires c κs = let J = c .before .before .before .before .before .before .pre in (omega (arith, step-room _ _ _ _ J), stored _ _ _ (J .clean))
+
+search-requires : tie.Need-search-requires
+search-requires c κs = search-ready _ _ _ _ (c .before .before .before .before .before .before .before .before .before .before .pre) _ (c .before .before .before .before .before .before .states .ensures) _ _ (c .before .before .before .before .before .externals .ensures) (c .before .before .before .fill-steps .ensures)
+
+plane-bytes-requires : tie.Need-plane-bytes-requires
+plane-bytes-requires c κs = limits _ (c .before .before .before .before .before .before .before .before .before .before .before .before .before .pre .clean .laid .limits) .bits
+
+work-bytes-requires : tie.Need-work-bytes-requires
+work-bytes-requires c κs =
+    let J = c .before .before .before .before .before .before .before .before .before .before .before .before .before .before .pre in
+    (omega (arith, most-fits _ _ _ _ J), omega (arith, enough _ _ _ _ J _ (c .plane-bytes .ensures)))
+
+clear-requires : tie.Need-clear-requires
+clear-requires c κs =
+    omega (
+      arith,
+      enough _ _ _ _ (c .before .before .before .before .before .before .before .before .before .before .before .before .before .before .before .before .pre) _ (c .before .before .plane-bytes .ensures),
+      c .before .before .before .before .before .search .ensures .len,
+      c .before .before .before .before .before .before .before .before .before .fill-steps .ensures .len,
+    )
+
+same-length : tie.Need-same-length
+same-length c = search needs
+
+returns : tie.Need-returns
+returns c =
+    judged _ _ _ _ (c .before .before .before .before .before .before .before .before .before .before .before .before .before .before .before .before .before .before .before .pre) _ (c .before .before .before .before .before .before .before .before .before .before .before .before .before .before .before .states .ensures) _ _ _ _ _ _ (c .before .before .before .before .work-bytes .ensures) (c .before .before .before .before .before .plane-bytes .ensures)
+    (c .before .before .before .before .before .before .before .before .before .before .before .before .fill-steps .ensures) (c .before .before .before .before .before .before .before .before .search .ensures) (c .before .before .clear .ensures)
+
+pub judge-spec : {M : Type 1} → statement M
+judge-spec =
+    tie.close
+    (tie.spec
+    states-requires
+    externals-requires
+    fill-steps-requires
+    search-requires
+    plane-bytes-requires
+    work-bytes-requires
+    clear-requires
+    same-length
+    returns)

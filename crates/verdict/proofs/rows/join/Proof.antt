@@ -1,0 +1,66 @@
+-- `verdict::rows::join` meets its contract. The loop's invariant is the contract at the j bytes passed. Assumes nothing.
+use mathlib.Core.Path.{_≡_, refl}
+use Prim.Native.Nat.{_-_, _≤_}
+use lib.ListN.{length, length-set}
+use Rattle.verdict.specs.Made.{Joined}
+use Rattle.verdict.proofs.Bytes.{joined-none, joined-more}
+use native.Mathlib.Omega.{arith}
+use Rattle.verdict.proofs.rows.join.Statement.{statement}
+use Rattle.verdict.proofs.rows.join.Tie as tie
+
+abbrev Inv-loop : tie.InvT-loop
+Inv-loop o p q r₀ j₀ r j = (j ≤ 128) × (length r ≡ 128) × Joined o p q r j
+
+abbrev μ-loop : tie.MeasureT-loop
+μ-loop o p q r₀ j₀ r j = 128 - j
+
+loop-holds : tie.Need-loop-holds Inv-loop μ-loop
+loop-holds c = (omega arith, refl, joined-none _ _ _ _)
+
+element-copy-out-byte-op : tie.Need-element-copy-out-byte-op Inv-loop μ-loop
+element-copy-out-byte-op c = omega arith
+
+element-copy-out-byte-op-2 : tie.Need-element-copy-out-byte-op-2 Inv-loop μ-loop
+element-copy-out-byte-op-2 c = omega arith
+
+byte-op-requires : tie.Need-byte-op-requires Inv-loop μ-loop
+byte-op-requires c κs = omega arith
+
+array-write-r : tie.Need-array-write-r Inv-loop μ-loop
+array-write-r c = omega arith
+
+add-j : tie.Need-add-j Inv-loop μ-loop
+add-j c = omega arith
+
+loop-less : tie.Need-loop-less Inv-loop μ-loop
+loop-less c = omega arith
+
+loop-again : tie.Need-loop-again Inv-loop μ-loop
+loop-again c =
+    let at-loop = c .before .before .before .before in (
+      omega arith,
+      simp length-set (at-loop .loop .inv .1),
+      joined-more _ _ _ _ _ _ (at-loop .loop .inv .2) (omega arith) (c .byte-op .ensures),
+    )
+
+returns : tie.Need-returns Inv-loop μ-loop
+returns c =
+    let at-loop = c .before in
+    let e : at-loop .loop .j ≡ 128 = omega arith in
+    rw (← e) (at-loop .loop .inv .2)
+
+pub join-spec : {M : Type 1} → statement M
+join-spec =
+    tie.close
+    (tie.spec
+    Inv-loop
+    μ-loop
+    loop-holds
+    element-copy-out-byte-op
+    element-copy-out-byte-op-2
+    byte-op-requires
+    array-write-r
+    add-j
+    loop-less
+    loop-again
+    returns)

@@ -1,0 +1,67 @@
+-- `verdict::rows::row_over` meets its contract. The loop's invariant: the bits of b test what the bits of the j bytes passed do. Assumes nothing.
+use mathlib.Core.Path.{_≡_, _∙_}
+use Prim.Native.Nat.{_*_, _-_, _≤_}
+use Rattle.planes.specs.Bit.{bitOf}
+use Rattle.planes.specs.Plane.{bit}
+use Rattle.verdict.specs.Made.{over}
+use Rattle.verdict.proofs.Folds.{bytes-none, bytes-more}
+use native.Mathlib.Omega.{arith}
+use Rattle.verdict.proofs.rows.row_over.Statement.{statement}
+use Rattle.verdict.proofs.rows.row_over.Tie as tie
+
+abbrev Inv-loop : tie.InvT-loop
+Inv-loop o r w b₀ j₀ b j = (j ≤ w) × (over o 8 (bitOf b) ≡ over o (j * 8) (bit r))
+
+abbrev μ-loop : tie.MeasureT-loop
+μ-loop o r w b₀ j₀ b j = w - j
+
+units-requires : tie.Need-units-requires Inv-loop μ-loop
+units-requires c κs = omega arith
+
+loop-holds : tie.Need-loop-holds Inv-loop μ-loop
+loop-holds c =
+    let at-start = c .before in
+    (omega arith, rw (c .units .ensures) (bytes-none (at-start .args .o) (at-start .pre .1) _))
+
+element-copy-out-byte-op : tie.Need-element-copy-out-byte-op Inv-loop μ-loop
+element-copy-out-byte-op c = omega arith
+
+byte-op-requires : tie.Need-byte-op-requires Inv-loop μ-loop
+byte-op-requires c κs = omega arith
+
+add-j : tie.Need-add-j Inv-loop μ-loop
+add-j c = omega arith
+
+loop-less : tie.Need-loop-less Inv-loop μ-loop
+loop-less c = omega arith
+
+loop-again : tie.Need-loop-again Inv-loop μ-loop
+loop-again c =
+    let at-loop = c .before .before .before in
+    let at-start = at-loop .before .before in
+    (omega arith, rw (c .byte-op .ensures) (bytes-more (at-start .args .o) (at-start .pre .1) _ _ _ (at-loop .loop .inv .1)))
+
+byte-over-requires : tie.Need-byte-over-requires Inv-loop μ-loop
+byte-over-requires c κs = c .before .before .before .pre .1
+
+returns : tie.Need-returns Inv-loop μ-loop
+returns c =
+    let at-loop = c .before .before in
+    let e : at-loop .loop .j ≡ at-loop .before .before .args .w = omega arith in
+    c .byte-over .ensures ∙ (rw e at (at-loop .loop .inv .1))
+
+pub row-over-spec : {M : Type 1} → statement M
+row-over-spec =
+    tie.close
+    (tie.spec
+    Inv-loop
+    μ-loop
+    units-requires
+    loop-holds
+    element-copy-out-byte-op
+    byte-op-requires
+    add-j
+    loop-less
+    loop-again
+    byte-over-requires
+    returns)

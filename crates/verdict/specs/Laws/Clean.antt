@@ -1,0 +1,27 @@
+-- A network that rows 3 to 10 do not refuse: none of its records is refused.
+use mathlib.Core.Path.{_≡_, refl, sym, subst, _∙_}
+use mathlib.Core.List.{List, [], _∷_, _++_, append-assoc, append-nil}
+use mathlib.Core.Option.{none, some}
+use Prim.Native.Nat.{ℕ, zero, suc, _<_}
+use native.Mathlib.Nat.{not-suc-le-zero, le-of-suc-le-suc}
+use native.Mathlib.Omega.{arith}
+use lib.ListN.{length, getD, take, drop}
+use Rattle.records.specs.Record.{Net}
+use Rattle.records.specs.Refusal.{Refusal, orElse, recordRow, fileRow}
+
+neither : (a b : Refusal) → orElse a b ≡ none → (a ≡ none) × (b ≡ none)
+neither none b e = (refl, e)
+neither (some f) b e = let z : _≡_ {A = ℕ} 0 1 = cc in absurd (omega arith)
+
+-- record i, after the records before it
+pub record-passes : (before rest : Net) → fileRow before rest ≡ none → (i : ℕ) → i < length rest
+    → recordRow (before ++ take i rest) (getD rest i []) (drop (suc i) rest) ≡ none
+unfolding fileRow
+record-passes before [] e i h = absurd (not-suc-le-zero h)
+record-passes before (r ∷ rest) e zero h =
+    let q = neither (recordRow before r rest) (fileRow (before ++ (r ∷ [])) rest) e in
+    subst (λ (b : Net). recordRow b r rest ≡ none) (sym (append-nil before)) (q .0)
+record-passes before (r ∷ rest) e (suc i) h =
+    let q = neither (recordRow before r rest) (fileRow (before ++ (r ∷ [])) rest) e in
+    subst (λ (b : Net). recordRow b (getD rest i []) (drop (suc i) rest) ≡ none) (append-assoc before (r ∷ []) (take i rest))
+    (record-passes (before ++ (r ∷ [])) rest (q .1) i (le-of-suc-le-suc h))
