@@ -4,3 +4,4 @@ pub mod Bytes
 pub mod Found
 pub mod Change
 pub mod Rows
+pub mod Calling

@@ -1,4 +1,5 @@
 -- The check call: its answer, and what it leaves in the work buffer.
+use mathlib.Core.Path.{_≡_}
 use mathlib.Core.List.{List, _++_}
 use mathlib.Core.Option.{none, some}
 use Prim.Native.Nat.{ℕ}
@@ -8,6 +9,10 @@ use Rattle.records.specs.Rows.{workNeeded}
 use Rattle.records.specs.Refusal.{Refusal, checkRefusal}
 use Rattle.verdict.specs.Verdict.{Verdict}
 use Rattle.verdict.specs.Judgement.{verdict}
+use Rattle.verdict.specs.declared.judge.Judged.{Judged}
+use Rattle.verdict.specs.declared.judge.Judged.the-variants as judged
+use Rattle.calls.specs.declared.Checked.{Checked}
+use Rattle.calls.specs.declared.Checked.the-variants as checked
 use Rattle.calls.specs.Answer.{CheckAnswer}
 
 -- what is so if a refusal is given, by its number and place, and what if none is
@@ -33,3 +38,13 @@ unfoldable pub checkWork : List ℕ → ℕ → List ℕ → List ℕ
 checkWork store n work =
     let zero = cleared (workNeeded (records n store)) work in
     unless (checkRefusal store n (length work)) (λ number place. work) zero
+
+-- a verdict as the enum's answer
+abbrev pub checkedAs : Judged → Checked
+checkedAs judged.Holds = checked.Holds
+checkedAs (judged.Violated policy state) = checked.Violated policy state
+
+-- the promise of the check call: its answer, and the work buffer after it; the store is only read
+pub record CheckPromised (store : List ℕ) (n : ℕ) (work : List ℕ) (answer : CheckAnswer) (after : List ℕ) : Type 0 where
+  pub answered : answer ≡ checkAnswer store n (length work)
+  pub works : after ≡ checkWork store n work

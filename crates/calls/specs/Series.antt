@@ -20,6 +20,11 @@ pub record Call : Type 0 where
   pub store-after : List ℕ
   pub work-after : List ℕ
 
+-- a call by its parts
+abbrev pub call : List ℕ → ℕ → List ℕ → List ℕ → CommandAnswer → List ℕ → List ℕ → Call
+call store n work given answer store-after work-after =
+    record { store = store; count = n; work = work; given = given; answer = answer; store-after = store-after; work-after = work-after }
+
 -- what was installed at the call
 abbrev pub found : Call → Installed
 found c = record { count = c .count; bytes = c .store }

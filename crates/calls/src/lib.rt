@@ -1,6 +1,24 @@
 // The check call and the command call.
 pub mod apply;
 
+use apply::Row;
+use records::scan::Layout;
+use records::scan::Reading;
+use verdict::judge::Judged;
+ghost use mathlib.Core.Path.{_≡_};
+ghost use mathlib.Core.List.{[]};
+ghost use mathlib.Core.Option.{none};
+ghost use Prim.Native.Nat.{_*_, _≤_};
+ghost use lib.ListN.{length};
+ghost use Rattle.records.specs.Record.{records};
+ghost use Rattle.records.specs.Rows.{workNeeded};
+ghost use Rattle.records.specs.Refusal.{fileRow, checkRefusal, commandRefusal};
+ghost use Rattle.records.specs.Layout.{LayoutOf};
+ghost use Rattle.verdict.specs.Judge.{Judges};
+ghost use Rattle.calls.specs.Answer.{checkAnswerOf, commandAnswerOf};
+ghost use Rattle.calls.specs.Check.{CheckPromised, checkedAs};
+ghost use Rattle.calls.specs.Series.{Promised, call};
+
 // What the check call answers.
 pub enum Checked {
     Holds,
@@ -13,4 +31,101 @@ pub enum Commanded {
     Forwarded { count: usize },
     Blocked { policy: usize, state: usize },
     Refused { number: usize, place: usize },
+}
+
+// A verdict as an answer of the check call.
+fn checked_as(v: Judged) -> Checked
+    ensures { λ r. ⌜ r ≡ checkedAs v ⌝ }
+{
+    match v {
+        Judged::Holds => Checked::Holds,
+        Judged::Violated { policy, state } => Checked::Violated { policy, state },
+    }
+}
+
+// The check call: judges the network of n records in the store.
+pub fn check(store: &[u8], n: usize, work: &mut [u8]) -> Checked
+    ensures { λ r. ⌜ CheckPromised (now (store .entry)) n (now (work .entry)) (checkAnswerOf r) (now (work .exit)) ⌝ }
+{
+    let reading = records::scan::check_rows(store, n, work.len());
+    match reading {
+        Reading::Refused { number, place } => Checked::Refused {
+            number: number as usize,
+            place,
+        },
+        Reading::Clean(l) => {
+            let v = verdict::judge::judge(store, n, l, work);
+            checked_as(v)
+        }
+    }
+}
+
+// The verdict on n records of a store that no row refuses.
+fn verdict_on(store: &[u8], n: usize, work: &mut [u8]) -> Judged
+    requires { ⌜ (n * 24 ≤ length (now store)) × (fileRow [] (records n (now store)) ≡ none) × (workNeeded (records n (now store)) ≤ length (now work)) ⌝ }
+    ensures { λ r. ⌜ Judges (records n (now (store .entry))) (now (work .entry)) r (now (work .exit)) ⌝ }
+{
+    let reading = records::scan::scan(store, n);
+    // The scan is clean, since no row refuses.
+    let Reading::Clean(l) = reading else {
+        return Judged::Holds;
+    };
+    verdict::judge::judge(store, n, l, work)
+}
+
+// A command that no row refuses, judged by the network that it would leave, which is made in `next` and written back where it holds.
+fn judged_in(
+    next: &mut [u8; 15384],
+    store: &mut [u8],
+    n: usize,
+    work: &mut [u8],
+    given: &[u8],
+) -> Commanded
+    requires { ⌜ commandRefusal (now store) n (length (now work)) (now given) ≡ none ⌝ }
+    ensures { λ r. ⌜ Promised (call (now (store .entry)) n (now (work .entry)) (now (given .entry)) (commandAnswerOf r) (now (store .exit)) (now (work .exit))) ⌝ }
+{
+    let count = apply::apply_to(next, store, n, given);
+    let v = verdict_on(next, count, work);
+    match v {
+        Judged::Violated { policy, state } => Commanded::Blocked { policy, state },
+        Judged::Holds => {
+            apply::write_back(store, next);
+            Commanded::Forwarded { count }
+        }
+    }
+}
+
+// The same; the buffer is made here, so that no need of it speaks of 15,384 zeros.
+fn judged(store: &mut [u8], n: usize, work: &mut [u8], given: &[u8]) -> Commanded
+    requires { ⌜ commandRefusal (now store) n (length (now work)) (now given) ≡ none ⌝ }
+    ensures { λ r. ⌜ Promised (call (now (store .entry)) n (now (work .entry)) (now (given .entry)) (commandAnswerOf r) (now (store .exit)) (now (work .exit))) ⌝ }
+{
+    let mut next = [0u8; 15384];
+    judged_in(&mut next, store, n, work, given)
+}
+
+// A command on a network that rows 1 to 11 pass: rows 12 and 13, and then the verdict.
+fn after_check(store: &mut [u8], n: usize, l: Layout, work: &mut [u8], given: &[u8]) -> Commanded
+    requires { ⌜ (checkRefusal (now store) n (length (now work)) ≡ none) × LayoutOf (records n (now store)) l ⌝ }
+    ensures { λ r. ⌜ Promised (call (now (store .entry)) n (now (work .entry)) (now (given .entry)) (commandAnswerOf r) (now (store .exit)) (now (work .exit))) ⌝ }
+{
+    let row = apply::command_row(l.widths, store, n, l.nodes - l.rules, given);
+    match row {
+        Row::Refused { number } => Commanded::Refused { number, place: 0 },
+        Row::Passed => judged(store, n, work, given),
+    }
+}
+
+// The command call: a command on the network of n records in the store, forwarded or blocked by the network that it would leave.
+pub fn command(store: &mut [u8], n: usize, work: &mut [u8], given: &[u8]) -> Commanded
+    ensures { λ r. ⌜ Promised (call (now (store .entry)) n (now (work .entry)) (now (given .entry)) (commandAnswerOf r) (now (store .exit)) (now (work .exit))) ⌝ }
+{
+    let reading = records::scan::check_rows(store, n, work.len());
+    match reading {
+        Reading::Refused { number, place } => Commanded::Refused {
+            number: number as usize,
+            place,
+        },
+        Reading::Clean(l) => after_check(store, n, l, work, given),
+    }
 }

@@ -3,15 +3,25 @@ use mathlib.Core.Path.{_≡_, refl}
 use mathlib.Core.Bool.{Bool, true, false}
 use mathlib.Core.List.{List, [], _∷_, _++_}
 use mathlib.Core.Option.{none, some}
-use Prim.Native.Nat.{ℕ, _+_, _≤_}
+use Prim.Native.Nat.{ℕ, _+_, _≤_, _<_}
 use native.Mathlib.Omega.{arith}
 use lib.Dec.{lit≤}
 use lib.ListN.{length, length-append}
+use lib.Pow.{pow-mono}
+use Rattle.records.specs.Widths.{states, widthsOf}
+use Rattle.records.specs.Count.{policies-bound, widths-bound}
 use Rattle.records.specs.Record.{Rec, Net, records}
 use Rattle.records.specs.Rows.{row1, row2, row3, row4, row5, row6, row7, row8, row9, row10, row11, row12, row13, missesIncomplete}
 use Rattle.records.specs.Refusal.{Refusal, orElse, row, recordRow, fileRow, argumentsRow, networkRow, checkRefusal, commandRow, commandRefusal}
 use Rattle.records.specs.Laws.Records.{length-records}
+use Rattle.verdict.specs.Verdict.{Verdict, holds, violated, Lowest, Is}
+use Rattle.verdict.specs.Judgement.{verdict, verdict-meant}
+use Rattle.calls.specs.Answer.{CheckAnswer, CommandAnswer}
+use Rattle.calls.specs.Apply.{applied}
+use Rattle.calls.specs.Check.{unless, ofVerdict, checkAnswer}
+use Rattle.calls.specs.Reference.{Installed, network, unchanged, judged, step}
 use Rattle.calls.specs.Laws.Store.{arguments}
+use Rattle.calls.specs.Laws.Refusals.{checks, goes-on}
 
 -- a refusal's number is at most 13, and its place at most `last`
 pub record Within (last : ℕ) (r : Refusal) : Type 0 where
@@ -73,3 +83,47 @@ unfolding commandRefusal commandRow
 command-within store n work c =
     either-within (checkRefusal store n work) (check-within store n work)
     (λ e. row-before (row12 (records n store) c) 12 0 (lit≤ tt) (omega arith) (last-row (row13 (records n store) c) 13 0 (lit≤ tt) (omega arith)))
+
+-- a number fits in 16 bits
+abbrev pub Fits16 : ℕ → Type 0
+Fits16 n = n < 65536
+
+-- the numbers of an answer do
+abbrev pub CheckSmall : CheckAnswer → Type 0
+CheckSmall CheckAnswer.holds = Unit {0}
+CheckSmall (CheckAnswer.violated policy state) = Fits16 policy × Fits16 state
+CheckSmall (CheckAnswer.refused number place) = Fits16 number × Fits16 place
+
+abbrev pub CommandSmall : CommandAnswer → Type 0
+CommandSmall (CommandAnswer.forwarded count) = Fits16 count
+CommandSmall (CommandAnswer.blocked policy state) = Fits16 policy × Fits16 state
+CommandSmall (CommandAnswer.refused number place) = Fits16 number × Fits16 place
+
+-- the lowest broken policy of a network that rows 3 to 10 pass, and its state
+lowest-small : (net : Net) (p x : ℕ) → fileRow [] net ≡ none → Lowest net p x → Fits16 p × Fits16 x
+unfolding states
+lowest-small net p x e l =
+    let few : states (widthsOf net) ≤ 1024 = pow-mono (widths-bound net e .bits) in
+    (omega (arith, l .a-policy, policies-bound net e), omega (arith, l .a-state, few))
+
+-- what the check call answers
+pub check-small : (store : List ℕ) (n work : ℕ) → CheckSmall (checkAnswer store n work)
+unfolding checkAnswer
+check-small store n work = go (checkRefusal store n work) refl (verdict (records n store)) (verdict-meant (records n store))
+  where
+    go : (r : Refusal) → checkRefusal store n work ≡ r → (v : Verdict) → Is (records n store) v → CheckSmall (unless r CheckAnswer.refused (ofVerdict v))
+    go (some f) e v m = let b = check-within store n work .bounds f e in (omega (arith, b .0), omega (arith, b .1))
+    go none e holds m = tt
+    go none e (violated p x) m = lowest-small (records n store) p x (checks store n work e .file) m
+
+-- what the command call answers
+pub command-small : (i : Installed) (c : Rec) (work : ℕ) → CommandSmall (step i c work .answer)
+unfolding step judged
+command-small i c work =
+    go (commandRefusal (i .bytes) (i .count) work c) refl (verdict (applied c (network i))) (verdict-meant (applied c (network i)))
+  where
+    go : (r : Refusal) → commandRefusal (i .bytes) (i .count) work c ≡ r → (v : Verdict) → Is (applied c (network i)) v
+        → CommandSmall (unless r (λ number place. unchanged i (CommandAnswer.refused number place)) (judged i (applied c (network i)) v) .answer)
+    go (some f) e v m = let b = command-within (i .bytes) (i .count) work c .bounds f e in (omega (arith, b .0), omega (arith, b .1))
+    go none e holds m = omega (arith, goes-on (i .bytes) (i .count) work c e .few)
+    go none e (violated p x) m = lowest-small (applied c (network i)) p x (goes-on (i .bytes) (i .count) work c e .passes) m

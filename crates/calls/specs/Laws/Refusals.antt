@@ -1,27 +1,35 @@
 -- What a call that no row refuses has passed.
-use mathlib.Core.Path.{_≡_}
+use borrow.Author.Tests.{ltb-false}
+use mathlib.Core.Path.{_≡_, refl}
+use mathlib.Core.Bool.{Bool, true, false}
 use mathlib.Core.List.{List, []}
 use mathlib.Core.Option.{none}
-use Prim.Native.Nat.{ℕ}
+use Prim.Native.Nat.{ℕ, _≤_}
+use native.Mathlib.Omega.{arith}
 use Rattle.records.specs.Record.{Rec, records}
-use Rattle.records.specs.Rows.{row11}
+use Rattle.records.specs.Rows.{row11, workNeeded}
 use Rattle.records.specs.Refusal.{row, fileRow, argumentsRow, networkRow, checkRefusal, commandRow, commandRefusal}
 use Rattle.records.specs.Laws.Clean.{neither, not-empty}
 use Rattle.calls.specs.NeverStuck.{GoesOn, never-stuck}
 use Rattle.calls.specs.Laws.Store.{Arguments, arguments, installed-whole}
 
+-- a row that does not refuse is not met
+row-none : (met : Bool) (number place : ℕ) → row met number place ≡ none → met ≡ false
+row-none true number place e = let z : _≡_ {A = ℕ} 0 1 = cc in absurd (omega arith)
+row-none false number place e = refl
+
 -- the check call's rows
 pub record Checks (store : List ℕ) (n work : ℕ) : Type 0 where
   pub arguments : Arguments store n
   pub file : fileRow [] (records n store) ≡ none
-  pub work-enough : row (row11 (records n store) work) 11 0 ≡ none
+  pub enough : workNeeded (records n store) ≤ work
 
 pub checks : (store : List ℕ) (n work : ℕ) → checkRefusal store n work ≡ none → Checks store n work
-unfolding checkRefusal networkRow
+unfolding checkRefusal networkRow row11
 checks store n work e =
     let a = neither (argumentsRow store n) (networkRow (records n store) work) e in
     let f = neither (fileRow [] (records n store)) (row (row11 (records n store) work) 11 0) (a .1) in
-    record { arguments = arguments store n (a .0); file = f .0; work-enough = f .1 }
+    record { arguments = arguments store n (a .0); file = f .0; enough = ltb-false work (workNeeded (records n store)) (row-none (row11 (records n store) work) 11 0 (f .1)) }
 
 -- the command call's rows
 pub record Passed (store : List ℕ) (n work : ℕ) (c : Rec) : Type 0 where
