@@ -1,0 +1,2 @@
+-- The answers of the calls for C and Rust.
+pub mod Code
