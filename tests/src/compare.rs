@@ -197,14 +197,15 @@ pub fn crowded_networks(
     Ok(tally)
 }
 
-/// Series of commands, each on the store and count that the ones before left. The first gate finds the
-/// networks to start with.
+/// Series of so many commands, each on the store and count that the ones before left. The first gate
+/// finds the networks to start with.
 pub fn series(
     one: &dyn Gate,
     other: &dyn Gate,
     seed: u64,
     rounds: usize,
     bits: u8,
+    length: usize,
 ) -> Result<Tally, String> {
     let mut random = Random::new(seed);
     let mut tally = Tally::default();
@@ -212,7 +213,7 @@ pub fn series(
     for _ in 0..rounds {
         let of = random.pick(&widths);
         let mut lent = holding_network(&mut random, one, of);
-        for _ in 0..16 {
+        for _ in 0..length {
             let given = random_command(&mut random, &records_of(&lent));
             let (answer, left) = same_command(one, other, &lent, &given)?;
             tally.commanded(answer);

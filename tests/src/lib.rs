@@ -11,6 +11,7 @@ pub mod formulas;
 pub mod gate;
 pub mod inputs;
 pub mod k;
+pub mod library;
 pub mod networks;
 pub mod random;
 pub mod records;

@@ -48,7 +48,7 @@ fn starred_cases() {
 
 #[test]
 fn rows_1_and_2() {
-    run_checks(cases::door::cases());
+    run_checks(cases::arguments::cases());
 }
 
 #[test]
@@ -197,7 +197,7 @@ fn generated_networks_are_sound_and_judged_as_plainly() {
 }
 
 #[test]
-fn series_go_as_in_the_plain_book() {
+fn series_go_as_in_the_plain_reading() {
     let mut random = Random::new(12);
     let (mut forwarded, mut blocked) = (0, 0);
     for of in compare::widths_up_to(5).into_iter().cycle().take(60) {
@@ -214,7 +214,7 @@ fn series_go_as_in_the_plain_book() {
     assert!(forwarded > 100 && blocked > 20, "{forwarded} and {blocked}");
 }
 
-/// One sound command on the gate and on the book; tells whether it was forwarded.
+/// One sound command on the gate and on the plain reading; tells whether it was forwarded.
 fn play(lent: &mut Lent, given: &[u8]) -> bool {
     lent.work.fill(0xC3);
     let before = lent.clone();
@@ -355,7 +355,7 @@ fn cases_notice_every_vice() {
 
 /// The first error of a gate in any comparison.
 fn comparisons_against(gate: &dyn Gate) -> Result<(), String> {
-    compare::series(&Second, gate, 21, 40, 5)?;
+    compare::series(&Second, gate, 21, 40, 5, 16)?;
     compare::damaged_networks(&Second, gate, 22, 60, 5)?;
     compare::sound_networks(&Second, gate, 23, 1, SMALL)?;
     Ok(())
@@ -373,7 +373,7 @@ fn comparisons_notice_every_vice_but_a_full_table() {
 
 #[test]
 fn comparisons_meet_every_answer() {
-    let of_series: Tally = compare::series(&Second, &Second, 24, 60, 5).unwrap();
+    let of_series: Tally = compare::series(&Second, &Second, 24, 60, 5, 16).unwrap();
     assert!(of_series.forwarded > 100 && of_series.blocked > 50, "{of_series:?}");
     assert!(of_series.refused[12] > 50, "{of_series:?}");
     let of_damage = compare::damaged_networks(&Second, &Second, 25, 1_500, 6).unwrap();

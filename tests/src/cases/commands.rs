@@ -1,6 +1,6 @@
 //! What commands do, and rows 12 and 13.
 
-use super::door::{largest_holding, LARGEST_WORK};
+use super::arguments::{largest_holding, LARGEST_WORK};
 use super::fields::{FAULTY_ACTIONS, FAULTY_MATCHES, SOUND_ACTIONS, SOUND_MATCHES};
 use super::starred::{k_with_rule, k_with_rules, K_WORK};
 use super::{bare, lend, CommandCase, BARE_WORK, PLENTY, SPARE};
@@ -318,14 +318,14 @@ fn row_orders() -> Vec<CommandCase> {
     };
     let mut file = refused("faulty file, faulty command", &k_without(3..4), &[], 7);
     file.answer = Commanded::Refused { number: 7, place: 3 };
-    let mut door = refused("n of 0, faulty command", &k(), &[], 1);
-    door.lent.n = 0;
+    let mut arguments = refused("n of 0, faulty command", &k(), &[], 1);
+    arguments.lent.n = 0;
     vec![
         short_work("short work, sound command", &second_add()),
         short_work("short work, blocked command", &setting_add()),
         short_work("short work, faulty command", &record(&[9])),
         file,
-        door,
+        arguments,
     ]
 }
 

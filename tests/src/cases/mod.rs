@@ -1,7 +1,7 @@
 //! Cases with answers written by hand from the rules, for any gate.
 
 pub mod commands;
-pub mod door;
+pub mod arguments;
 pub mod fields;
 pub mod kinds;
 pub mod links;
@@ -145,7 +145,7 @@ fn zeroed(work: &[u8], length: usize) -> Vec<u8> {
 pub fn all_checks() -> Vec<CheckCase> {
     [
         starred::checks(),
-        door::cases(),
+        arguments::cases(),
         kinds::cases(),
         widths::cases(),
         fields::cases(),

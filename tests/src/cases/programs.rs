@@ -1,6 +1,6 @@
 //! The program on whole inputs.
 
-use super::door::largest_holding;
+use super::arguments::largest_holding;
 use super::ProgramCase;
 use crate::formulas::{policy, r, X};
 use crate::k::{

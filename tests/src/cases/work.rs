@@ -1,6 +1,6 @@
 //! Row 11: the length of the work buffer.
 
-use super::door::{largest_holding, LARGEST_WORK};
+use super::arguments::{largest_holding, LARGEST_WORK};
 use super::starred::K_WORK;
 use super::{bare, holds, lend, CheckCase};
 use crate::formulas::{policy, r, Node, X};

@@ -1,0 +1,80 @@
+//! The proved library and its program against the cases and against the second implementation.
+
+use wegbaro_tests::cases;
+use wegbaro_tests::compare;
+use wegbaro_tests::library::{program, Library};
+use wegbaro_tests::networks::{Sizes, MODEST};
+use wegbaro_tests::second::{self, Second};
+
+/// Fails with every error, one per line.
+fn expect_all(results: impl IntoIterator<Item = Result<(), String>>) {
+    let wrong: Vec<String> = results.into_iter().filter_map(Result::err).collect();
+    assert!(wrong.is_empty(), "{}", wrong.join("\n"));
+}
+
+#[test]
+fn every_check_case() {
+    expect_all(cases::all_checks().iter().flat_map(|case| {
+        [
+            case.run(&Library),
+            case.without_work().run(&Library),
+            case.with_empty_command().run(&Library),
+        ]
+    }));
+}
+
+#[test]
+fn every_command_case() {
+    expect_all(cases::all_commands().iter().map(|case| case.run(&Library)));
+}
+
+#[test]
+fn every_program_case() {
+    expect_all(cases::programs::cases().iter().map(|case| case.run(&program)));
+}
+
+#[test]
+fn sound_networks_of_every_width() {
+    let small = Sizes { links: 4, rules: 6, policies: 2, nodes: 6 };
+    let tally = compare::sound_networks(&Second, &Library, 41, 2, small).unwrap();
+    assert!(tally.holds > 10 && tally.violated > 10, "{tally:?}");
+    compare::sound_networks(&Second, &Library, 42, 1, MODEST).unwrap();
+}
+
+#[test]
+fn largest_networks() {
+    compare::largest_networks(&Second, &Library, 43, 2).unwrap();
+}
+
+#[test]
+fn damaged_networks() {
+    let tally = compare::damaged_networks(&Second, &Library, 44, 4_000, 6).unwrap();
+    for number in [3, 4, 5, 6, 7, 8, 9, 12] {
+        assert!(tally.refused[number] > 0, "{number}: {tally:?}");
+    }
+}
+
+#[test]
+fn crowded_networks() {
+    let tally = compare::crowded_networks(&Second, &Library, 45, 100, 5).unwrap();
+    for number in [8, 9, 10, 12, 13] {
+        assert!(tally.refused[number] > 0, "{number}: {tally:?}");
+    }
+}
+
+#[test]
+fn long_series() {
+    let tally = compare::series(&Second, &Library, 46, 12, 6, 400).unwrap();
+    assert!(tally.forwarded > 500 && tally.blocked > 200, "{tally:?}");
+    assert!(tally.refused[12] > 200, "{tally:?}");
+}
+
+#[test]
+fn series_of_every_width() {
+    compare::series(&Second, &Library, 47, 60, 8, 12).unwrap();
+}
+
+#[test]
+fn random_inputs_of_the_program() {
+    compare::programs(&second::program, &program, 48, 400).unwrap();
+}
