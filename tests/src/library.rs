@@ -36,9 +36,8 @@ fn parts(code: u64) -> (u64, usize, usize) {
 impl Gate for Library {
     fn check(&self, store: &[u8], n: usize, work: &mut [u8]) -> Checked {
         // The two slices are lent for the call alone, and the call takes every length.
-        let code = unsafe {
-            wegbaro_check(store.as_ptr(), store.len(), n, work.as_mut_ptr(), work.len())
-        };
+        let code =
+            unsafe { wegbaro_check(store.as_ptr(), store.len(), n, work.as_mut_ptr(), work.len()) };
         match parts(code) {
             (0, 0, 0) => Checked::Holds,
             (1, policy, state) => Checked::Violated { policy, state },

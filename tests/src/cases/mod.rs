@@ -1,7 +1,7 @@
 //! Cases with answers written by hand from the rules, for any gate.
 
-pub mod commands;
 pub mod arguments;
+pub mod commands;
 pub mod fields;
 pub mod kinds;
 pub mod links;

@@ -4,12 +4,12 @@
 mod calls;
 mod commands;
 mod fields;
-mod file;
+pub mod file;
 mod judge;
-mod network;
+pub mod network;
 mod program;
-mod states;
-mod steps;
+pub mod states;
+pub mod steps;
 mod truth;
 
 pub use crate::gate::{Checked, Commanded};

@@ -1,0 +1,277 @@
+//! Times the two calls at N = 10: reading, the step plane, and both calls with eight closures.
+
+use std::hint::black_box;
+use std::time::Instant;
+use wegbaro_tests::formulas::{and, bit, external, not, policy, r, some, tc, Node, X, Y};
+use wegbaro_tests::gate::{Checked, Commanded, Gate, STORE};
+use wegbaro_tests::library::Library;
+use wegbaro_tests::networks::{largest, largest_without_policies, work_needed};
+use wegbaro_tests::random::Random;
+use wegbaro_tests::records::{add, output, rule, Record};
+use wegbaro_tests::second::network::{Action, Network, Pattern};
+use wegbaro_tests::second::states::{Direction, Point, State, DROP};
+use wegbaro_tests::second::{file, steps, Second};
+
+const RUNS: usize = 101;
+const STATES: usize = 1024;
+const WORDS: usize = STATES / 64;
+/// Row 11: the work is too short, which is found after all records are read.
+const SHORT: Checked = Checked::Refused { number: 11, place: 0 };
+
+fn store_of(records: &[Record]) -> Vec<u8> {
+    let mut store = records.concat();
+    store.resize(STORE, 0);
+    store
+}
+
+/// Microseconds that a call takes.
+fn time<T>(call: impl FnOnce() -> T) -> f64 {
+    let start = Instant::now();
+    black_box(call());
+    start.elapsed().as_secs_f64() * 1e6
+}
+
+fn median(mut times: Vec<f64>) -> f64 {
+    times.sort_by(f64::total_cmp);
+    times[times.len() / 2]
+}
+
+/// The medians of two times taken in turn.
+fn medians(mut run: impl FnMut() -> [f64; 2]) -> [f64; 2] {
+    let times: Vec<[f64; 2]> = (0..RUNS).map(|_| run()).collect();
+    [0, 1].map(|which| median(times.iter().map(|pair| pair[which]).collect()))
+}
+
+fn set_bit(words: &mut [u64], place: usize) {
+    words[place / 64] |= 1 << (place % 64);
+}
+
+/// The actions of the first matching rule of highest priority, or of the miss record.
+fn actions_met(network: &Network, point: Point, header: u8) -> &[Action] {
+    let mut best = &network.misses[usize::from(point.switch)];
+    let mut highest = 0;
+    for rule in &network.rules {
+        let given = &rule.matching;
+        let rank = 1 + u32::from(given.priority);
+        if given.switch == point.switch
+            && given.port.matches(point.port)
+            && given.header.matches(header)
+            && rank > highest
+        {
+            best = &rule.actions;
+            highest = rank;
+        }
+    }
+    best
+}
+
+fn send(network: &Network, row: &mut [u64], point: Point, header: u8, ports: Pattern) {
+    let widths = network.widths;
+    let starred = ports.has_stars(widths.port);
+    for port in 0..widths.ports() {
+        if ports.matches(port) && (!starred || widths.is_ordinary(port)) {
+            let point = Point { port, ..point };
+            set_bit(row, State { direction: Direction::Departing, point, header }.number(widths));
+        }
+    }
+}
+
+/// Clears the plane and puts in the steps of arriving states, each by a search of all rules.
+#[inline(never)]
+fn fill_arriving(network: &Network, plane: &mut [u64]) {
+    plane.fill(0);
+    for (number, row) in plane.chunks_exact_mut(WORDS).take(STATES / 2).enumerate() {
+        let State { point, mut header, .. } = State::numbered(number, network.widths);
+        if point.port == DROP {
+            continue;
+        }
+        for action in actions_met(network, point, header) {
+            match action {
+                Action::Set(pattern) => header = pattern.put_into(header),
+                Action::Output(ports) => send(network, row, point, header, *ports),
+            }
+        }
+    }
+}
+
+/// Puts in the steps of departing states, and gives the row of external states.
+type Departing = fn(&Network, &mut [u64]) -> [u64; WORDS];
+
+/// Each state by a search of the links, as the library does it.
+#[inline(never)]
+fn by_state(network: &Network, plane: &mut [u64]) -> [u64; WORDS] {
+    let widths = network.widths;
+    for (number, row) in plane.chunks_exact_mut(WORDS).enumerate().skip(STATES / 2) {
+        let State { point, header, .. } = State::numbered(number, widths);
+        if let Some(point) = network.other_end(point) {
+            set_bit(row, State { direction: Direction::Arriving, point, header }.number(widths));
+        }
+    }
+    let mut row = [0; WORDS];
+    for number in 0..STATES {
+        if network.is_external(State::numbered(number, widths).point) {
+            set_bit(&mut row, number);
+        }
+    }
+    row
+}
+
+/// All states by one walk over the links.
+#[inline(never)]
+fn by_link(network: &Network, plane: &mut [u64]) -> [u64; WORDS] {
+    let widths = network.widths;
+    let mut linked = [0; WORDS];
+    for link in &network.links {
+        for (from, to) in [(link.one, link.other), (link.other, link.one)] {
+            for header in 0..1 << widths.header {
+                let [from, to] = [from, to].map(|point| {
+                    State { direction: Direction::Arriving, point, header }.number(widths)
+                });
+                set_bit(&mut plane[(STATES / 2 + from) * WORDS..], to);
+                set_bit(&mut linked, from);
+                set_bit(&mut linked, STATES / 2 + from);
+            }
+        }
+    }
+    let mut row = [0; WORDS];
+    for number in 0..STATES {
+        if widths.is_ordinary(State::numbered(number, widths).point.port) {
+            set_bit(&mut row, number);
+        }
+    }
+    std::array::from_fn(|place| row[place] & !linked[place])
+}
+
+/// Fails unless the plane and the row of external states are those of the second implementation.
+fn compare(network: &Network, plane: &[u64], row: &[u64]) {
+    let has = |words: &[u64], state: usize| words[state / 64] >> (state % 64) & 1 == 1;
+    let steps = steps::all_steps(network);
+    for x in 0..STATES {
+        let point = State::numbered(x, network.widths).point;
+        assert_eq!(has(row, x), network.is_external(point), "external {x}");
+        for y in 0..STATES {
+            assert_eq!(has(&plane[x * WORDS..], y), steps[x].contains(y), "step {x} {y}");
+        }
+    }
+}
+
+/// Reading the largest network.
+fn reading() -> f64 {
+    let records = largest(&mut Random::new(1));
+    assert_eq!(records.len(), 641);
+    let store = store_of(&records);
+    assert_eq!(Library.check(&store, 641, &mut []), SHORT);
+    median((0..RUNS).map(|_| time(|| Library.check(black_box(&store), 641, &mut []))).collect())
+}
+
+/// The step plane, the external row and two cleared planes: the library, and plain Rust.
+fn step_plane(departing: Departing) -> [f64; 2] {
+    let records = largest_without_policies(&mut Random::new(2));
+    let (store, n) = (store_of(&records), records.len());
+    let mut work = vec![0; work_needed(&records)];
+    assert_eq!(Library.check(&store, n, &mut work), Checked::Holds);
+    assert_eq!(Library.check(&store, n, &mut []), SHORT);
+    let network = file::read(&records).unwrap();
+    let mut planes = vec![0; 2 * STATES * WORDS];
+    let fill = |plane: &mut [u64]| {
+        fill_arriving(black_box(&network), plane);
+        departing(&network, plane)
+    };
+    let row = fill(&mut planes[..STATES * WORDS]);
+    compare(&network, &planes, &row);
+    medians(|| {
+        let whole = time(|| Library.check(black_box(&store), n, &mut work));
+        let read = time(|| Library.check(black_box(&store), n, &mut []));
+        let plain = time(|| {
+            black_box(fill(&mut planes[..STATES * WORDS]));
+            black_box(&mut planes).fill(0);
+        });
+        [whole - read, plain]
+    })
+}
+
+/// What arrives outside with header 0 never leaves with header 1 and another bit set.
+fn guard(other: u8) -> Vec<Node> {
+    vec![
+        external(X),
+        bit(X, 9),
+        bit(X, 0),
+        not(1),
+        not(2),
+        and(0, 3),
+        and(5, 4),
+        r(X, Y),
+        tc(7, X, Y),
+        external(Y),
+        bit(Y, 9),
+        bit(Y, 0),
+        bit(Y, other),
+        and(9, 10),
+        and(13, 11),
+        and(14, 12),
+        and(8, 15),
+        some(16, Y),
+        and(6, 17),
+    ]
+}
+
+/// A network of 96 links, 256 rules and eight guards that hold, since its SETs change no bit.
+fn guarded() -> Vec<Record> {
+    let mut records = largest_without_policies(&mut Random::new(3));
+    records.drain(97..113);
+    for record in records.iter_mut().filter(|record| record[0] > 2) {
+        for action in record[9..21].chunks_exact_mut(3).filter(|action| action[0] == 2) {
+            action.copy_from_slice(&[2, 0, 0]);
+        }
+    }
+    records.extend((0..8).flat_map(|number| policy(number, &guard(number + 1))));
+    records
+}
+
+/// The check call on the guarded network: the library, and the second implementation.
+fn check(records: &[Record]) -> [f64; 2] {
+    let (store, n) = (store_of(records), records.len());
+    let mut work = vec![0; work_needed(records)];
+    let gates: [&dyn Gate; 2] = [&Library, &Second];
+    for gate in gates {
+        assert_eq!(gate.check(&store, n, &mut work), Checked::Holds);
+    }
+    medians(|| gates.map(|gate| time(|| gate.check(black_box(&store), n, &mut work))))
+}
+
+/// The command call on it, with an add that makes a rule drop and is forwarded.
+fn command(records: &[Record]) -> [f64; 2] {
+    let (before, n) = (store_of(records), records.len());
+    let mut work = vec![0; work_needed(records)];
+    let [_, switch, low, high, port, port_care, header, header_care, ..] = records[200];
+    let priority = u16::from_le_bytes([low, high]);
+    let given =
+        add(rule(switch, priority, [port, port_care], [header, header_care], &[output(0, 15)]));
+    let gates: [&dyn Gate; 2] = [&Library, &Second];
+    medians(|| {
+        gates.map(|gate| {
+            let mut store = before.clone();
+            let mut answer = None;
+            let taken = time(|| answer = Some(gate.command(&mut store, n, &mut work, &given)));
+            assert_eq!(answer, Some(Commanded::Forwarded { count: n }));
+            assert_ne!(store, before);
+            taken
+        })
+    })
+}
+
+fn print(name: &str, [library, other]: [f64; 2], beside: &str) {
+    println!("| {name} | {library:.0} | {beside} | {other:.0} | {:.2} |", library / other);
+}
+
+fn main() {
+    println!("| at N = 10 | library, µs | beside it | µs | ratio |");
+    println!("|---|---|---|---|---|");
+    println!("| reading the largest network | {:.0} | | | |", reading());
+    let plane = "step plane, 256 rules and 112 links";
+    print(plane, step_plane(by_state), "plain Rust, links searched for each state");
+    print(plane, step_plane(by_link), "plain Rust, links walked once");
+    let records = guarded();
+    print("check, 256 rules and eight closures", check(&records), "second implementation");
+    print("command on the same network", command(&records), "second implementation");
+}
