@@ -1,5 +1,5 @@
 // The check call and the command call.
-pub mod apply;
+mod apply;
 
 use apply::Row;
 use records::scan::Layout;

@@ -1,5 +1,4 @@
 -- Warshall's invariant: what a round keeps, and what it comes to when every state has had its round.
--- Assumes nothing.
 use mathlib.Core.Path.{_≡_, refl, sym, subst, _∙_}
 use mathlib.Core.Bool.{Bool, true, false, _&&_, _||_}
 use mathlib.Core.List.{List}

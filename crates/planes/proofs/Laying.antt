@@ -1,5 +1,4 @@
 -- A turn of a loop that lays bytes one by one, and of the loop that copies them.
--- Assumes nothing.
 use mathlib.Core.Path.{_≡_, refl, ap, _∙_}
 use mathlib.Core.List.{List}
 use Prim.Native.Nat.{ℕ, zero, suc, _+_, _≤_, _<_}

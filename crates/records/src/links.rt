@@ -23,7 +23,7 @@ pub fn is_ordinary(w: Widths, p: u8) -> bool
 }
 
 // Port p of switch a is port q of switch b.
-fn same_point(a: u8, p: u8, b: u8, q: u8) -> bool
+pub fn same_point(a: u8, p: u8, b: u8, q: u8) -> bool
     ensures { λ r. ⌜ r ≡ (eqb a b && eqb p q) ⌝ }
 {
     if a != b {

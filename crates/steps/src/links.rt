@@ -1,11 +1,11 @@
 // What links carry, and which points are linked.
 use super::state::number;
 use records::Widths;
+use records::links::same_point;
 use records::scan::Layout;
 ghost use mathlib.Core.Path.{_≡_};
-ghost use mathlib.Core.Bool.{true, _&&_};
+ghost use mathlib.Core.Bool.{true};
 ghost use mathlib.Core.List.{[], _∷_};
-ghost use lib.Dec.{eqb};
 ghost use lib.ListN.{length};
 ghost use Rattle.records.specs.Record.{records, ofKind, endsAt, linked};
 ghost use Rattle.records.specs.Rows.{pointGood};
@@ -15,17 +15,7 @@ ghost use Rattle.steps.specs.Filled.{rowBytes, Ready, Added};
 ghost use Rattle.steps.specs.Carried.{arriving, oneWay, Ends};
 ghost use Rattle.steps.specs.Stored.{Stored};
 
-// The points (a, b) and (sw, p) are the same.
-fn same_point(a: u8, b: u8, sw: u8, p: u8) -> bool
-    ensures { λ r. ⌜ r ≡ (eqb a sw && eqb b p) ⌝ }
-{
-    if a != sw {
-        return false;
-    }
-    b == p
-}
-
-// Ready a frame from the point (sw, p), if it is (a, b), to the point (c, d).
+// Carries a frame from the point (sw, p), if it is (a, b), to the point (c, d).
 fn carry(work: &mut [u8], row: usize, w: Widths, a: u8, b: u8, c: u8, d: u8, sw: u8, p: u8, h: u8)
     requires { ⌜ Ready w row h (now work) ⌝ }
     requires { ⌜ pointGood w c d ≡ true ⌝ }
@@ -37,7 +27,7 @@ fn carry(work: &mut [u8], row: usize, w: Widths, a: u8, b: u8, c: u8, d: u8, sw:
     planes::set_at(work, row, number(w, 0, c, d, h));
 }
 
-// Ready a frame from the point (sw, p) over a link, both ways.
+// Carries a frame from the point (sw, p) over a link, both ways.
 fn follow(work: &mut [u8], row: usize, w: Widths, link: &[u8], sw: u8, p: u8, h: u8)
     requires { ⌜ Ready w row h (now work) ⌝ }
     requires { ⌜ (length (now link) ≡ 4) × Ends w (ofBody (now link)) ⌝ }
@@ -51,7 +41,7 @@ fn follow(work: &mut [u8], row: usize, w: Widths, link: &[u8], sw: u8, p: u8, h:
     carry(work, row, w, c, d, a, b, sw, p, h);
 }
 
-// Ready a frame from the point (sw, p) over the links that end there.
+// Carries a frame from the point (sw, p) over the links that end there.
 pub fn cross(work: &mut [u8], row: usize, store: &[u8], n: usize, l: Layout, sw: u8, p: u8, h: u8)
     requires { ⌜ Ready (l .widths) row h (now work) ⌝ }
     requires { ⌜ Stored n l (now store) ⌝ }

@@ -1,5 +1,4 @@
 -- Operations on the bits of a byte and of a row; a row that is made bit by bit.
--- Assumes nothing.
 use mathlib.Core.Path.{_≡_, refl, sym, ap, _∙_}
 use mathlib.Core.Bool.{Bool, true, false, not, _||_, or-true, or-false}
 use mathlib.Core.List.{List}

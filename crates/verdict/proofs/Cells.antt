@@ -1,5 +1,4 @@
 -- Rows spread over a plane; bits by stride; a plane that was copied, closed and arranged.
--- Assumes nothing.
 use mathlib.Core.Path.{_≡_, refl, sym, ap, _∙_}
 use mathlib.Core.Bool.{Bool, true, false, _||_}
 use mathlib.Core.List.{List}

@@ -1,5 +1,4 @@
 -- What rows 5 and 9 say of a policy node: its operands are earlier nodes, and BIT names a bit of a state.
--- Assumes nothing.
 use mathlib.Core.Path.{_≡_, subst}
 use mathlib.Core.Bool.{true, _&&_, false≢true}
 use mathlib.Core.Logic.{_⊎_, ⊎-elim}

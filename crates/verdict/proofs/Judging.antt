@@ -1,5 +1,4 @@
 -- The step plane and the row of external states give the network's model; what is left of the work buffer.
--- Assumes nothing.
 use mathlib.Core.Path.{_≡_, refl, sym, ap, ap₂, subst, _∙_}
 use mathlib.Core.Bool.{true}
 use mathlib.Core.List.{List, _++_}

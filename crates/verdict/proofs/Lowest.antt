@@ -1,5 +1,4 @@
 -- The lowest state whose bit is set, and what it says of a formula.
--- Assumes nothing.
 use mathlib.Core.Path.{_≡_, sym, ap, subst, _∙_}
 use mathlib.Core.Bool.{Bool, true, false}
 use mathlib.Core.List.{List}

@@ -1,4 +1,4 @@
--- `planes::clear` meets its contract. The loop's invariant is the contract at the i bytes passed. Assumes nothing.
+-- `planes::clear` meets its contract. The loop's invariant is the contract at the i bytes passed.
 use mathlib.Core.Path.{_≡_, refl}
 use Prim.Native.Nat.{_-_, _≤_}
 use native.Mathlib.Omega.{arith}

@@ -1,4 +1,4 @@
--- `planes::load_row` meets its contract. The loop's invariant is the contract at the j bytes passed. Assumes nothing.
+-- `planes::load_row` meets its contract. The loop's invariant is the contract at the j bytes passed.
 use mathlib.Core.Path.{_≡_, refl}
 use Prim.Native.Nat.{_-_, _≤_}
 use native.Mathlib.Omega.{arith}

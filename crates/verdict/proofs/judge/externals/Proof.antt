@@ -1,4 +1,4 @@
--- `verdict::judge::externals` meets its contract. The loop's invariant: the first z bits are made, the others are not set. Assumes nothing.
+-- `verdict::judge::externals` meets its contract. The loop's invariant: the first z bits are made, the others are not set.
 use mathlib.Core.Path.{_≡_}
 use Prim.Native.Nat.{_-_, _≤_}
 use Rattle.records.specs.Record.{records}

@@ -1,4 +1,4 @@
--- `verdict::judge::judge` meets its contract. Assumes nothing.
+-- `verdict::judge::judge` meets its contract.
 use Rattle.records.specs.Laws.Limits.{limits}
 use Rattle.verdict.proofs.Cleans.{stored}
 use Rattle.verdict.proofs.Judging.{few-states, enough, most-fits, step-room, search-ready, judged}

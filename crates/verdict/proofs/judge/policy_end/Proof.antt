@@ -1,4 +1,4 @@
--- `verdict::judge::policy_end` meets its contract. The loop's invariant: the records from start up to i name one policy. Assumes nothing.
+-- `verdict::judge::policy_end` meets its contract. The loop's invariant: the records from start up to i name one policy.
 use mathlib.Core.Path.{_≡_, ap}
 use Prim.Native.Nat.{ℕ, _-_, _≤_, _<_}
 use borrow.Author.Count.{below-more}

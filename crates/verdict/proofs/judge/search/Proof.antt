@@ -1,4 +1,4 @@
--- `verdict::judge::search` meets its contract. The loop's invariant: the policies whose nodes stand before `start` are not broken. Assumes nothing.
+-- `verdict::judge::search` meets its contract. The loop's invariant: the policies whose nodes stand before `start` are not broken.
 use mathlib.Core.Path.{_∙_}
 use Prim.Native.Nat.{_+_, _-_, _*_}
 use borrow.Author.Needs.{needs}

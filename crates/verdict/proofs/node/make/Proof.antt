@@ -1,4 +1,4 @@
--- `verdict::node::make` meets its contract: an arm for each kind of node. Assumes nothing.
+-- `verdict::node::make` meets its contract: an arm for each kind of node.
 use Rattle.records.specs.Policy.{nodeKind}
 use Prim.Native.Nat.{zero-le}
 use Rattle.verdict.proofs.Nodes.{offset-fits, from-next, first-operand, second-operand, own-plane, step-source, scratch-source, operand-source, operand-scratch, bit-node, step-node, external-node, not-node, and-node, or-node, some-node, all-node, closure-node, no-node}

@@ -1,4 +1,4 @@
--- `verdict::node::operands` meets its contract. Assumes nothing.
+-- `verdict::node::operands` meets its contract.
 use Rattle.records.specs.Policy.{nodeKind}
 use Rattle.verdict.proofs.Nodes.{arity-none, arity-one, arity-two, arity-beyond}
 use native.Mathlib.Omega.{arith}

@@ -1,4 +1,4 @@
--- `verdict::policy::is_marked` meets its contract. Assumes nothing.
+-- `verdict::policy::is_marked` meets its contract.
 use mathlib.Core.Path.{refl}
 use Rattle.planes.specs.Bit.{bitOf}
 use borrow.Author.Needs.{needs}

@@ -1,4 +1,4 @@
--- `verdict::policy::lowest_set` meets its contract. The loop's invariant: the first state from x on that passes is the first of all. Assumes nothing.
+-- `verdict::policy::lowest_set` meets its contract. The loop's invariant: the first state from x on that passes is the first of all.
 use mathlib.Core.Path.{_≡_, sym, ap, _∙_}
 use Prim.Native.Nat.{ℕ, _+_, _*_, _-_, _≤_}
 use native.Mathlib.Nat.{zero-mul}

@@ -1,4 +1,4 @@
--- `verdict::policy::mark` meets its contract. Assumes nothing.
+-- `verdict::policy::mark` meets its contract.
 use mathlib.Core.Path.{_∙_}
 use native.Mathlib.Nat.{one-mul}
 use lib.Pow.{shl-exact}

@@ -1,4 +1,4 @@
--- `verdict::policy::settle` meets its contract. Assumes nothing.
+-- `verdict::policy::settle` meets its contract.
 use mathlib.Core.Path.{ap}
 use lib.Bits.{bitOr}
 use borrow.Author.Needs.{needs}

@@ -1,4 +1,4 @@
--- `verdict::policy::test` meets its contract. Assumes nothing.
+-- `verdict::policy::test` meets its contract.
 use mathlib.Core.Path.{_≡_, subst}
 use Prim.Native.Nat.{ℕ, _-_, _<_}
 use lib.ListN.{length}

@@ -1,4 +1,4 @@
--- `verdict::rows::byte_op` meets its contract. Assumes nothing.
+-- `verdict::rows::byte_op` meets its contract.
 use borrow.Author.Needs.{needs}
 use Rattle.verdict.proofs.rows.byte_op.Statement.{statement}
 use Rattle.verdict.proofs.rows.byte_op.Tie as tie

@@ -1,4 +1,4 @@
--- `verdict::rows::byte_over` meets its contract. Assumes nothing.
+-- `verdict::rows::byte_over` meets its contract.
 use mathlib.Core.Path.{subst}
 use Rattle.verdict.specs.Made.{Quantifies}
 use Rattle.verdict.proofs.Folds.{byte-all, byte-some}

@@ -1,4 +1,4 @@
--- `verdict::rows::or_bit` meets its contract. Assumes nothing.
+-- `verdict::rows::or_bit` meets its contract.
 use denote.Ref.{now}
 use Rattle.verdict.proofs.Bytes.{pushed}
 use borrow.Author.Needs.{needs}

@@ -1,4 +1,4 @@
--- `verdict::rows::spread` meets its contract. Assumes nothing.
+-- `verdict::rows::spread` meets its contract.
 use mathlib.Core.Path.{refl, _∙_}
 use mathlib.Core.Path.{ap}
 use Rattle.verdict.specs.Made.{fullByte}

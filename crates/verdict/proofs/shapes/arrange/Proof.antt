@@ -1,4 +1,4 @@
--- `verdict::shapes::arrange` meets its contract. Assumes nothing.
+-- `verdict::shapes::arrange` meets its contract.
 use Rattle.records.specs.Policy.{X, Y}
 use Rattle.verdict.proofs.Cells.{other-var, made-spread, made-copy}
 use borrow.Author.Needs.{needs}

@@ -1,4 +1,4 @@
--- `verdict::shapes::bit_plane` meets its contract. Assumes nothing.
+-- `verdict::shapes::bit_plane` meets its contract.
 use Rattle.records.specs.Policy.{varOf}
 use Rattle.verdict.proofs.Cells.{made-spread}
 use borrow.Author.Needs.{needs}

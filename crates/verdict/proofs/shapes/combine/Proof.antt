@@ -1,4 +1,4 @@
--- `verdict::shapes::combine` meets its contract. The loop's invariant is the contract at the x rows passed. Assumes nothing.
+-- `verdict::shapes::combine` meets its contract. The loop's invariant is the contract at the x rows passed.
 use mathlib.Core.Path.{_≡_, ap₂, _∙_}
 use Prim.Native.Nat.{_+_, _*_, _-_, _≤_}
 use lib.ListN.{length}

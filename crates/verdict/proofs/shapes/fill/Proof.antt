@@ -1,4 +1,4 @@
--- `verdict::shapes::fill` meets its contract. The loop's invariant is the contract at the x rows passed. Assumes nothing.
+-- `verdict::shapes::fill` meets its contract. The loop's invariant is the contract at the x rows passed.
 use Prim.Native.Nat.{_*_, _-_}
 use Rattle.planes.specs.Plane.{bit}
 use Rattle.records.specs.Policy.{varOf}

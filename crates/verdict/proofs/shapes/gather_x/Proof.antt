@@ -1,4 +1,4 @@
--- `verdict::shapes::gather_x` meets its contract. The loop's invariant is the contract at the x rows passed. Assumes nothing.
+-- `verdict::shapes::gather_x` meets its contract. The loop's invariant is the contract at the x rows passed.
 use mathlib.Core.Path.{_≡_, sym, ap₂, subst, _∙_}
 use Prim.Native.Nat.{ℕ, _*_, _-_, _≤_}
 use native.Mathlib.Nat.{zero-mul}

@@ -1,4 +1,4 @@
--- `verdict::shapes::range` meets its contract. Assumes nothing.
+-- `verdict::shapes::range` meets its contract.
 use Rattle.records.specs.Policy.{X, Y}
 use Rattle.verdict.proofs.Cells.{other-var, made-spread}
 use borrow.Author.Needs.{needs}

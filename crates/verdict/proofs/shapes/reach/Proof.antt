@@ -1,4 +1,4 @@
--- `verdict::shapes::reach` meets its contract. Assumes nothing.
+-- `verdict::shapes::reach` meets its contract.
 use mathlib.Core.Path.{_∙_}
 use Rattle.records.specs.Policy.{varOf}
 use Rattle.verdict.proofs.Cells.{source-in, plane-in, made-copy, reaches}

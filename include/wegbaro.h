@@ -1,0 +1,119 @@
+/* Wegbaro: the check call and the command call for C and C++. Link with target/staticlib/libwegbaro.a.
+ *
+ * The words used here (record, policy, state, row) are those of document 01. Neither call keeps a pointer, allocates, or
+ * has any memory of an earlier call: everything is in the buffers, which are lent for the call alone.
+ *
+ * Every length, every content and every n is allowed: what is wrong with them is answered as a refusal. Asked of the
+ * caller is only what C asks of any function: each pointer is not null, even with length 0, and has its length in bytes
+ * behind it; and the buffers of one call do not overlap. */
+
+#ifndef WEGBARO_H
+#define WEGBARO_H
+
+#include <stddef.h>
+#include <stdint.h>
+
+/* ---- Sizes ---- */
+
+/* The bytes of a record, and of a command. */
+#define WEGBARO_RECORD_BYTES 24
+
+/* The records of the largest network. */
+#define WEGBARO_MOST_RECORDS 641
+
+/* The least bytes of a store: the largest network, 15,384. */
+#define WEGBARO_STORE_BYTES (WEGBARO_MOST_RECORDS * WEGBARO_RECORD_BYTES)
+
+/* The least bytes of work for a network: (nodes + 2) planes of 2^(2N) bits. `nodes` is the node count of its longest
+ * policy, 0 to 32 (0 without a policy); `bits` is N = 1 + H + P + W, 4 to 10. A command leaves both as they are. */
+#define WEGBARO_WORK_BYTES(nodes, bits) (((size_t)(nodes) + 2) * (((size_t)1 << (2 * (bits))) / 8))
+
+/* Bytes of work that are enough for every network: 4,456,448. */
+#define WEGBARO_MOST_WORK_BYTES WEGBARO_WORK_BYTES(32, 10)
+
+/* ---- Answers ---- */
+
+/* The cases of the check call's answer, with its first and second number. */
+#define WEGBARO_HOLDS 0    /* 0, 0 */
+#define WEGBARO_VIOLATED 1 /* policy, state */
+
+/* The cases of the command call's answer, with its first and second number. */
+#define WEGBARO_FORWARDED 0 /* the new record count, 0 */
+#define WEGBARO_BLOCKED 1   /* policy, state */
+
+/* The case that both calls have, with its first and second number.
+ *
+ *    number  refused because                                                                place
+ *    1       n is 0 or above 641                                                            0
+ *    2       the store is under 15,384 bytes                                                0
+ *    3       a kind is not 1 to 5 or below the one before, or kind 1 is not once and first  the record, from 0
+ *    4       a width is outside its limits                                                  the record
+ *    5       a field is outside its range or width, or an unnamed byte is not zero          the record
+ *    6       a link's end is not ordinary or already linked, or both ends are the same      the record
+ *    7       a miss is not that of the next switch                                          the record
+ *            the misses are incomplete                                                      the record behind them, or n
+ *    8       the same rule stands twice                                                     the later one
+ *    9       an operand is not earlier, a policy is out of order, or Y is free at its end   the record
+ *    10      there is a 257th rule, a ninth policy or a 33rd node                           the record
+ *    11      the work buffer is too short                                                   0
+ *    12      the command is not 24 bytes, or no well-formed add, modify or delete           0
+ *    13      an add of a new rule with 256 present                                          0
+ *
+ * The check call has 1 to 11. The first that is so is answered: 1 and 2, then the first faulty record with the lowest
+ * number of 3 to 10 that is so of it, then 11 to 13. */
+#define WEGBARO_REFUSED 2 /* number, place */
+
+#ifdef __cplusplus
+extern "C" {
+#endif
+
+/* The case of an answer: bits 0 and 1. */
+static inline unsigned int wegbaro_case(uint64_t answer)
+{
+    return (unsigned int)(answer & 3);
+}
+
+/* The first number of an answer: bits 2 to 17. */
+static inline unsigned int wegbaro_first(uint64_t answer)
+{
+    return (unsigned int)(answer >> 2 & 65535);
+}
+
+/* The second number of an answer: bits 18 to 33. */
+static inline unsigned int wegbaro_second(uint64_t answer)
+{
+    return (unsigned int)(answer >> 18 & 65535);
+}
+
+/* ---- Calls ---- */
+
+/* The check call: judges the network of the first n records of the store.
+ *
+ * WEGBARO_HOLDS     no policy's forbidden condition is true for any state.
+ * WEGBARO_VIOLATED  some policy's is: the lowest broken policy, and the lowest state that breaks it.
+ * WEGBARO_REFUSED   the network was not judged: number and place of the table above.
+ *
+ * The store is only read. If refused, the work buffer is untouched. Otherwise its first WEGBARO_WORK_BYTES of this network
+ * are all zero, and the rest of it is untouched. What is in it before the call does not matter. */
+uint64_t wegbaro_check(const uint8_t *store, size_t store_len, size_t n, uint8_t *work, size_t work_len);
+
+/* The command call: judges the whole network that the command `given` would leave of the first n records of the store,
+ * and carries the command out only if that network holds. Start with n records that the check call said hold, and from
+ * then on give the count last answered as forwarded.
+ *
+ * WEGBARO_FORWARDED the network that it leaves holds: its record count. The store has its records, then zeros to byte
+ *                   15,384; later bytes are untouched.
+ * WEGBARO_BLOCKED   it does not hold: the lowest policy that would be broken, and the lowest state that would break it. The
+ *                   store is untouched.
+ * WEGBARO_REFUSED   the command was not judged: number and place of the table above. The store is untouched.
+ *
+ * An add of a rule that is there replaces it; a modify or a delete of a rule that is not there changes nothing, and is
+ * judged like any command. The command is only read. The work buffer is left as by the check call. */
+uint64_t wegbaro_command(uint8_t *store, size_t store_len, size_t n, uint8_t *work, size_t work_len,
+                         const uint8_t *given, size_t given_len);
+
+#ifdef __cplusplus
+}
+#endif
+
+#endif
