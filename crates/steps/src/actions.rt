@@ -1,6 +1,7 @@
 // What the actions of a record send.
 use super::state::number;
 use records::Widths;
+use records::links::is_ordinary;
 ghost use mathlib.Core.Path.{_≡_};
 ghost use mathlib.Core.Bool.{true};
 ghost use mathlib.Core.List.{[], _∷_};
@@ -9,7 +10,6 @@ ghost use lib.ListN.{length};
 ghost use Rattle.records.specs.Lists.{from};
 ghost use Rattle.records.specs.Rows.{actionsGood};
 ghost use Rattle.records.specs.Widths.{withinLimits};
-ghost use Rattle.records.specs.State.{ordinary};
 ghost use Rattle.records.specs.Pattern.{patternGood};
 ghost use Rattle.steps.specs.Step.{reached, sent};
 ghost use Rattle.steps.specs.Choice.{arrival, ofBody};
@@ -22,18 +22,6 @@ pub fn ports(w: Widths) -> u8
     ensures { λ r. ⌜ r ≡ 2 ^ w .p ⌝ }
 {
     1u8 << w.p
-}
-
-// The port is ordinary.
-pub fn is_ordinary(w: Widths, q: u8) -> bool
-    requires { ⌜ withinLimits w ≡ true ⌝ }
-    ensures { λ r. ⌜ r ≡ ordinary w q ⌝ }
-{
-    let controller = ports(w) - 1;
-    if q == 0 {
-        return false;
-    }
-    q < controller
 }
 
 // Sends a copy to port q, if OUTPUT with stars reaches it.

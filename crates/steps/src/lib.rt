@@ -1,9 +1,9 @@
 // One step of a packet state.
-use actions::is_ordinary;
 use actions::run;
 use choice::choose;
 use links::cross;
 use links::is_linked;
+use records::links::is_ordinary;
 use records::scan::Layout;
 use state::direction;
 use state::header;

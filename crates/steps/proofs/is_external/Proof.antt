@@ -5,6 +5,7 @@ use mathlib.Core.Path.{_≡_, sym, ap, _∙_}
 use mathlib.Core.Bool.{not, _&&_}
 use Rattle.records.specs.Record.{Net, records, linked}
 use Rattle.records.specs.Widths.{widthsOf}
+use Rattle.records.specs.Laws.Limits.{limits}
 use Rattle.records.specs.State.{portOf, switchOf, ordinary}
 use Rattle.records.specs.declared.Widths.{Widths}
 use Prim.Native.Nat.{ℕ}
@@ -16,6 +17,9 @@ use Rattle.steps.proofs.is_external.Tie as tie
 by-widths : (net : Net) (w : Widths) (s : ℕ) → w ≡ widthsOf net → external net s ≡ (ordinary w (portOf w s) && not (linked net (switchOf w s) (portOf w s)))
 unfolding external
 by-widths net w s e = ap (λ (v : Widths). ordinary v (portOf v s) && not (linked net (switchOf v s) (portOf v s))) (sym e)
+
+is-ordinary-requires : tie.Need-is-ordinary-requires
+is-ordinary-requires c κs = limits _ (c .before .before .before .pre .laid .limits) .high-p
 
 returns : tie.Need-returns
 returns c =
@@ -39,7 +43,7 @@ is-external-spec =
     tie.close
     (tie.spec
     (λ c κs. search needs)
-    (λ c κs. search needs)
+    is-ordinary-requires
     returns
     (λ c κs. search needs)
     (λ c κs. search needs)

@@ -6,11 +6,15 @@ use mathlib.Core.Bool.{Bool, true, false, _&&_}
 use native.Mathlib.Omega.{arith}
 use Rattle.records.specs.State.{ordinary}
 use Rattle.records.specs.Pattern.{matches}
+use Rattle.records.specs.Laws.Limits.{limits}
 use Rattle.records.specs.Laws.Patterns.{matches-mask}
 use Rattle.steps.proofs.Adding.{added-none}
 use Rattle.steps.proofs.Sending.{port-passed, port-reached, has-byte, state-added}
 use Rattle.steps.proofs.actions.offer.Statement.{statement}
 use Rattle.steps.proofs.actions.offer.Tie as tie
+
+is-ordinary-requires : tie.Need-is-ordinary-requires
+is-ordinary-requires c κs = limits _ (c .before .pre .0 .ready .limits) .high-p
 
 returns : tie.Need-returns
 returns c =
@@ -51,7 +55,7 @@ pub offer-spec : {M : Type 1} → statement M
 offer-spec =
     tie.close
     (tie.spec
-    (λ c κs. search needs)
+    is-ordinary-requires
     returns
     returns-2
     (λ c κs. search needs)
