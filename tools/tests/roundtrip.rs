@@ -1,0 +1,148 @@
+//! Bytes to text to bytes, and text to bytes to text.
+
+mod common;
+
+use common::parsed;
+use wegbaro_tests::commands::{command, SOUND};
+use wegbaro_tests::inputs::random_input;
+use wegbaro_tests::k::{first_add, k, second_add};
+use wegbaro_tests::library::program;
+use wegbaro_tests::networks::{
+    all_widths, crowded, guarded_network, largest, random_network, MODEST,
+};
+use wegbaro_tests::random::Random;
+use wegbaro_tools::parse::parse;
+use wegbaro_tools::print::print;
+
+/// The text of the bytes, after checking that it gives them back and is printed the same again.
+fn there_and_back(bytes: &[u8]) -> String {
+    let text = print(bytes);
+    let back = parsed(&text);
+    assert_eq!(back.bytes, bytes, "{text}");
+    assert_eq!(back.lines.len(), bytes.len().div_ceil(24));
+    assert_eq!(print(&back.bytes), text);
+    text
+}
+
+/// Checks that no statement of the text is byte by byte.
+fn in_words(text: &str) {
+    assert!(!text.lines().any(|line| line.starts_with("bytes")), "{text}");
+}
+
+#[test]
+fn well_formed_networks_and_commands_of_every_width() {
+    let mut random = Random::new(1);
+    for of in all_widths() {
+        for round in 0..40 {
+            let records = match round % 4 {
+                0 => guarded_network(&mut random, of),
+                _ => random_network(&mut random, of, MODEST),
+            };
+            let mut bytes = records.concat();
+            for wish in SOUND {
+                bytes.extend(command(&mut random, &records, wish));
+            }
+            in_words(&there_and_back(&bytes));
+        }
+    }
+}
+
+#[test]
+fn the_largest_networks() {
+    let mut random = Random::new(2);
+    for _ in 0..5 {
+        in_words(&there_and_back(&largest(&mut random).concat()));
+    }
+    for of in all_widths() {
+        in_words(&there_and_back(&crowded(&mut random, of).concat()));
+    }
+}
+
+#[test]
+fn damaged_and_cut_inputs() {
+    let mut random = Random::new(3);
+    for _ in 0..3_000 {
+        there_and_back(&random_input(&mut random));
+    }
+}
+
+#[test]
+fn bytes_without_any_order() {
+    let mut random = Random::new(4);
+    for _ in 0..2_000 {
+        let length = random.up_to(200);
+        let mut bytes = random.bytes(length);
+        for first in bytes.iter_mut().step_by(24) {
+            *first %= 10;
+        }
+        there_and_back(&bytes);
+    }
+    assert_eq!(there_and_back(&[]), "");
+    assert_eq!(there_and_back(&[6, 0]), "bytes 06 00\n");
+}
+
+#[test]
+fn every_byte_of_k_changed() {
+    let mut random = Random::new(5);
+    let bytes = [k(), vec![first_add(), second_add()]].concat().concat();
+    for place in 0..bytes.len() {
+        for change in [1, 2, 4, 128, random.byte()] {
+            let mut changed = bytes.clone();
+            changed[place] ^= change;
+            there_and_back(&changed);
+        }
+    }
+}
+
+#[test]
+fn k_in_text() {
+    let text = "\
+widths H 1 P 2 W 1
+
+link 0:2 - 1:1
+
+miss 0: output 0
+miss 1: output 0
+
+rule 0 priority 10 port 1 header 0: output 2
+rule 1 priority 10 port 1 header *: output 2
+
+# policy 0 is E(X) & !bit(X,4) & exists Y. tc(R(X,Y))(X,Y) & (E(Y) & bit(Y,4) & bit(Y,0))
+policy 0 nodes: E X; BIT X 4; NOT 1; AND 0 2; R X Y; TC 4 X Y; E Y; BIT Y 4; BIT Y 0; AND 6 7;
+    AND 9 8; AND 5 10; SOME 11 Y; AND 3 12
+";
+    assert_eq!(there_and_back(&k().concat()), text);
+}
+
+#[test]
+fn the_same_pattern_in_several_forms() {
+    let forms = [
+        "widths H 4 P 3 W 0\nadd 0 priority 7 port 7 header ****: set 1010, output 0",
+        "widths H 4 P 3 W 0\nadd 0 priority 7 port 111: set 10, output 000",
+        "widths H 4 P 3 W 0 # more\n\nadd 0 priority 7\n  port controller:\n\tset 10, output drop\n",
+    ];
+    let first = parsed(forms[0]);
+    assert_eq!(first.bytes[24..40], [6, 0, 7, 0, 7, 7, 0, 0, 2, 2, 10, 15, 1, 0, 7, 0]);
+    for form in forms {
+        assert_eq!(parsed(form).bytes, first.bytes);
+    }
+}
+
+/// The example in README.md is a network that the gate takes.
+#[test]
+fn the_text_of_the_readme() {
+    let readme = include_str!("../README.md");
+    let block = &readme[readme.find("    widths").unwrap()..];
+    let lines: Vec<&str> = block.lines().map_while(|line| line.strip_prefix("    ")).collect();
+    assert_eq!(lines.len(), 9);
+    let output = String::from_utf8(program(&parsed(&lines.join("\n")).bytes)).unwrap();
+    assert!(!output.contains("refused"), "{output}");
+}
+
+#[test]
+fn records_know_their_lines() {
+    let text =
+        "# K\nwidths H 1 P 2 W 0\n\npolicy 0:\n  E(X)\n  & !E(X)\ndelete 0 priority 1\nbytes 06";
+    assert_eq!(parsed(text).lines, [2, 4, 4, 4, 7, 8]);
+    assert!(parse("bytes 06\nbytes 06").is_err());
+}
