@@ -99,7 +99,7 @@ impl Input {
         Some(format!("policy {policy} is broken by state {state} ({name})"))
     }
 
-    /// Where a row refuses the network; rows of the door and of work have no place.
+    /// Where a row refuses the network; rows of the arguments and of work have no place.
     fn at(&self, row: usize, place: usize) -> Option<String> {
         if !(3..=10).contains(&row) {
             return Some(String::new());
