@@ -97,7 +97,7 @@ fn fill_arriving(network: &Network, plane: &mut [u64]) {
 /// Puts in the steps of departing states, and gives the row of external states.
 type Departing = fn(&Network, &mut [u64]) -> [u64; WORDS];
 
-/// Each state by a search of the links, as the library does it.
+/// Each state by a search of the links.
 #[inline(never)]
 fn by_state(network: &Network, plane: &mut [u64]) -> [u64; WORDS] {
     let widths = network.widths;
@@ -116,7 +116,7 @@ fn by_state(network: &Network, plane: &mut [u64]) -> [u64; WORDS] {
     row
 }
 
-/// All states by one walk over the links.
+/// All states by one walk over the links, as the library does it.
 #[inline(never)]
 fn by_link(network: &Network, plane: &mut [u64]) -> [u64; WORDS] {
     let widths = network.widths;

@@ -1,7 +1,7 @@
 -- A turn of a loop that lays bytes one by one, and of the loop that copies them.
 use mathlib.Core.Path.{_≡_, refl, ap, _∙_}
 use mathlib.Core.List.{List}
-use Prim.Native.Nat.{ℕ, zero, suc, _+_, _≤_, _<_}
+use Prim.Native.Nat.{ℕ, _+_, _≤_, _<_}
 use native.Mathlib.Nat.{not-suc-le-zero}
 use native.Mathlib.Omega.{arith}
 use borrow.Author.Count.{below-more}
@@ -9,6 +9,7 @@ use lib.ListN.{length, getD, set, length-set, replicate}
 use lib.Seq.{getD-set-same, getD-set-other}
 use lib.Bits.{bitOr}
 use Rattle.planes.specs.Rows.{Laid, Ored, Loaded}
+use Rattle.planes.specs.Laws.Rows.{no-byte}
 
 pub laid-none : (f : ℕ → ℕ) (at : ℕ) (a : List ℕ) → Laid f at 0 a a
 laid-none f at a = record { len = refl; inside = λ j h. absurd (not-suc-le-zero h); under = λ m h. refl; over = λ m h. refl }
@@ -31,13 +32,8 @@ ored-more row at j w a l I hj hw =
     laid-more _ at j w a l I hj hw (bitOr (getD l (at + j) 0) (getD row j 0))
     (ap (λ (v : ℕ). bitOr v (getD row j 0)) (I .over (at + j) (omega arith)))
 
-zeros : (n j : ℕ) → getD {A = ℕ} (replicate n 0) j 0 ≡ 0
-zeros zero j = refl
-zeros (suc n) zero = refl
-zeros (suc n) (suc j) = zeros n j
-
 pub loaded-none : (at n : ℕ) (a : List ℕ) → Loaded at 0 a (replicate n 0)
-loaded-none at n a = record { same = λ j h. absurd (not-suc-le-zero h); rest = λ j h. zeros n j }
+loaded-none at n a = record { same = λ j h. absurd (not-suc-le-zero h); rest = λ j h. no-byte n j }
 
 pub loaded-more : (at j : ℕ) (a row : List ℕ) → Loaded at j a row → j < length row → Loaded at (j + 1) a (set row j (getD a (at + j) 0))
 loaded-more at j a row I h = record {

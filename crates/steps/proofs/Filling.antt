@@ -1,5 +1,5 @@
--- A plane that is filled row by row.
-use mathlib.Core.Path.{_≡_, refl, sym, ap, subst, subst⁻¹, _∙_}
+-- A plane that is filled row by row, and to which pairs are added.
+use mathlib.Core.Path.{_≡_, refl, sym, ap, ap₂, _∙_}
 use mathlib.Core.Bool.{Bool, true, _||_, or-false}
 use mathlib.Core.List.{List}
 use Prim.Native.Nat.{ℕ, _+_, _*_, _<_, _≤_}
@@ -12,12 +12,11 @@ use Rattle.planes.specs.Rows.{Cleared}
 use Rattle.planes.specs.Laws.Places.{row-before, row-next}
 use Rattle.planes.specs.Laws.Rows.{row-kept, cleared-bit}
 use Rattle.records.specs.Lists.{member}
-use Rattle.records.specs.Record.{Net}
-use Rattle.records.specs.Widths.{states, withinLimits, widthsOf}
+use Rattle.records.specs.Widths.{states, withinLimits}
 use Rattle.records.specs.Laws.States.{whole-bytes}
 use Rattle.records.specs.declared.Widths.{Widths}
-use Rattle.steps.specs.Step.{next}
-use Rattle.steps.specs.Filled.{rowBytes, Added, Filled}
+use Rattle.steps.specs.Filled.{rowBytes, Room, Adds, Added, Shows}
+use Rattle.steps.specs.Carried.{pair}
 
 -- of the plane at byte base of b, the rows below s have the bits of the numbers in f; every byte outside of them is as in a; row s starts at byte row
 pub record RowsOf (f : ℕ → List ℕ) (base w s row : ℕ) (a b : List ℕ) : Type 0 where
@@ -66,17 +65,54 @@ module _ (f : ℕ → List ℕ) (base w s row : ℕ) (a b c d : List ℕ) (R : R
   }
 
 -- the rows of all states are the plane
-pub rows-all : (net : Net) (w : Widths) (base s row : ℕ) (a b : List ℕ) → w ≡ widthsOf net → withinLimits w ≡ true → states w ≤ s
-    → RowsOf (next net) base (rowBytes w) s row a b → Filled net base a b
-rows-all net w base s row a b e limits h R =
+pub rows-all : (f : ℕ → List ℕ) (w : Widths) (base s row : ℕ) (a b : List ℕ) → withinLimits w ≡ true → states w ≤ s
+    → RowsOf f base (rowBytes w) s row a b → Shows (λ x t. member t (f x)) w base a b
+rows-all f w base s row a b limits h R =
     let q : states w ≡ rowBytes w * 8 = whole-bytes w limits in
     let n : s ≡ rowBytes w * 8 = omega (arith, R .bound) in
     let z : row ≡ base + rowBytes w * 8 * rowBytes w = R .starts ∙ ap (λ (k : ℕ). base + k * rowBytes w) n in
     record {
       len = R .len;
-      steps = λ x t hx ht.
-          subst (λ (v : Widths). cell b base (rowBytes v) x t ≡ member t (next net x)) e
-          (R .here x t (omega (arith, subst⁻¹ (λ (v : Widths). x < states v) e hx)) (omega (arith, subst⁻¹ (λ (v : Widths). t < states v) e ht)));
+      pairs = λ x t hx ht. R .here x t (omega arith) (omega arith);
       under = R .under;
-      over = λ m l. R .over m (omega (arith, subst⁻¹ (λ (v : Widths). base + planeSize (rowBytes v) ≤ m) e l));
+      over = λ m l. R .over m (omega arith);
     }
+
+-- a plane has room in a buffer that is as long
+pub room-on : (w : Widths) (base : ℕ) (a b : List ℕ) → length b ≡ length a → Room w base a → Room w base b
+room-on w base a b e R = record { limits = R .limits; room = omega (arith, R .room) }
+
+-- pairs that are added to the plane
+module _ (w : Widths) (limits : withinLimits w ≡ true) (base : ℕ) where
+  abbrev rb : ℕ
+  rb = rowBytes w
+
+  place : (s t : ℕ) → (base + s * rb) * 8 + t ≡ base * 8 + pair w s t
+  place s t =
+      let e : s * states w ≡ s * (rb * 8) = ap (λ (k : ℕ). s * k) (whole-bytes w limits) in
+      omega arith
+
+  pub pair-in : (s t : ℕ) → s < states w → t < states w → pair w s t < planeSize rb * 8
+  pair-in s t hs ht =
+      let q : states w ≡ rb * 8 = whole-bytes w limits in
+      let e : s * states w ≡ s * (rb * 8) = ap (λ (k : ℕ). s * k) q in
+      omega (arith, row-before s (rb * 8) rb (omega arith))
+
+  pub plane-pairs : planeSize rb * 8 ≡ states w * states w
+  plane-pairs =
+      let q : states w ≡ rb * 8 = whole-bytes w limits in
+      let e : states w * states w ≡ rb * 8 * (rb * 8) = ap₂ _*_ q q in
+      omega arith
+
+  pub shows-more : (f g : ℕ → ℕ → Bool) (p : ℕ → Bool) (a b c : List ℕ) → Shows f w base a b → Adds p base (planeSize rb) b c
+      → ((s t : ℕ) → s < states w → t < states w → (p (pair w s t) || f s t) ≡ g s t) → Shows g w base a c
+  shows-more f g p a b c F A e = record {
+    len = A .len ∙ F .len;
+    pairs = λ s t hs ht.
+        ap (bit c) (place s t)
+        ∙ A .bits (pair w s t) (pair-in s t hs ht)
+        ∙ ap (λ (x : Bool). p (pair w s t) || x) (ap (bit b) (sym (place s t)) ∙ F .pairs s t hs ht)
+        ∙ e s t hs ht;
+    under = λ m h. A .under m h ∙ F .under m h;
+    over = λ m h. A .over m h ∙ F .over m h;
+  }

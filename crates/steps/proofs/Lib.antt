@@ -8,6 +8,12 @@ pub mod Leading
 pub mod Adding
 pub mod Sending
 pub mod Acting
+pub mod Points
+pub mod Pairs
+pub mod Hops
+pub mod Crossing
 pub mod Linking
 pub mod Stepping
 pub mod Filling
+pub mod Carrying
+pub mod Marking

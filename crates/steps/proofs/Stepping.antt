@@ -1,18 +1,20 @@
 -- The states that a state steps to, by its direction.
 use borrow.Author.Tests.{eq-eqb, ne-eqb}
 use mathlib.Core.Path.{_≡_, refl, sym, ap, _∙_}
-use mathlib.Core.Bool.{Bool, true, false, cond}
+use mathlib.Core.Bool.{Bool, true, false, cond, _||_, or-false}
 use mathlib.Core.List.{List, [], _∷_, map, flatMap, append-nil}
 use Prim.Native.Nat.{ℕ}
+use native.Mathlib.Decide.{ℕ-discrete}
 use lib.Dec.{eqb}
+use Rattle.records.specs.Lists.{any, member}
 use Rattle.records.specs.Record.{Rec, Net, ofKind}
 use Rattle.records.specs.Widths.{widthsOf}
 use Rattle.records.specs.State.{state, headerOf, portOf, switchOf, directionOf}
 use Rattle.records.specs.declared.Widths.{Widths}
 use Rattle.steps.specs.Step.{Arrival, chosen, sent, across, next}
 use Rattle.steps.specs.Choice.{arrival}
-use Rattle.steps.specs.Sent.{relayed}
-use Rattle.steps.specs.Carried.{arriving}
+use Rattle.steps.specs.Sent.{relayed, relays}
+use Rattle.steps.specs.Carried.{arriving, crosses}
 
 module _ (net : Net) (w : Widths) (widths : w ≡ widthsOf net) (s : ℕ) where
   abbrev arrives : Widths → List ℕ
@@ -42,6 +44,23 @@ module _ (net : Net) (w : Widths) (widths : w ≡ widthsOf net) (s : ℕ) where
   unfolding arriving
   next-departing n =
       by-widths ∙ ap (λ (t : Bool). elim t as (λ x. List ℕ) [ true ↦ arrives w | false ↦ departs w ]) (ne-eqb (directionOf w s) 0 n)
+
+  pub relays-arriving : directionOf w s ≡ 0 → relays net w s ≡ relayed net w (arrival (switchOf w s) (portOf w s) (headerOf w s))
+  unfolding relays
+  relays-arriving e = ap (λ (t : Bool). cond t (relayed net w (arrival (switchOf w s) (portOf w s) (headerOf w s))) []) (eq-eqb (directionOf w s) 0 e)
+
+  pub relays-departing : (directionOf w s ≡ 0 → ⊥) → relays net w s ≡ []
+  unfolding relays
+  relays-departing n = ap (λ (t : Bool). cond t (relayed net w (arrival (switchOf w s) (portOf w s) (headerOf w s))) []) (ne-eqb (directionOf w s) 0 n)
+
+  -- a step is a relayed frame, or one that crosses a link
+  pub either-step : (t : ℕ) → (crosses w (λ sw p. across sw p (ofKind 2 net)) s t || member t (relays net w s)) ≡ member t (next net s)
+  unfolding crosses relays member any
+  either-step t = go (ℕ-discrete (directionOf w s) 0)
+    where
+      go : Dec (directionOf w s ≡ 0) → (crosses w (λ sw p. across sw p (ofKind 2 net)) s t || member t (relays net w s)) ≡ member t (next net s)
+      go (yes e) = rw (eq-eqb (directionOf w s) 0 e) (ap (member t) (sym (next-arriving e)))
+      go (no n) = rw (ne-eqb (directionOf w s) 0 n) (or-false _ ∙ ap (member t) (sym (next-departing n)))
 
 module _ (net : Net) (w : Widths) (a : Arrival) where
   pub dropped : a .port ≡ 0 → relayed net w a ≡ []

@@ -1,6 +1,6 @@
 -- What filling leaves in a plane of a lent buffer.
 use mathlib.Core.Path.{_≡_}
-use mathlib.Core.Bool.{true, _||_}
+use mathlib.Core.Bool.{Bool, true, _||_}
 use mathlib.Core.List.{List}
 use Prim.Native.Nat.{ℕ, _+_, _*_, _/_, _^_, _<_, _≤_}
 use lib.ListN.{length, getD}
@@ -21,17 +21,29 @@ pub record Ready (w : Widths) (row h : ℕ) (work : List ℕ) : Type 0 where
   pub room : row + rowBytes w ≤ length work
   pub header : h < 2 ^ w .h
 
--- the bits of the numbers in l are set in the row of w bytes at byte row; every other bit and byte is as before
-pub record Added (l : List ℕ) (row w : ℕ) (before after : List ℕ) : Type 0 where
-  pub len : length after ≡ length before
-  pub bits : (t : ℕ) → t < w * 8 → bit after (row * 8 + t) ≡ (member t l || bit before (row * 8 + t))
-  pub under : (m : ℕ) → m < row → getD after m 0 ≡ getD before m 0
-  pub over : (m : ℕ) → row + w ≤ m → getD after m 0 ≡ getD before m 0
+-- a plane starts at byte base
+pub record Room (w : Widths) (base : ℕ) (work : List ℕ) : Type 0 where
+  pub limits : withinLimits w ≡ true
+  pub room : base + planeSize (rowBytes w) ≤ length work
 
--- the plane at byte base is the step relation: bit (s, t) is set exactly if s steps to t; every other byte is as before
-pub record Filled (net : Net) (base : ℕ) (before after : List ℕ) : Type 0 where
+-- the bits t that pass are set in the n bytes from byte `at` on; every other bit and byte is as before
+pub record Adds (passes : ℕ → Bool) (at n : ℕ) (before after : List ℕ) : Type 0 where
   pub len : length after ≡ length before
-  pub steps : (s t : ℕ) → s < states (widthsOf net) → t < states (widthsOf net)
-      → cell after base (rowBytes (widthsOf net)) s t ≡ member t (next net s)
+  pub bits : (t : ℕ) → t < n * 8 → bit after (at * 8 + t) ≡ (passes t || bit before (at * 8 + t))
+  pub under : (m : ℕ) → m < at → getD after m 0 ≡ getD before m 0
+  pub over : (m : ℕ) → at + n ≤ m → getD after m 0 ≡ getD before m 0
+
+-- the bits of the numbers in l are set in the row of n bytes at byte row
+abbrev pub Added : List ℕ → ℕ → ℕ → List ℕ → List ℕ → Type 0
+Added l row n before after = Adds (λ t. member t l) row n before after
+
+-- the plane at byte base is the relation f: bit (s, t) is set exactly if f s t; every other byte is as before
+pub record Shows (f : ℕ → ℕ → Bool) (w : Widths) (base : ℕ) (before after : List ℕ) : Type 0 where
+  pub len : length after ≡ length before
+  pub pairs : (s t : ℕ) → s < states w → t < states w → cell after base (rowBytes w) s t ≡ f s t
   pub under : (m : ℕ) → m < base → getD after m 0 ≡ getD before m 0
-  pub over : (m : ℕ) → base + planeSize (rowBytes (widthsOf net)) ≤ m → getD after m 0 ≡ getD before m 0
+  pub over : (m : ℕ) → base + planeSize (rowBytes w) ≤ m → getD after m 0 ≡ getD before m 0
+
+-- the plane at byte base is the step relation: bit (s, t) is set exactly if s steps to t
+abbrev pub Filled : Net → ℕ → List ℕ → List ℕ → Type 0
+Filled net base before after = Shows (λ s t. member t (next net s)) (widthsOf net) base before after

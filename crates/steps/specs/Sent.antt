@@ -7,10 +7,11 @@ use lib.Dec.{eqb}
 use Rattle.records.specs.Lists.{keep}
 use Rattle.records.specs.Record.{Rec, Net, at}
 use Rattle.records.specs.Rows.{actionGood}
-use Rattle.records.specs.State.{state, ordinary}
+use Rattle.records.specs.State.{state, headerOf, portOf, switchOf, directionOf, ordinary}
 use Rattle.records.specs.Pattern.{matches, putBits}
 use Rattle.records.specs.declared.Widths.{Widths}
 use Rattle.steps.specs.Step.{Arrival, reached, sent, chosen}
+use Rattle.steps.specs.Choice.{arrival}
 use Rattle.steps.specs.Filled.{rowBytes, Ready, Added}
 
 -- a copy at a switch with a header has its bit in the row
@@ -48,3 +49,7 @@ pub record Acted (w : Widths) (sw : ℕ) (r : Rec) (h i row : ℕ) (before after
 -- what an arrival steps to: at port 0 nothing, else what the records that act send
 unfoldable pub relayed : Net → Widths → Arrival → List ℕ
 relayed net w a = cond (eqb (a .port) 0) [] (flatMap (sent w a) (chosen net a))
+
+-- what a state steps to if it arrives; a departing state is left to the links
+unfoldable pub relays : Net → Widths → ℕ → List ℕ
+relays net w s = cond (eqb (directionOf w s) 0) (relayed net w (arrival (switchOf w s) (portOf w s) (headerOf w s))) []

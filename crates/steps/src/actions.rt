@@ -1,5 +1,6 @@
 // What the actions of a record send.
 use super::state::number;
+use super::state::values;
 use records::Widths;
 use records::links::is_ordinary;
 ghost use mathlib.Core.Path.{_≡_};
@@ -9,20 +10,11 @@ ghost use Prim.Native.Nat.{_^_, _<_};
 ghost use lib.ListN.{length};
 ghost use Rattle.records.specs.Lists.{from};
 ghost use Rattle.records.specs.Rows.{actionsGood};
-ghost use Rattle.records.specs.Widths.{withinLimits};
 ghost use Rattle.records.specs.Pattern.{patternGood};
 ghost use Rattle.steps.specs.Step.{reached, sent};
 ghost use Rattle.steps.specs.Choice.{arrival, ofBody};
 ghost use Rattle.steps.specs.Filled.{rowBytes, Added};
 ghost use Rattle.steps.specs.Sent.{Sends, departing, flooded, UsedAction, Acted};
-
-// The number of ports of a switch.
-pub fn ports(w: Widths) -> u8
-    requires { ⌜ withinLimits w ≡ true ⌝ }
-    ensures { λ r. ⌜ r ≡ 2 ^ w .p ⌝ }
-{
-    1u8 << w.p
-}
 
 // Sends a copy to port q, if OUTPUT with stars reaches it.
 fn offer(work: &mut [u8], row: usize, w: Widths, sw: u8, value: u8, care: u8, h: u8, q: u8)
@@ -45,7 +37,7 @@ fn flood(work: &mut [u8], row: usize, w: Widths, sw: u8, value: u8, care: u8, h:
     requires { ⌜ patternGood (w .p) value care ≡ true ⌝ }
     ensures { λ _. ⌜ Added (departing w sw h (flooded w value care (from 0 (2 ^ w .p)))) row (rowBytes w) (now (work .entry)) (now (work .exit)) ⌝ }
 {
-    let end = ports(w);
+    let end = values(w.p);
     let mut q: u8 = 0;
     while q < end {
         offer(work, row, w, sw, value, care, h, q);
@@ -59,7 +51,7 @@ fn output(work: &mut [u8], row: usize, w: Widths, sw: u8, value: u8, care: u8, h
     requires { ⌜ patternGood (w .p) value care ≡ true ⌝ }
     ensures { λ _. ⌜ Added (departing w sw h (reached w value care)) row (rowBytes w) (now (work .entry)) (now (work .exit)) ⌝ }
 {
-    let all = ports(w) - 1;
+    let all = values(w.p) - 1;
     if care == all {
         planes::set_at(work, row, number(w, 1, sw, value, h));
     } else {

@@ -1,28 +1,32 @@
 // One step of a packet state.
 use actions::run;
 use choice::choose;
-use links::cross;
-use links::is_linked;
+use records::Widths;
 use records::links::is_ordinary;
 use records::scan::Layout;
 use state::direction;
 use state::header;
+use state::join;
 use state::port;
 use state::switch;
 ghost use mathlib.Core.Path.{_≡_};
+ghost use mathlib.Core.Bool.{true};
 ghost use Prim.Native.Nat.{_+_, _≤_};
 ghost use lib.ListN.{length};
 ghost use Rattle.planes.specs.Plane.{planeSize};
-ghost use Rattle.records.specs.Record.{records};
-ghost use Rattle.steps.specs.Step.{next, external};
+ghost use Rattle.records.specs.Lists.{member};
+ghost use Rattle.records.specs.Record.{Net, records};
+ghost use Rattle.records.specs.Widths.{withinLimits, widthsOf};
+ghost use Rattle.steps.specs.Step.{external};
 ghost use Rattle.steps.specs.Choice.{arrival};
-ghost use Rattle.steps.specs.Filled.{rowBytes, Added, Filled};
-ghost use Rattle.steps.specs.Sent.{Sends, relayed};
+ghost use Rattle.steps.specs.Filled.{rowBytes, Added, Shows, Filled};
+ghost use Rattle.steps.specs.Sent.{Sends, relayed, relays};
+ghost use Rattle.steps.specs.Carried.{LinkedPoints};
 ghost use Rattle.steps.specs.Stored.{Stored};
 
 mod actions;
 mod choice;
-mod links;
+pub mod links;
 mod state;
 
 // Adds what an arrival steps to.
@@ -41,20 +45,44 @@ fn relay(work: &mut [u8], row: usize, store: &[u8], n: usize, l: Layout, sw: u8,
     run(work, row, w, sw, p, &store[a..e], h);
 }
 
-// Adds the states that s steps to.
-fn add_steps(work: &mut [u8], row: usize, store: &[u8], n: usize, l: Layout, s: usize)
+// Adds the states that s steps to, if it arrives.
+fn relay_state(work: &mut [u8], row: usize, store: &[u8], n: usize, l: Layout, s: usize)
     requires { ⌜ row + rowBytes (l .widths) ≤ length (now work) ⌝ }
     requires { ⌜ Stored n l (now store) ⌝ }
-    ensures { λ _. ⌜ Added (next (records n (now (store .entry))) s) row (rowBytes (l .widths)) (now (work .entry)) (now (work .exit)) ⌝ }
+    ensures { λ _. ⌜ Added (relays (records n (now (store .entry))) (l .widths) s) row (rowBytes (l .widths)) (now (work .entry)) (now (work .exit)) ⌝ }
 {
     let w = l.widths;
-    let sw = switch(w, s);
-    let p = port(w, s);
-    let h = header(w, s);
-    if direction(w, s) == 0 {
-        relay(work, row, store, n, l, sw, p, h);
-    } else {
-        cross(work, row, store, n, l, sw, p, h);
+    if direction(w, s) != 0 {
+        return;
+    }
+    relay(
+        work,
+        row,
+        store,
+        n,
+        l,
+        switch(w, s),
+        port(w, s),
+        header(w, s),
+    );
+}
+
+// Fills the plane at byte base with the steps of arriving states.
+fn fill_arriving(work: &mut [u8], base: usize, store: &[u8], n: usize, l: Layout)
+    requires { ⌜ base + planeSize (rowBytes (l .widths)) ≤ length (now work) ⌝ }
+    requires { ⌜ Stored n l (now store) ⌝ }
+    ensures { λ _. ⌜ Shows (λ s t. member t (relays (records n (now (store .entry))) (l .widths) s)) (l .widths) base (now (work .entry)) (now (work .exit)) ⌝ }
+{
+    let w = l.widths;
+    let states = w.states();
+    let bytes = states / 8;
+    let mut row = base;
+    let mut s: usize = 0;
+    while s < states {
+        planes::clear(work, row, bytes);
+        relay_state(work, row, store, n, l, s);
+        row += bytes;
+        s += 1;
     }
 }
 
@@ -64,28 +92,18 @@ pub fn fill_steps(work: &mut [u8], base: usize, store: &[u8], n: usize, l: Layou
     requires { ⌜ Stored n l (now store) ⌝ }
     ensures { λ _. ⌜ Filled (records n (now (store .entry))) base (now (work .entry)) (now (work .exit)) ⌝ }
 {
-    let w = l.widths;
-    let states = w.states();
-    let bytes = states / 8;
-    let mut row = base;
-    let mut s: usize = 0;
-    while s < states {
-        planes::clear(work, row, bytes);
-        add_steps(work, row, store, n, l, s);
-        row += bytes;
-        s += 1;
-    }
+    fill_arriving(work, base, store, n, l);
+    links::cross(work, base, store, n, l);
 }
 
-// The point of a state is external.
-pub fn is_external(store: &[u8], n: usize, l: Layout, s: usize) -> bool
-    requires { ⌜ Stored n l (now store) ⌝ }
-    ensures { λ r. ⌜ r ≡ external (records n (now (store .entry))) s ⌝ }
+// The point of a state is external, given the points where links end.
+pub fn is_external(points: &[u8; 32], w: Widths, s: usize) -> bool
+    requires { ⌜ withinLimits w ≡ true ⌝ }
+    ensures { λ r. ⌜ ((net : Net) → w ≡ widthsOf net → LinkedPoints net w (now (points .entry)) → r ≡ external net s) ⌝ }
 {
-    let w = l.widths;
     let p = port(w, s);
     if !is_ordinary(w, p) {
         return false;
     }
-    !is_linked(store, n, l, switch(w, s), p)
+    !planes::get_bit(points, join(switch(w, s) as usize, w.p, p))
 }

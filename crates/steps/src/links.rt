@@ -1,86 +1,103 @@
-// What links carry, and which points are linked.
+// What links carry, and where they end.
+use super::state::join;
 use super::state::number;
+use super::state::values;
 use records::Widths;
-use records::links::same_point;
 use records::scan::Layout;
 ghost use mathlib.Core.Path.{_≡_};
 ghost use mathlib.Core.Bool.{true};
 ghost use mathlib.Core.List.{[], _∷_};
+ghost use Prim.Native.Nat.{_^_, _<_};
+ghost use lib.Dec.{eqb};
 ghost use lib.ListN.{length};
-ghost use Rattle.records.specs.Record.{records, ofKind, endsAt, linked};
+ghost use Rattle.planes.specs.Plane.{planeSize};
+ghost use Rattle.planes.specs.Rows.{BitSet};
+ghost use Rattle.records.specs.Record.{records, ofKind};
 ghost use Rattle.records.specs.Rows.{pointGood};
+ghost use Rattle.records.specs.State.{state};
+ghost use Rattle.records.specs.Widths.{withinLimits};
 ghost use Rattle.steps.specs.Step.{across};
 ghost use Rattle.steps.specs.Choice.{ofBody};
-ghost use Rattle.steps.specs.Filled.{rowBytes, Ready, Added};
-ghost use Rattle.steps.specs.Carried.{arriving, oneWay, Ends};
+ghost use Rattle.steps.specs.Filled.{rowBytes, Room, Adds};
+ghost use Rattle.steps.specs.Carried.{oneWay, Ends, pair, pairs, crosses, point, LinkedPoints};
 ghost use Rattle.steps.specs.Stored.{Stored};
 
-// Carries a frame from the point (sw, p), if it is (a, b), to the point (c, d).
-fn carry(work: &mut [u8], row: usize, w: Widths, a: u8, b: u8, c: u8, d: u8, sw: u8, p: u8, h: u8)
-    requires { ⌜ Ready w row h (now work) ⌝ }
-    requires { ⌜ pointGood w c d ≡ true ⌝ }
-    ensures { λ _. ⌜ Added (arriving w h (oneWay a b c d sw p)) row (rowBytes w) (now (work .entry)) (now (work .exit)) ⌝ }
+// Carries a frame with header h from the point (a, b) to the point (c, d).
+fn hop(work: &mut [u8], base: usize, w: Widths, a: u8, b: u8, c: u8, d: u8, h: u8)
+    requires { ⌜ Room w base (now work) ⌝ }
+    requires { ⌜ (pointGood w a b ≡ true) × (pointGood w c d ≡ true) × (h < 2 ^ w .h) ⌝ }
+    ensures { λ _. ⌜ Adds (λ n. eqb n (pair w (state w 1 a b h) (state w 0 c d h))) base (planeSize (rowBytes w)) (now (work .entry)) (now (work .exit)) ⌝ }
 {
-    if !same_point(a, b, sw, p) {
-        return;
-    }
-    planes::set_at(work, row, number(w, 0, c, d, h));
+    let departs = number(w, 1, a, b, h);
+    let arrives = number(w, 0, c, d, h);
+    planes::set_at(work, base, departs * w.states() + arrives);
 }
 
-// Carries a frame from the point (sw, p) over a link, both ways.
-fn follow(work: &mut [u8], row: usize, w: Widths, link: &[u8], sw: u8, p: u8, h: u8)
-    requires { ⌜ Ready w row h (now work) ⌝ }
+// Carries the frames of every header from the point (a, b) to the point (c, d).
+fn carry(work: &mut [u8], base: usize, w: Widths, a: u8, b: u8, c: u8, d: u8)
+    requires { ⌜ Room w base (now work) ⌝ }
+    requires { ⌜ (pointGood w a b ≡ true) × (pointGood w c d ≡ true) ⌝ }
+    ensures { λ _. ⌜ Adds (pairs w (crosses w (oneWay a b c d))) base (planeSize (rowBytes w)) (now (work .entry)) (now (work .exit)) ⌝ }
+{
+    let end = values(w.h);
+    let mut h: u8 = 0;
+    while h < end {
+        hop(work, base, w, a, b, c, d, h);
+        h += 1;
+    }
+}
+
+// Carries frames over a link, both ways.
+fn follow(work: &mut [u8], base: usize, w: Widths, link: &[u8])
+    requires { ⌜ Room w base (now work) ⌝ }
     requires { ⌜ (length (now link) ≡ 4) × Ends w (ofBody (now link)) ⌝ }
-    ensures { λ _. ⌜ Added (arriving w h (across sw p (ofBody (now (link .entry)) ∷ []))) row (rowBytes w) (now (work .entry)) (now (work .exit)) ⌝ }
+    ensures { λ _. ⌜ Adds (pairs w (crosses w (λ sw p. across sw p (ofBody (now (link .entry)) ∷ [])))) base (planeSize (rowBytes w)) (now (work .entry)) (now (work .exit)) ⌝ }
 {
     let a = link[0];
     let b = link[1];
     let c = link[2];
     let d = link[3];
-    carry(work, row, w, a, b, c, d, sw, p, h);
-    carry(work, row, w, c, d, a, b, sw, p, h);
+    carry(work, base, w, a, b, c, d);
+    carry(work, base, w, c, d, a, b);
 }
 
-// Carries a frame from the point (sw, p) over the links that end there.
-pub fn cross(work: &mut [u8], row: usize, store: &[u8], n: usize, l: Layout, sw: u8, p: u8, h: u8)
-    requires { ⌜ Ready (l .widths) row h (now work) ⌝ }
+// Carries frames over every link.
+pub fn cross(work: &mut [u8], base: usize, store: &[u8], n: usize, l: Layout)
+    requires { ⌜ Room (l .widths) base (now work) ⌝ }
     requires { ⌜ Stored n l (now store) ⌝ }
-    ensures { λ _. ⌜ Added (arriving (l .widths) h (across sw p (ofKind 2 (records n (now (store .entry)))))) row (rowBytes (l .widths)) (now (work .entry)) (now (work .exit)) ⌝ }
+    ensures { λ _. ⌜ Adds (pairs (l .widths) (crosses (l .widths) (λ sw p. across sw p (ofKind 2 (records n (now (store .entry))))))) base (planeSize (rowBytes (l .widths))) (now (work .entry)) (now (work .exit)) ⌝ }
 {
     let w = l.widths;
     let mut i: usize = 1;
     while i < l.misses {
         let a = i * 24 + 1;
         let e = a + 4;
-        follow(work, row, w, &store[a..e], sw, p, h);
+        follow(work, base, w, &store[a..e]);
         i += 1;
     }
 }
 
-// The link ends at the point (sw, p).
-fn ends_at(link: &[u8], sw: u8, p: u8) -> bool
-    requires { ⌜ length (now link) ≡ 4 ⌝ }
-    ensures { λ r. ⌜ r ≡ endsAt sw p (ofBody (now (link .entry))) ⌝ }
+// Marks the point (sw, p).
+fn mark(points: &mut [u8; 32], w: Widths, sw: u8, p: u8)
+    requires { ⌜ (withinLimits w ≡ true) × (pointGood w sw p ≡ true) ⌝ }
+    ensures { λ _. ⌜ BitSet (point w sw p) (now (points .entry)) (now (points .exit)) ⌝ }
 {
-    if same_point(link[0], link[1], sw, p) {
-        return true;
-    }
-    same_point(link[2], link[3], sw, p)
+    planes::set_bit(points, join(sw as usize, w.p, p));
 }
 
-// Some link ends at the point (sw, p).
-pub fn is_linked(store: &[u8], n: usize, l: Layout, sw: u8, p: u8) -> bool
+// The points where links end.
+pub fn linked_points(store: &[u8], n: usize, l: Layout) -> [u8; 32]
     requires { ⌜ Stored n l (now store) ⌝ }
-    ensures { λ r. ⌜ r ≡ linked (records n (now (store .entry))) sw p ⌝ }
+    ensures { λ r. ⌜ LinkedPoints (records n (now (store .entry))) (l .widths) r ⌝ }
 {
+    let w = l.widths;
+    let mut points = [0u8; 32];
     let mut i: usize = 1;
     while i < l.misses {
-        let a = i * 24 + 1;
-        let e = a + 4;
-        if ends_at(&store[a..e], sw, p) {
-            return true;
-        }
+        let a = i * 24;
+        mark(&mut points, w, store[a + 1], store[a + 2]);
+        mark(&mut points, w, store[a + 3], store[a + 4]);
         i += 1;
     }
-    false
+    points
 }

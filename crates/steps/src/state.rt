@@ -7,7 +7,7 @@ ghost use Rattle.records.specs.Widths.{withinLimits};
 ghost use Rattle.records.specs.State.{state, headerOf, portOf, switchOf, directionOf};
 
 // The number with low in its k bits below a.
-fn join(a: usize, k: u8, low: u8) -> usize
+pub fn join(a: usize, k: u8, low: u8) -> usize
     requires { ⌜ (a < 16777216) × (k ≤ 6) ⌝ }
     ensures { λ r. ⌜ r ≡ a * 2 ^ k + low ⌝ }
 {
@@ -22,6 +22,14 @@ pub fn number(w: Widths, d: u8, sw: u8, p: u8, h: u8) -> usize
     let a = join(d as usize, w.w, sw);
     let b = join(a, w.p, p);
     join(b, w.h, h)
+}
+
+// How many values k bits have.
+pub fn values(k: u8) -> u8
+    requires { ⌜ k ≤ 6 ⌝ }
+    ensures { λ r. ⌜ r ≡ 2 ^ k ⌝ }
+{
+    1u8 << k
 }
 
 // The k bits of s from bit i on.

@@ -3,7 +3,7 @@ use mathlib.Core.Path.{_≡_, refl, sym, ap, _∙_}
 use mathlib.Core.Bool.{Bool, true, false, not, _||_, or-true, or-false}
 use mathlib.Core.List.{List}
 use mathlib.Core.Logic.{_⊎_, inl, inr}
-use Prim.Native.Nat.{ℕ, zero, suc, _+_, _/_, _%_, _^_, _≤_, _<_}
+use Prim.Native.Nat.{ℕ, _+_, _/_, _%_, _^_, _≤_, _<_}
 use native.Mathlib.Nat.{not-suc-le-zero}
 use native.Mathlib.Omega.{arith}
 use borrow.Author.Count.{below-more}
@@ -14,6 +14,7 @@ use lib.Seq.{getD-set-same, getD-set-other, set-getD}
 use lib.Bits.{bitOr, bitXor, xor-shr, xor-mod, or-zero-r}
 use Rattle.planes.specs.Bit.{bitOf}
 use Rattle.planes.specs.Plane.{bit}
+use Rattle.planes.specs.Laws.Rows.{no-bit}
 use Rattle.planes.specs.Laws.Bits.{bit-and, bit-or, bit-not, bit-zero, digit-cases}
 use Rattle.planes.proofs.Setting.{bit-set}
 use Rattle.verdict.specs.declared.rows.Op.{Op}
@@ -71,17 +72,8 @@ pub record Upto (f : ℕ → Bool) (z : ℕ) (r : List ℕ) : Type 0 where
   pub done : (y : ℕ) → y < z → bit r y ≡ f y
   pub blank : (y : ℕ) → z ≤ y → bit r y ≡ false
 
-no-byte : (n j : ℕ) → getD {A = ℕ} (replicate n 0) j 0 ≡ 0
-no-byte zero j = refl
-no-byte (suc n) zero = refl
-no-byte (suc n) (suc j) = no-byte n j
-
 pub upto-none : (f : ℕ → Bool) → Upto f 0 (replicate 128 0)
-unfolding bit
-upto-none f = record {
-  done = λ y h. absurd (not-suc-le-zero h);
-  blank = λ y h. ap (λ (c : ℕ). bitOf c (y % 8)) (no-byte 128 (y / 8)) ∙ bit-zero (y % 8);
-}
+upto-none f = record { done = λ y h. absurd (not-suc-le-zero h); blank = λ y h. no-bit 128 y }
 
 pub upto-more : (f : ℕ → Bool) (z : ℕ) (r e : List ℕ) (t : Bool) → Upto f z r → Pushed z t r e → t ≡ f z → Upto f (z + 1) e
 upto-more f z r e t U P q = record {

@@ -18,7 +18,7 @@ use Rattle.records.specs.Rows.{workNeeded}
 use Rattle.records.specs.declared.Widths.{Widths}
 use Rattle.records.specs.declared.scan.Layout.{Layout}
 use Rattle.records.specs.Laws.Limits.{limits}
-use Rattle.records.specs.Laws.States.{whole-bytes}
+use Rattle.records.specs.Laws.States.{whole-bytes, few-states}
 use Rattle.steps.specs.Step.{Step, external}
 use Rattle.steps.specs.Filled.{rowBytes, Filled}
 use Rattle.verdict.specs.declared.judge.Judged.{Judged}
@@ -38,10 +38,6 @@ plane-bytes w e =
     let p : 2 ^ (2 * n) ≡ r * 8 * r * 8 =
     ap (λ (i : ℕ). 2 ^ i) d ∙ pow-add 2 n n ∙ ap₂ _*_ q q ∙ sym (mul-assoc (r * 8) r 8) in
     omega (arith, p)
-
-pub few-states : (w : Widths) → withinLimits w ≡ true → states w ≤ 1024
-unfolding states
-few-states w e = pow-mono (limits w e .bits)
 
 -- the work that a network needs is that of its planes
 pub needed : (net : Net) → withinLimits (widthsOf net) ≡ true → workNeeded net ≡ planeAt (rowBytes (widthsOf net)) (longest net)
@@ -86,7 +82,7 @@ module _ (end : ℕ) (l : Layout) (store : List ℕ) where
       model = record {
         counts = bits;
         steps = λ x y hx hy.
-            let e = F .steps x y (omega (arith, bits)) (omega (arith, bits)) in
+            let e = F .pairs x y (omega (arith, bits)) (omega (arith, bits)) in
             (λ t. sym e ∙ t, λ t. e ∙ t);
         externals = λ x hx. let e = R .is x (omega (arith, bits)) in (λ t. sym e ∙ t, λ t. e ∙ t);
       };

@@ -68,10 +68,12 @@ fn externals(store: &[u8], end: usize, l: Layout, s: usize) -> [u8; 128]
     requires { ⌜ s ≤ 1024 ⌝ }
     ensures { λ r. ⌜ Row (external (records end (now (store .entry)))) s r ⌝ }
 {
+    let w = l.widths;
+    let points = steps::links::linked_points(store, end, l);
     let mut r = [0u8; 128];
     let mut z: usize = 0;
     while z < s {
-        let t = steps::is_external(store, end, l, z);
+        let t = steps::is_external(&points, w, z);
         rows::push(&mut r, z, t);
         z += 1;
     }

@@ -1,11 +1,11 @@
 -- Laws of the numbers of packet states, over the widths.
 use mathlib.Core.Path.{_≡_, sym, ap, ap₂, subst, subst⁻¹, _∙_}
 use mathlib.Core.Bool.{true}
-use Prim.Native.Nat.{ℕ, _+_, _-_, _*_, _/_, _%_, _^_, _<_}
+use Prim.Native.Nat.{ℕ, _+_, _-_, _*_, _/_, _%_, _^_, _<_, _≤_}
 use native.Mathlib.Nat.{mod-lt}
 use native.Mathlib.Omega.{arith}
 use lib.Arith.{digits-lt}
-use lib.Pow.{pow-pos, pow-add, shr-lt, shr-shr, split, high, low}
+use lib.Pow.{pow-pos, pow-mono, pow-add, shr-lt, shr-shr, split, high, low}
 use Rattle.records.specs.Widths.{width, states, withinLimits}
 use Rattle.records.specs.State.{state, headerOf, portOf, switchOf, directionOf}
 use Rattle.records.specs.declared.Widths.{Widths}
@@ -117,3 +117,8 @@ whole-bytes w e =
     let q : width w - 3 + 3 ≡ width w = omega arith in
     subst (λ (m : ℕ). 2 ^ m ≡ 2 ^ m / 8 * 8) q
     (subst (λ (p : ℕ). p ≡ p / 8 * 8) (sym (pow-add 2 (width w - 3) 3)) (omega arith))
+
+-- there are at most 1024
+pub few-states : (w : Widths) → withinLimits w ≡ true → states w ≤ 1024
+unfolding states
+few-states w e = pow-mono {j = 10} (limits w e .bits)

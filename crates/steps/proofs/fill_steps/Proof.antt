@@ -1,104 +1,40 @@
+use borrow.Author.Needs.{needs}
 use denote.Ref.{now}
-use mathlib.Core.Path.{_≡_, ap, subst, subst⁻¹}
-use Prim.Native.Nat.{ℕ, _+_, _-_, _*_, _/_, _≤_, _<_}
-use native.Mathlib.Omega.{arith}
-use lib.ListN.{length}
-use Rattle.planes.specs.Rows.{Cleared}
-use Rattle.records.specs.Record.{records}
-use Rattle.records.specs.Widths.{states}
-use Rattle.records.specs.Laws.Limits.{limits}
-use Rattle.records.specs.Laws.States.{whole-bytes}
-use Rattle.steps.specs.Step.{next}
-use Rattle.steps.specs.Filled.{rowBytes}
-use Rattle.steps.proofs.Filling.{RowsOf, rows-none, rows-more, rows-all, row-inside}
+use mathlib.Core.Path.{ap, ap₂, subst, _∙_}
+use mathlib.Core.Bool.{Bool, _||_}
+use mathlib.Core.List.{List}
+use Prim.Native.Nat.{ℕ}
+use Rattle.records.specs.Lists.{member}
+use Rattle.records.specs.Record.{records, ofKind}
+use Rattle.records.specs.declared.Widths.{Widths}
+use Rattle.steps.specs.Step.{across, next}
+use Rattle.steps.specs.Filled.{Shows}
+use Rattle.steps.specs.Sent.{relays}
+use Rattle.steps.specs.Carried.{crosses}
+use Rattle.steps.proofs.Pairs.{pair-first, pair-second}
+use Rattle.steps.proofs.Filling.{room-on, shows-more}
+use Rattle.steps.proofs.Stepping.{either-step}
 use Rattle.steps.proofs.fill_steps.Statement.{statement}
 use Rattle.steps.proofs.fill_steps.Tie as tie
 
--- the rows of the states below s are filled
-abbrev Inv-loop : tie.InvT-loop
-Inv-loop work₀ base store n l states bytes row₀ s₀ work row s = RowsOf (next (records n store)) base (rowBytes (l .widths)) s row work₀ work
+cross-requires : tie.Need-cross-requires
+cross-requires c κs =
+    let s = c .before .before .before .before .before .before .before in
+    (room-on _ _ (now (s .args .work)) (c .before .before .before .fill-arriving .last .0) (c .before .before .before .fill-arriving .ensures .len) (record { limits = s .pre .1 .laid .limits; room = s .pre .0 }), s .pre .1)
 
-abbrev μ-loop : tie.MeasureT-loop
-μ-loop work₀ base store n l states bytes row₀ s₀ work row s = states - s
-
-states-requires : tie.Need-states-requires Inv-loop μ-loop
-states-requires c κs = limits (c .before .before .before .args .l .widths) (c .before .before .before .pre .1 .laid .limits) .bits
-
-loop-holds : tie.Need-loop-holds Inv-loop μ-loop
-loop-holds c = rows-none _ _ _ _
-
--- in a turn, there is a row for state s, and it lies in the buffer
-bytes-are : (c : tie.After-states Inv-loop μ-loop) → c .states .result / 8 ≡ rowBytes (c .before .before .before .before .args .l .widths)
-bytes-are c = ap (λ (n : ℕ). n / 8) (c .states .ensures)
-
-has-row : (c : tie.In-loop Inv-loop μ-loop) → c .before .loop .s < rowBytes (c .before .before .before .before .before .before .args .l .widths) * 8
-has-row c =
-    let n = c .before .before in
-    let a = n .before .before .before .before in
-    omega (arith, n .states .ensures, c .loop-test .taken, whole-bytes (a .args .l .widths) (a .pre .1 .laid .limits))
-
-inside : (c : tie.In-loop Inv-loop μ-loop) → c .before .loop .row + rowBytes (c .before .before .before .before .before .before .args .l .widths) ≤ length (c .before .loop .work)
-inside c =
-    let s = c .before .before .before .before .before .before in
-    row-inside (next (records (s .args .n) (now (s .args .store)))) (s .args .base) (rowBytes (s .args .l .widths)) (c .before .loop .s) (c .before .loop .row)
-    (now (s .args .work)) (c .before .loop .work) (c .before .loop .inv) (has-row c) (s .pre .0)
-
-clear-requires : tie.Need-clear-requires Inv-loop μ-loop
-clear-requires c κs = omega (arith, inside (c .before), bytes-are (c .before .before .before))
-
-add-steps-requires : tie.Need-add-steps-requires Inv-loop μ-loop
-add-steps-requires c κs =
-    let k = c .before .before .before in
-    (omega (arith, inside (k .before .before), k .clear .ensures .len), k .before .before .before .before .before .before .before .before .pre .1)
-
-add-row : tie.Need-add-row Inv-loop μ-loop
-add-row c =
-    let t = c .before .before .before .before .before .before .before .before in
-    omega (arith, inside t, bytes-are (t .before .before), t .before .loop .inv .len)
-
-add-s : tie.Need-add-s Inv-loop μ-loop
-add-s c = omega (arith, c .before .before .before .before .before .before .before .before .loop-test .taken)
-
-loop-less : tie.Need-loop-less Inv-loop μ-loop
-loop-less c = omega arith
-
-loop-again : tie.Need-loop-again Inv-loop μ-loop
-loop-again c =
-    let k = c .before .before .before .before .before .before in
-    let t = k .before .before in
-    let n = t .before .before in
-    let a = n .before .before .before .before .args in
-    let o = t .before .loop in
-    let e = bytes-are n in
-    subst⁻¹ (λ (m : ℕ). RowsOf (next (records (a .n) (now (a .store)))) (a .base) (rowBytes (a .l .widths)) (o .s + 1) (o .row + m) (now (a .work)) (c .before .before .add-steps .last .0)) e
-    (rows-more (next (records (a .n) (now (a .store)))) (a .base) (rowBytes (a .l .widths)) (o .s) (o .row) (now (a .work)) (o .work) (k .clear .last .0) (c .before .before .add-steps .last .0)
-    (o .inv) (has-row t) (subst (λ (m : ℕ). Cleared (o .row) m (o .work) (k .clear .last .0)) e (k .clear .ensures)) (c .before .before .add-steps .ensures))
-
-same-length : tie.Need-same-length Inv-loop μ-loop
-same-length c = c .before .loop .inv .len
-
-returns : tie.Need-returns Inv-loop μ-loop
+returns : tie.Need-returns
 returns c =
-    let o = c .before .loop in
-    let n = c .before .before in
-    let s = n .before .before .before .before in
+    let f = c .before .before .before .before .before .before in
+    let s = f .before .before .before .before in
     let a = s .args in
-    rows-all (records (a .n) (now (a .store))) (a .l .widths) (a .base) (o .s) (o .row) (now (a .work)) (o .work) (s .pre .1 .laid .widths) (s .pre .1 .laid .limits)
-    (subst (λ (m : ℕ). m ≤ o .s) (n .states .ensures) (c .loop-test .left)) (o .inv)
+    let w = a .l .widths in
+    let net = records (a .n) (now (a .store)) in
+    let ends : ℕ → ℕ → List (ℕ × ℕ) = λ sw p. across sw p (ofKind 2 net) in
+    subst (λ (v : Widths). Shows (λ x t. member t (next net x)) v (a .base) (now (a .work)) (c .before .before .cross .last .0)) (s .pre .1 .laid .widths)
+    (shows-more w (s .pre .1 .laid .limits) (a .base) (λ x t. member t (relays net w x)) (λ x t. member t (next net x)) _ _ _ _ (f .fill-arriving .ensures) (c .before .before .cross .ensures)
+    (λ x t hx ht.
+    ap (λ (b : Bool). b || member t (relays net w x)) (ap₂ (crosses w ends) (pair-first w x t ht) (pair-second w x t ht))
+    ∙ either-step net w (s .pre .1 .laid .widths) x t))
 
 pub fill-steps-spec : {M : Type 1} → statement M
-fill-steps-spec =
-    tie.close
-    (tie.spec
-    Inv-loop
-    μ-loop
-    states-requires
-    loop-holds
-    clear-requires
-    add-steps-requires
-    add-row
-    add-s
-    loop-less
-    loop-again
-    same-length
-    returns)
+fill-steps-spec = tie.close (tie.spec (λ c κs. search needs) cross-requires (λ c. search needs) returns)

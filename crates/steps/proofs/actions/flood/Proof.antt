@@ -1,13 +1,13 @@
-use borrow.Author.Needs.{needs}
 use denote.Ref.{now}
 use mathlib.Core.Path.{_≡_, refl, subst, _∙_}
 use Prim.Native.Nat.{ℕ, _-_, _^_, _≤_}
 use native.Mathlib.Omega.{arith}
 use lib.ListN.{length}
 use Rattle.records.specs.Lists.{keep, from}
+use Rattle.records.specs.Laws.Limits.{limits}
 use Rattle.steps.specs.Filled.{rowBytes, Added}
 use Rattle.steps.specs.Sent.{departing, flooded}
-use Rattle.steps.proofs.Adding.{Toward, toward-more, added-none}
+use Rattle.steps.proofs.Adding.{TowardList, list-more, added-none}
 use Rattle.steps.proofs.Sending.{sends-on, ports-left}
 use Rattle.steps.proofs.actions.flood.Statement.{statement}
 use Rattle.steps.proofs.actions.flood.Tie as tie
@@ -16,7 +16,7 @@ use Rattle.steps.proofs.actions.flood.Tie as tie
 abbrev Inv-loop : tie.InvT-loop
 Inv-loop work₀ row w sw value care h end q₀ work q =
     (end ≡ 2 ^ w .p) × (q ≤ end) × (length work ≡ length work₀)
-    × Toward row (rowBytes w) (departing w sw h (flooded w value care (from 0 (2 ^ w .p)))) (departing w sw h (flooded w value care (from q (end - q)))) work₀ work
+    × TowardList row (rowBytes w) (departing w sw h (flooded w value care (from 0 (2 ^ w .p)))) (departing w sw h (flooded w value care (from q (end - q)))) work₀ work
 
 abbrev μ-loop : tie.MeasureT-loop
 μ-loop work₀ row w sw value care h end q₀ work q = end - q
@@ -24,8 +24,11 @@ abbrev μ-loop : tie.MeasureT-loop
 loop-holds : tie.Need-loop-holds Inv-loop μ-loop
 loop-holds c =
     let a = c .before .before .args in
-    let e : c .ports .result - 0 ≡ 2 ^ a .w .p = omega (arith, c .ports .ensures) in
-    (c .ports .ensures, omega arith, refl, λ d R. subst (λ (k : ℕ). Added (departing (a .w) (a .sw) (a .h) (flooded (a .w) (a .value) (a .care) (from 0 k))) (a .row) (rowBytes (a .w)) (now (a .work)) d) e R)
+    let e : c .values .result - 0 ≡ 2 ^ a .w .p = omega (arith, c .values .ensures) in
+    (c .values .ensures, omega arith, refl, λ d R. subst (λ (k : ℕ). Added (departing (a .w) (a .sw) (a .h) (flooded (a .w) (a .value) (a .care) (from 0 k))) (a .row) (rowBytes (a .w)) (now (a .work)) d) e R)
+
+values-requires : tie.Need-values-requires Inv-loop μ-loop
+values-requires c κs = omega (arith, limits (c .before .args .w) (c .before .pre .0 .ready .limits) .high-p)
 
 offer-requires : tie.Need-offer-requires Inv-loop μ-loop
 offer-requires c κs =
@@ -34,7 +37,7 @@ offer-requires c κs =
     (sends-on (s .args .w) (s .args .row) (s .args .sw) (s .args .h) (s .args .h) (now (s .args .work)) (o .work) (o .inv .2) (s .pre .0 .ready .header) (s .pre .0), (s .pre .1, omega arith))
 
 add-q : tie.Need-add-q Inv-loop μ-loop
-add-q c = omega (arith, c .before .before .before .before .before .before .ports .ok)
+add-q c = omega (arith, c .before .before .before .before .before .before .values .ok)
 
 loop-less : tie.Need-loop-less Inv-loop μ-loop
 loop-less c = omega arith
@@ -42,13 +45,13 @@ loop-less c = omega arith
 loop-again : tie.Need-loop-again Inv-loop μ-loop
 loop-again c =
     let a = c .before .before .before .before .before .before .before .before .args in
-    let e = c .before .before .before .before .before .before .ports .result in
+    let e = c .before .before .before .before .before .before .values .result in
     let o = c .before .before .before .before .before .loop in
     let A = c .before .before .offer .ensures in (
       o .inv .0,
       omega arith,
       A .len ∙ o .inv .2,
-      toward-more (a .row) (rowBytes (a .w)) _ _ _ _ _ _ _
+      list-more (a .row) (rowBytes (a .w)) _ _ _ _ _ _ _
           (ports-left (a .w) (a .sw) (a .value) (a .care) (a .h) (o .q) e (c .before .before .before .before .loop-test .taken)) (o .inv .3) A,
     )
 
@@ -59,7 +62,7 @@ returns : tie.Need-returns Inv-loop μ-loop
 unfolding departing flooded from keep
 returns c =
     let o = c .before .loop in
-    let e : c .before .before .ports .result - o .q ≡ 0 = omega arith in
+    let e : c .before .before .values .result - o .q ≡ 0 = omega arith in
     o .inv .3 (o .work) (rw e (added-none _ _ _))
 
 pub flood-spec : {M : Type 1} → statement M
@@ -68,7 +71,7 @@ flood-spec =
     (tie.spec
     Inv-loop
     μ-loop
-    (λ c κs. search needs)
+    values-requires
     loop-holds
     offer-requires
     add-q

@@ -4,6 +4,7 @@ use mathlib.Core.Path.{_≡_, sym, ap, _∙_}
 use Prim.Native.Nat.{ℕ, _-_, _^_}
 use native.Mathlib.Omega.{arith}
 use lib.Pow.{pow-pos}
+use Rattle.records.specs.Laws.Limits.{limits}
 use Rattle.steps.specs.Sent.{departing}
 use Rattle.steps.proofs.Acting.{reached-one, reached-flooded}
 use Rattle.steps.proofs.Fields.{value-lt}
@@ -11,8 +12,11 @@ use Rattle.steps.proofs.Sending.{has-byte, state-added}
 use Rattle.steps.proofs.actions.output.Statement.{statement}
 use Rattle.steps.proofs.actions.output.Tie as tie
 
+values-requires : tie.Need-values-requires
+values-requires c κs = omega (arith, limits (c .before .args .w) (c .before .pre .0 .ready .limits) .high-p)
+
 sub-all : tie.Need-sub-all
-sub-all c = omega (arith, c .ports .ensures, pow-pos (c .before .before .args .w .p))
+sub-all c = omega (arith, c .values .ensures, pow-pos (c .before .before .args .w .p))
 
 set-at-requires : tie.Need-set-at-requires
 set-at-requires c κs =
@@ -30,7 +34,7 @@ returns c =
     let s = p .before .before in
     let a = s .args in
     let S = s .pre .0 in
-    let e : a .care ≡ 2 ^ a .w .p - 1 = n .before .before .if1 .taken ∙ ap (λ (k : ℕ). k - 1) (p .ports .ensures) in
+    let e : a .care ≡ 2 ^ a .w .p - 1 = n .before .before .if1 .taken ∙ ap (λ (k : ℕ). k - 1) (p .values .ensures) in
     rw (reached-one (a .w) (a .value) (a .care) e)
     (state-added (a .w) (S .ready .limits) (a .row) _ (a .sw) (a .value) (a .h) (n .number .result) (omega arith) (S .switch)
     (value-lt (a .w .p) (a .value) (a .care) (s .pre .1)) (S .ready .header) (n .number .ensures)
@@ -40,14 +44,14 @@ returns-2 : tie.Need-returns-2
 returns-2 c =
     let p = c .before .before .before .before .before in
     let a = p .before .before .args in
-    rw (reached-flooded (a .w) (a .value) (a .care) (λ e. c .before .before .before .before .if1 .left (e ∙ ap (λ (k : ℕ). k - 1) (sym (p .ports .ensures)))))
+    rw (reached-flooded (a .w) (a .value) (a .care) (λ e. c .before .before .before .before .if1 .left (e ∙ ap (λ (k : ℕ). k - 1) (sym (p .values .ensures)))))
     (c .before .before .flood .ensures)
 
 pub output-spec : {M : Type 1} → statement M
 output-spec =
     tie.close
     (tie.spec
-    (λ c κs. search needs)
+    values-requires
     sub-all
     (λ c κs. search needs)
     set-at-requires

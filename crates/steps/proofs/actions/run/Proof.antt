@@ -10,7 +10,7 @@ use Rattle.steps.specs.Choice.{arrival, ofBody}
 use Rattle.steps.specs.Filled.{rowBytes, Added}
 use Rattle.steps.specs.Sent.{sentBy}
 use Rattle.steps.proofs.Acting.{copies-left, header-after-lt}
-use Rattle.steps.proofs.Adding.{Toward, toward-more, added-none}
+use Rattle.steps.proofs.Adding.{TowardList, list-more, added-none}
 use Rattle.steps.proofs.Fields.{used-action}
 use Rattle.steps.proofs.Sending.{sends-on}
 use Rattle.steps.proofs.actions.run.Statement.{statement}
@@ -20,7 +20,7 @@ use Rattle.steps.proofs.actions.run.Tie as tie
 abbrev Inv-loop : tie.InvT-loop
 Inv-loop work₀ row w sw p body h count left₀ header₀ work left header =
     (left ≤ count) × (header < 2 ^ w .h) × (length work ≡ length work₀)
-    × Toward row (rowBytes w) (sent w (arrival sw p h) (ofBody body)) (copies w (arrival sw p h) (ofBody body) header (count - left) left) work₀ work
+    × TowardList row (rowBytes w) (sent w (arrival sw p h) (ofBody body)) (copies w (arrival sw p h) (ofBody body) header (count - left) left) work₀ work
 
 abbrev μ-loop : tie.MeasureT-loop
 μ-loop work₀ row w sw p body h count left₀ header₀ work left header = left
@@ -63,7 +63,7 @@ loop-again c =
       omega arith,
       subst⁻¹ (λ (k : ℕ). k < 2 ^ a .w .h) (A .header) (header-after-lt (a .w) (a .sw) r (o .header) _ (o .inv .1)),
       A .copies .len ∙ o .inv .2,
-      toward-more (a .row) (rowBytes (a .w)) _ _ _ _ _ _ _
+      list-more (a .row) (rowBytes (a .w)) _ _ _ _ _ _ _
           (copies-left (a .w) v r (o .header) n (o .left) (omega arith) (omega arith)
           ∙ ap (λ (k : ℕ). sentBy (a .w) (a .sw) r (o .header) i ++ copies (a .w) v r k (n - (o .left - 1)) (o .left - 1)) (sym (A .header)))
           (o .inv .3) (A .copies),

@@ -1,39 +1,67 @@
-use borrow.Author.Needs.{needs}
-use borrow.Author.Tests.{not-true, not-false}
-use denote.Ref.{now}
-use mathlib.Core.Path.{sym, _∙_}
+use mathlib.Core.Path.{_≡_}
+use Prim.Native.Nat.{_-_, _^_, _≤_}
 use native.Mathlib.Omega.{arith}
-use Rattle.steps.proofs.Adding.{added-none}
-use Rattle.steps.proofs.Linking.{point-switch, point-port, way-taken, way-left}
-use Rattle.steps.proofs.Sending.{has-byte, state-added}
+use Rattle.planes.specs.Plane.{planeSize}
+use Rattle.records.specs.Laws.Limits.{limits}
+use Rattle.steps.specs.Filled.{rowBytes, Adds}
+use Rattle.steps.specs.Carried.{pairs}
+use Rattle.steps.proofs.Hops.{below}
+use Rattle.steps.proofs.Filling.{room-on}
+use Rattle.steps.proofs.Carrying.{carried-none, carried-more, carried-all}
 use Rattle.steps.proofs.links.carry.Statement.{statement}
 use Rattle.steps.proofs.links.carry.Tie as tie
 
-returns : tie.Need-returns
-returns c =
-    let a = c .before .before .before .args in
-    rw (way-left (a .w) (a .h) (a .a) (a .b) (a .c) (a .d) (a .sw) (a .p) (sym (c .before .same-point .ensures) ∙ not-true _ (c .if1 .taken))) (added-none _ _ _)
+-- the frames with a header below h are carried
+abbrev Inv-loop : tie.InvT-loop
+Inv-loop work₀ base w a b c d end h₀ work h =
+    (end ≡ 2 ^ w .h) × (h ≤ end) × Adds (pairs w (below w a b c d h)) base (planeSize (rowBytes w)) work₀ work
 
-set-at-requires : tie.Need-set-at-requires
-set-at-requires c κs =
+abbrev μ-loop : tie.MeasureT-loop
+μ-loop work₀ base w a b c d end h₀ work h = end - h
+
+values-requires : tie.Need-values-requires Inv-loop μ-loop
+values-requires c κs = limits _ (c .before .pre .0 .limits) .high-h
+
+loop-holds : tie.Need-loop-holds Inv-loop μ-loop
+loop-holds c =
+    let s = c .before .before in
+    (c .values .ensures, omega arith, carried-none _ (s .pre .0 .limits) _ _ _ _ _ (s .pre .1 .0) (s .pre .1 .1) _)
+
+hop-requires : tie.Need-hop-requires Inv-loop μ-loop
+hop-requires c κs =
     let s = c .before .before .before .before .before in
-    let a = s .args in
-    let R = s .pre .0 in
-    has-byte (a .w) (R .limits) (a .row) 0 (a .c) (a .d) (a .h) (c .number .result) (omega arith) (point-switch (a .w) (a .c) (a .d) (s .pre .1))
-    (point-port (a .w) (a .c) (a .d) (s .pre .1)) (R .header) (c .number .ensures) (now (a .work)) (R .room)
+    let o = c .before .before .loop in
+    (room-on _ _ _ _ (o .inv .2 .len) (s .pre .0), (s .pre .1 .0, s .pre .1 .1, omega arith))
 
-returns-2 : tie.Need-returns-2
-returns-2 c =
-    let n = c .before .before .before in
-    let s = n .before .before .before .before .before in
-    let a = s .args in
-    let R = s .pre .0 in
-    rw (way-taken (a .w) (a .h) (a .a) (a .b) (a .c) (a .d) (a .sw) (a .p) (sym (n .before .before .before .same-point .ensures) ∙ not-false _ (n .before .before .if1 .left)))
-    (state-added (a .w) (R .limits) (a .row) 0 (a .c) (a .d) (a .h) (n .number .result) (omega arith) (point-switch (a .w) (a .c) (a .d) (s .pre .1))
-    (point-port (a .w) (a .c) (a .d) (s .pre .1)) (R .header) (n .number .ensures)
-    (now (a .work)) (c .before .before .set-at .last .0) (c .before .before .set-at .ensures))
+loop-again : tie.Need-loop-again Inv-loop μ-loop
+loop-again c =
+    let s = c .before .before .before .before .before .before .before .before in
+    let o = c .before .before .before .before .before .loop in (
+      o .inv .0,
+      omega arith,
+      carried-more _ (s .pre .0 .limits) _ _ _ _ _ (s .pre .1 .0) (s .pre .1 .1) _ _ _ _ (omega arith) (o .inv .2) (c .before .before .hop .ensures),
+    )
+
+same-length : tie.Need-same-length Inv-loop μ-loop
+same-length c = c .before .loop .inv .2 .len
+
+returns : tie.Need-returns Inv-loop μ-loop
+returns c =
+    let o = c .before .loop in
+    let s = c .before .before .before .before in
+    carried-all _ (s .pre .0 .limits) _ _ _ _ _ (s .pre .1 .0) (s .pre .1 .1) _ _ _ (omega arith) (o .inv .2)
 
 pub carry-spec : {M : Type 1} → statement M
 carry-spec =
     tie.close
-    (tie.spec (λ c κs. search needs) returns (λ c κs. search needs) set-at-requires (λ c. search needs) returns-2)
+    (tie.spec
+    Inv-loop
+    μ-loop
+    values-requires
+    loop-holds
+    hop-requires
+    (λ c. omega arith)
+    (λ c. omega arith)
+    loop-again
+    same-length
+    returns)

@@ -1,30 +1,33 @@
 use borrow.Author.Needs.{needs}
 use denote.Ref.{now}
-use mathlib.Core.Path.{_≡_, refl, ap, subst, subst⁻¹, _∙_}
-use mathlib.Core.List.{List, []}
-use Prim.Native.Nat.{ℕ, _+_, _-_, _*_, _≤_}
+use mathlib.Core.Path.{_≡_, refl, sym, subst⁻¹, _∙_}
+use Prim.Native.Nat.{_+_, _-_, _*_, _/_, _%_, _≤_}
 use native.Mathlib.Omega.{arith}
-use lib.ListN.{length, getD}
+use lib.ListN.{length}
+use Rattle.planes.specs.Plane.{planeSize}
 use Rattle.records.specs.Record.{Net, records, ofKind}
-use Rattle.steps.specs.Step.{across}
-use Rattle.steps.specs.Choice.{ofBody}
-use Rattle.steps.specs.Filled.{rowBytes, Added}
-use Rattle.steps.specs.Carried.{arriving}
-use Rattle.steps.proofs.Adding.{Toward, toward-more, added-none}
-use Rattle.steps.proofs.Body.{bodyAt, body-length}
-use Rattle.steps.proofs.Linking.{link-in, link-room, link-same, link-ends, links-left, links-after, across-same}
+use Rattle.records.specs.Widths.{states}
 use Rattle.records.specs.Laws.Parts.{part, part-none}
+use Rattle.steps.specs.Step.{across}
+use Rattle.steps.specs.Filled.{rowBytes, Adds}
+use Rattle.steps.specs.Carried.{pairs, crosses}
+use Rattle.steps.proofs.Adding.{Toward, toward-more, adds-none, adds-as}
+use Rattle.steps.proofs.Body.{body-length}
+use Rattle.steps.proofs.Crossing.{crosses-none}
+use Rattle.steps.proofs.Filling.{room-on}
+use Rattle.steps.proofs.Linking.{link-in, link-room, link-ends, links-cross}
 use Rattle.steps.proofs.links.cross.Statement.{statement}
 use Rattle.steps.proofs.links.cross.Tie as tie
 
 -- the links from place i on are left
 abbrev Inv-loop : tie.InvT-loop
-Inv-loop work₀ row store n l sw p h w i₀ work i =
+Inv-loop work₀ base store n l w i₀ work i =
     (1 ≤ i) × (i ≤ l .misses) × (length work ≡ length work₀)
-    × Toward row (rowBytes (l .widths)) (arriving (l .widths) h (across sw p (ofKind 2 (records n store)))) (arriving (l .widths) h (across sw p (part (records n store) i (l .misses)))) work₀ work
+    × Toward base (planeSize (rowBytes (l .widths))) (pairs (l .widths) (crosses (l .widths) (λ sw p. across sw p (ofKind 2 (records n store)))))
+    (pairs (l .widths) (crosses (l .widths) (λ sw p. across sw p (part (records n store) i (l .misses))))) work₀ work
 
 abbrev μ-loop : tie.MeasureT-loop
-μ-loop work₀ row store n l sw p h w i₀ work i = l .misses - i
+μ-loop work₀ base store n l w i₀ work i = l .misses - i
 
 loop-holds : tie.Need-loop-holds Inv-loop μ-loop
 loop-holds c =
@@ -34,7 +37,7 @@ loop-holds c =
       omega arith,
       s .pre .1 .laid .some-widths,
       refl,
-      λ d R. subst⁻¹ (λ (ls : Net). Added (arriving W (a .h) (across (a .sw) (a .p) ls)) (a .row) (rowBytes W) (now (a .work)) d) (s .pre .1 .laid .links) R,
+      λ d R. subst⁻¹ (λ (ls : Net). Adds (pairs W (crosses W (λ sw p. across sw p ls))) (a .base) (planeSize (rowBytes W)) (now (a .work)) d) (s .pre .1 .laid .links) R,
     )
 
 -- the store has the whole of the link
@@ -50,9 +53,8 @@ follow-requires c κs =
     let s = t .before .before .before .before .before .before in
     let a = s .args in
     let b = now (a .store) in
-    let o = t .before .before .loop in
-    let R = s .pre .0 in (
-      record { limits = R .limits; room = omega (arith, R .room); header = R .header },
+    let o = t .before .before .loop in (
+      room-on _ _ _ _ (o .inv .2) (s .pre .0),
       (
         body-length (a .n) b (o .i) (link-in (a .n) (a .l) b (s .pre .1) (o .i) (o .inv .0) (t .if1 .taken)) 4 (omega arith) (s .pre .1 .room),
         link-ends (a .n) (a .l) b (s .pre .1) (o .i) (o .inv .0) (t .if1 .taken),
@@ -66,29 +68,25 @@ loop-again c =
     let a = s .args in
     let W = a .l .widths in
     let o = t .before .before .loop in
-    let A = c .before .before .follow .ensures in
-    let b = now (a .store) in
-    let net = records (a .n) b in (
+    let A = c .before .before .follow .ensures in (
       omega arith,
       omega arith,
       A .len ∙ o .inv .2,
-      toward-more (a .row) (rowBytes W) _ _ _ _ _ _ _
-          (ap (λ (ls : Net). arriving W (a .h) (across (a .sw) (a .p) ls)) (links-left (a .n) (a .l) b (s .pre .1) (o .i) (o .inv .0) (t .if1 .taken))
-          ∙ links-after W (a .h) (a .sw) (a .p) (getD net (o .i) []) (part net (o .i + 1) (a .l .misses)))
-          (o .inv .3)
-          (subst (λ (ends : List (ℕ × ℕ)). Added (arriving W (a .h) ends) (a .row) (rowBytes W) (o .work) (c .before .before .follow .last .0))
-          (across-same (a .sw) (a .p) (ofBody (bodyAt b (o .i) 4)) (getD net (o .i) []) (link-same (a .n) (a .l) b (s .pre .1) (o .i) (o .inv .0) (t .if1 .taken))) A),
+      toward-more (a .base) (planeSize (rowBytes W)) _ _ _ _ _ _ _
+          (λ x h. links-cross (a .n) (a .l) (now (a .store)) (s .pre .1) (o .i) (o .inv .0) (t .if1 .taken) (x / states W) (x % states W)) (o .inv .3) A,
     )
 
 same-length : tie.Need-same-length Inv-loop μ-loop
 same-length c = c .before .before .loop .inv .2
 
 returns : tie.Need-returns Inv-loop μ-loop
-unfolding across arriving
 returns c =
     let o = c .before .before .loop in
     let a = c .before .before .before .before .before .before .args in
-    o .inv .3 (o .work) (rw (part-none (records (a .n) (now (a .store))) (o .i) (a .l .misses) (c .if1 .left)) (added-none _ _ _))
+    let W = a .l .widths in
+    o .inv .3 (o .work)
+    (rw (part-none (records (a .n) (now (a .store))) (o .i) (a .l .misses) (c .if1 .left))
+    (adds-as _ _ _ _ _ _ (λ x h. sym (crosses-none W (x / states W) (x % states W))) (adds-none _ _ _)))
 
 pub cross-spec : {M : Type 1} → statement M
 cross-spec =

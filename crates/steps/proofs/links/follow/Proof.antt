@@ -1,20 +1,22 @@
 use borrow.Author.Needs.{needs}
 use denote.Ref.{now}
 use mathlib.Core.Path.{_∙_}
-use native.Mathlib.Omega.{arith}
 use Rattle.steps.specs.Choice.{ofBody}
-use Rattle.steps.specs.Filled.{rowBytes}
-use Rattle.steps.proofs.Adding.{added-append}
-use Rattle.steps.proofs.Linking.{both-ways}
+use Rattle.steps.proofs.Filling.{room-on}
+use Rattle.steps.proofs.Carrying.{followed}
 use Rattle.steps.proofs.links.follow.Statement.{statement}
 use Rattle.steps.proofs.links.follow.Tie as tie
+
+carry-requires : tie.Need-carry-requires
+carry-requires c κs =
+    let s = c .before .before .before .before .before .before .before in
+    (s .pre .0, (s .pre .1 .1 .one, s .pre .1 .1 .other))
 
 carry-requires-2 : tie.Need-carry-requires-2
 carry-requires-2 c κs =
     let k = c .before .before .before in
     let s = k .before .before .before .before .before .before .before .before in
-    let R = s .pre .0 in
-    (record { limits = R .limits; room = omega (arith, R .room, k .carry .ensures .len); header = R .header }, search needs)
+    (room-on _ _ _ _ (k .carry .ensures .len) (s .pre .0), (s .pre .1 .1 .other, s .pre .1 .1 .one))
 
 same-length : tie.Need-same-length
 same-length c = c .before .before .carry2 .ensures .len ∙ c .before .before .before .before .before .before .carry .ensures .len
@@ -22,9 +24,8 @@ same-length c = c .before .before .carry2 .ensures .len ∙ c .before .before .b
 returns : tie.Need-returns
 returns c =
     let k = c .before .before .before .before .before .before in
-    let a = k .before .before .before .before .before .before .before .before .args in
-    rw (both-ways (a .w) (a .h) (a .sw) (a .p) (ofBody (now (a .link))))
-    (added-append (a .row) (rowBytes (a .w)) _ _ _ _ _ (k .carry .ensures) (c .before .before .carry2 .ensures))
+    let s = k .before .before .before .before .before .before .before .before in
+    followed _ (s .pre .0 .limits) _ (ofBody (now (s .args .link))) _ _ _ (k .carry .ensures) (c .before .before .carry2 .ensures)
 
 pub follow-spec : {M : Type 1} → statement M
 follow-spec =
@@ -34,7 +35,7 @@ follow-spec =
     (λ c. search needs)
     (λ c. search needs)
     (λ c. search needs)
-    (λ c κs. search needs)
+    carry-requires
     carry-requires-2
     same-length
     returns)

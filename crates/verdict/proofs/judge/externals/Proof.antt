@@ -4,24 +4,26 @@ use Prim.Native.Nat.{_-_, _≤_}
 use Rattle.records.specs.Record.{records}
 use Rattle.steps.specs.Step.{external}
 use Rattle.verdict.proofs.Bytes.{Upto, upto-none, upto-more, upto-all}
+use borrow.Author.Needs.{needs}
+use denote.Ref.{now}
 use native.Mathlib.Omega.{arith}
 use Rattle.verdict.proofs.judge.externals.Statement.{statement}
 use Rattle.verdict.proofs.judge.externals.Tie as tie
 
 abbrev Inv-loop : tie.InvT-loop
-Inv-loop store end l s r₀ z₀ r z = (z ≤ s) × Upto (external (records end store)) z r
+Inv-loop store end s w points r₀ z₀ r z = (z ≤ s) × Upto (external (records end store)) z r
 
 abbrev μ-loop : tie.MeasureT-loop
-μ-loop store end l s r₀ z₀ r z = s - z
+μ-loop store end s w points r₀ z₀ r z = s - z
 
 loop-holds : tie.Need-loop-holds Inv-loop μ-loop
 loop-holds c = (omega arith, upto-none _)
 
 is-external-requires : tie.Need-is-external-requires Inv-loop μ-loop
-is-external-requires c κs = c .before .before .before .pre .0
+is-external-requires c κs = c .before .before .before .before .before .before .pre .0 .laid .limits
 
 push-requires : tie.Need-push-requires Inv-loop μ-loop
-push-requires c κs = omega (arith, c .before .before .before .before .before .pre .1)
+push-requires c κs = omega (arith, c .before .before .before .before .before .before .before .before .pre .1)
 
 add-z : tie.Need-add-z Inv-loop μ-loop
 add-z c = omega arith
@@ -31,13 +33,16 @@ loop-less c = omega arith
 
 loop-again : tie.Need-loop-again Inv-loop μ-loop
 loop-again c =
-    let at-loop = c .before .before .before .before in
-    (omega arith, upto-more _ _ _ _ _ (at-loop .loop .inv .1) (c .push .ensures) (c .before .before .is-external .ensures))
+    let at-loop = c .before .before .before .before .before in
+    let points = at-loop .before in
+    let at-start = points .before .before .before in
+    let t = c .before .before .is-external .ensures (records (at-start .args .end) (now (at-start .args .store))) (at-start .pre .0 .laid .widths) (points .linked-points .ensures) in
+    (omega arith, upto-more _ _ _ _ _ (at-loop .loop .inv .1) (c .push .ensures) t)
 
 returns : tie.Need-returns Inv-loop μ-loop
 returns c =
     let at-loop = c .before in
-    let e : at-loop .loop .z ≡ at-loop .before .before .args .s = omega arith in
+    let e : at-loop .loop .z ≡ at-loop .before .before .before .before .args .s = omega arith in
     upto-all _ _ _ _ e (at-loop .loop .inv .1)
 
 pub externals-spec : {M : Type 1} → statement M
@@ -46,6 +51,7 @@ externals-spec =
     (tie.spec
     Inv-loop
     μ-loop
+    (λ c κs. search needs)
     loop-holds
     is-external-requires
     push-requires

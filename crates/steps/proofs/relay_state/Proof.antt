@@ -1,0 +1,60 @@
+use borrow.Author.Needs.{needs}
+use denote.Ref.{now}
+use mathlib.Core.Path.{sym, subst⁻¹, _∙_}
+use Prim.Native.Nat.{ℕ, _^_, _<_}
+use Rattle.records.specs.Record.{records}
+use Rattle.records.specs.Laws.States.{header-lt, switch-lt}
+use Rattle.steps.proofs.Adding.{added-none}
+use Rattle.steps.proofs.Stepping.{relays-arriving, relays-departing}
+use Rattle.steps.proofs.relay_state.Statement.{statement}
+use Rattle.steps.proofs.relay_state.Tie as tie
+
+returns : tie.Need-returns
+returns c =
+    let s = c .before .before .before .before .before in
+    let a = s .args in
+    rw (relays-departing (records (a .n) (now (a .store))) (a .l .widths) (s .pre .1 .laid .widths) (a .s) (λ e. c .if1 .taken (c .before .direction .ensures ∙ e)))
+    (added-none _ _ _)
+
+relay-requires : tie.Need-relay-requires
+relay-requires c κs =
+    let s = c .before .before .before .before .before .before .before .before .before in
+    let a = s .args in
+    let w = a .l .widths in (
+      record {
+        ready = record {
+          limits = s .pre .1 .laid .limits;
+          room = s .pre .0;
+          header = subst⁻¹ (λ (n : ℕ). n < 2 ^ w .h) (c .header .ensures) (header-lt w (a .s));
+        };
+        switch = subst⁻¹ (λ (n : ℕ). n < 2 ^ w .w) (c .before .before .switch .ensures) (switch-lt w (a .s));
+      },
+      s .pre .1,
+    )
+
+returns-2 : tie.Need-returns-2
+returns-2 c =
+    let h = c .before .before .before in
+    let d = h .before .before .before .before .before in
+    let s = h .before .before .before .before .before .before .before .before .before in
+    let a = s .args in
+    rw (
+      relays-arriving (records (a .n) (now (a .store))) (a .l .widths) (s .pre .1 .laid .widths) (a .s) (sym (d .direction .ensures) ∙ h .before .before .before .before .if1 .left),
+      ← (h .header .ensures),
+      ← (h .before .port .ensures),
+      ← (h .before .before .switch .ensures),
+    )
+    (c .before .before .relay .ensures)
+
+pub relay-state-spec : {M : Type 1} → statement M
+relay-state-spec =
+    tie.close
+    (tie.spec
+    (λ c κs. search needs)
+    returns
+    (λ c κs. search needs)
+    (λ c κs. search needs)
+    (λ c κs. search needs)
+    relay-requires
+    (λ c. search needs)
+    returns-2)
