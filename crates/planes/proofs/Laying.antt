@@ -1,14 +1,14 @@
--- A turn of a loop that lays bytes one by one, and of the loop that copies them.
-use mathlib.Core.Path.{_≡_, refl, ap, _∙_}
+-- A turn of a loop that lays bytes one by one, and rows that are copied.
+use mathlib.Core.Path.{_≡_, refl, sym, ap, _∙_}
 use mathlib.Core.List.{List}
-use Prim.Native.Nat.{ℕ, _+_, _≤_, _<_}
-use native.Mathlib.Nat.{not-suc-le-zero}
+use Prim.Native.Nat.{ℕ, _+_, _-_, _≤_, _<_}
+use native.Mathlib.Nat.{not-suc-le-zero, zero-add}
 use native.Mathlib.Omega.{arith}
 use borrow.Author.Count.{below-more}
-use lib.ListN.{length, getD, set, length-set, replicate}
-use lib.Seq.{getD-set-same, getD-set-other}
+use lib.ListN.{length, take, drop, getD, set, length-set, length-drop, replicate}
+use lib.Seq.{length-take-le, getD-set-same, getD-set-other, getD-take, getD-drop}
 use lib.Bits.{bitOr}
-use Rattle.planes.specs.Rows.{Laid, Ored, Loaded}
+use Rattle.planes.specs.Rows.{Laid, Put, Ored, Loaded}
 use Rattle.planes.specs.Laws.Rows.{no-byte}
 
 pub laid-none : (f : ℕ → ℕ) (at : ℕ) (a : List ℕ) → Laid f at 0 a a
@@ -32,13 +32,21 @@ ored-more row at j w a l I hj hw =
     laid-more _ at j w a l I hj hw (bitOr (getD l (at + j) 0) (getD row j 0))
     (ap (λ (v : ℕ). bitOr v (getD row j 0)) (I .over (at + j) (omega arith)))
 
-pub loaded-none : (at n : ℕ) (a : List ℕ) → Loaded at 0 a (replicate n 0)
-loaded-none at n a = record { same = λ j h. absurd (not-suc-le-zero h); rest = λ j h. no-byte n j }
+-- a part of s is put: its w bytes from b on
+pub part-put : (s : List ℕ) (b e w at : ℕ) (a l : List ℕ) → b + w ≡ e → e ≤ length s
+    → Put (take (e - b) (drop b s)) at (length (take (e - b) (drop b s))) a l → Laid (λ j. getD s (b + j) 0) at w a l
+part-put s b e w at a l q h I =
+    let k : length (take (e - b) (drop b s)) ≡ w = length-take-le (e - b) (drop b s) (omega (arith, length-drop b s)) ∙ omega arith in
+    record {
+      len = I .len;
+      inside = λ j t. I .inside j (omega arith) ∙ getD-take (e - b) (drop b s) j 0 (omega arith) ∙ getD-drop b s j 0;
+      under = I .under;
+      over = λ m t. I .over m (omega arith);
+    }
 
-pub loaded-more : (at j : ℕ) (a row : List ℕ) → Loaded at j a row → j < length row → Loaded at (j + 1) a (set row j (getD a (at + j) 0))
-loaded-more at j a row I h = record {
-  same = below-more (λ (m : ℕ). getD (set row j (getD a (at + j) 0)) m 0 ≡ getD a (at + m) 0) j
-      (λ m hm. getD-set-other row j m (getD a (at + j) 0) 0 (λ q. omega arith) ∙ I .same m hm)
-      (getD-set-same row j (getD a (at + j) 0) 0 h);
-  rest = λ m hm. getD-set-other row j m (getD a (at + j) 0) 0 (λ q. omega arith) ∙ I .rest m (omega arith);
+-- into a row of zeros
+pub loaded : (at w n : ℕ) (p row : List ℕ) → Laid (λ j. getD p (at + j) 0) 0 w (replicate n 0) row → Loaded at w p row
+loaded at w n p row I = record {
+  same = λ j h. ap (λ (m : ℕ). getD row m 0) (sym (zero-add j)) ∙ I .inside j h;
+  rest = λ j h. I .over j (omega arith) ∙ no-byte n j;
 }
