@@ -3,14 +3,14 @@ use mathlib.Core.Path.{_≡_, refl, sym, ap, ap₂, subst, _∙_}
 use mathlib.Core.List.{List, [], _∷_, _++_, append-assoc}
 use Prim.Native.Nat.{ℕ, zero, suc, _+_, _-_, _*_, _≤_}
 use native.Mathlib.Omega.{arith}
-use lib.ListN.{length, take, drop, replicate, length-append, length-drop, length-replicate}
+use lib.ListN.{length, take, drop, replicate, length-append, length-drop}
 use lib.Seq.{take-all, take-add, take-at, drop-at, length-take-le}
-use Rattle.planes.specs.Rows.{Cleared}
+use Rattle.planes.specs.Rows.{Cleared, Put}
 use Rattle.records.specs.Record.{Rec, Net, storeBytes, records, flat}
 use Rattle.records.specs.Laws.Records.{Whole, length-records, flat-back, records-split}
-use Rattle.calls.specs.Effect.{Put, padded, filled, spliced, joined, Room, Made}
+use Rattle.calls.specs.Effect.{padded, filled, spliced, joined, Room, Made}
 use Rattle.calls.specs.Reference.{stored}
-use Rattle.calls.proofs.Copy.{zeros-put}
+use Rattle.calls.proofs.Copy.{put-upto, cleared-upto}
 
 flat-append : (xs ys : Net) → flat (xs ++ ys) ≡ flat xs ++ flat ys
 unfolding flat
@@ -78,37 +78,36 @@ module _ (s : List ℕ) (n : ℕ) where
 
 -- bytes that are put after those in front, and zeros after them
 pub finished : (b b₁ b₂ part : List ℕ) (at end : ℕ) → length b ≡ storeBytes → end ≡ at + length part → end ≤ storeBytes
-    → Put b at part b₁ → Cleared end (storeBytes - end) b₁ b₂ → b₂ ≡ padded (take at b ++ part)
+    → Put part at (length part) b b₁ → Cleared end (storeBytes - end) b₁ b₂ → b₂ ≡ padded (take at b ++ part)
 unfolding padded
 finished b b₁ b₂ part at end w q h u z =
-    let v = zeros-put end (storeBytes - end) b₁ b₂ (omega (arith, u .long)) z in
-    let l : length (replicate {A = ℕ} (storeBytes - end) 0) ≡ storeBytes - end = length-replicate (storeBytes - end) 0 in
-    let e : end + length (replicate {A = ℕ} (storeBytes - end) 0) ≡ storeBytes = omega arith in
+    let e : end + (storeBytes - end) ≡ storeBytes = omega arith in
     let k : end ≡ length (take at b ++ part) = omega (arith, length-append (take at b) part, length-take-le at b (omega arith)) in
-    sym (take-all storeBytes b₂ (omega (arith, v .long, u .long)))
+    sym (take-all storeBytes b₂ (omega (arith, z .len, u .len)))
     ∙ ap (λ (m : ℕ). take m b₂) (sym e)
-    ∙ v .upto
-    ∙ ap₂ (λ (x : List ℕ) (m : ℕ). x ++ replicate (storeBytes - m) 0) (ap (λ (m : ℕ). take m b₁) q ∙ u .upto) k
+    ∙ cleared-upto z (omega (arith, u .len))
+    ∙ ap₂ (λ (x : List ℕ) (m : ℕ). x ++ replicate (storeBytes - m) 0) (ap (λ (m : ℕ). take m b₁) q ∙ put-upto part u (omega arith)) k
 
-module _ (store next b₁ : List ℕ) (n i j : ℕ) (order : (i ≤ j) × (j ≤ n)) (stored : n * 24 ≤ length store) (u : Put next 0 (take (i * 24 - 0) store) b₁) where
+module _ (store next b₁ : List ℕ) (n i j : ℕ) (order : (i ≤ j) × (j ≤ n)) (stored : n * 24 ≤ length store) (fits : i * 24 ≤ length next)
+    (u : Put (take (i * 24 - 0) store) 0 (length (take (i * 24 - 0) store)) next b₁) where
   -- the records in front
   front : take (i * 24) b₁ ≡ flat (take i (records n store))
   front =
       let z : i * 24 - 0 ≡ i * 24 = omega arith in
       let l : length (take (i * 24 - 0) store) ≡ i * 24 = length-take-le (i * 24 - 0) store (omega arith) ∙ z in
       let q : i * 24 ≡ 0 + length (take (i * 24 - 0) store) = omega arith in
-      ap (λ (m : ℕ). take m b₁) q ∙ u .upto ∙ ap (λ (m : ℕ). take m store) z ∙ sym (flat-take store n i (omega arith))
+      ap (λ (m : ℕ). take m b₁) q ∙ put-upto (take (i * 24 - 0) store) u (omega arith) ∙ ap (λ (m : ℕ). take m store) z ∙ sym (flat-take store n i (omega arith))
 
   pub joined-bytes : (b : List ℕ) → b ≡ padded (take (i * 24) b₁ ++ flat (drop j (records n store))) → b ≡ filled (joined (records n store) i j)
   joined-bytes b e =
       e ∙ ap padded (ap (λ (x : List ℕ). x ++ flat (drop j (records n store))) front ∙ sym (flat-append (take i (records n store)) (drop j (records n store))))
 
-  pub spliced-bytes : (r b₂ b : List ℕ) → length r ≡ 24 → Put b₁ (i * 24) r b₂ → b ≡ padded (take (i * 24 + 24) b₂ ++ flat (drop j (records n store)))
+  pub spliced-bytes : (r b₂ b : List ℕ) → length r ≡ 24 → i * 24 + 24 ≤ length next → Put r (i * 24) (length r) b₁ b₂ → b ≡ padded (take (i * 24 + 24) b₂ ++ flat (drop j (records n store)))
       → b ≡ filled (spliced (records n store) i j r)
   unfolding flat
-  spliced-bytes r b₂ b l v e =
+  spliced-bytes r b₂ b l h v e =
       let front-and-rule : take (i * 24 + 24) b₂ ≡ flat (take i (records n store)) ++ r =
-      ap (λ (m : ℕ). take (i * 24 + m) b₂) (sym l) ∙ v .upto ∙ ap (λ (x : List ℕ). x ++ r) front in
+      ap (λ (m : ℕ). take (i * 24 + m) b₂) (sym l) ∙ put-upto r v (omega (arith, u .len)) ∙ ap (λ (x : List ℕ). x ++ r) front in
       e
       ∙ ap padded
       (ap (λ (x : List ℕ). x ++ flat (drop j (records n store))) front-and-rule

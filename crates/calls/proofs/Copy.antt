@@ -1,61 +1,56 @@
--- Bytes that are put into a buffer.
-use mathlib.Core.Path.{_≡_, sym, ap, ap₂, subst, _∙_}
+-- Bytes that are laid into a buffer, as lists.
+use mathlib.Core.Path.{_≡_, refl, sym, ap, ap₂, _∙_}
 use mathlib.Core.List.{List, _++_}
 use Prim.Native.Nat.{ℕ, _+_, _-_, _<_, _≤_}
 use native.Mathlib.Omega.{arith}
-use lib.ListN.{length, take, drop, replicate, length-drop, length-replicate, getD-replicate, take-append-drop}
-use lib.Seq.{take-all, paste, length-paste, take-paste, drop-paste, take-length, take-add, length-take-le, getD-take, getD-drop, ext-getD}
-use Rattle.planes.specs.Rows.{Cleared}
-use Rattle.calls.specs.Effect.{Put}
+use lib.ListN.{length, take, drop, getD, replicate, length-drop, length-replicate, getD-replicate, take-append-drop}
+use lib.Seq.{take-all, take-add, length-take-le, getD-take, getD-drop, ext-getD}
+use Rattle.planes.specs.Rows.{Laid, Cleared, Put}
 
--- a copy that has come to its end
-pub pasted : (b s b′ : List ℕ) (from i : ℕ) → from + length s ≤ length b → i ≡ length s → b′ ≡ paste b from s i → Put b from s b′
-pasted b s b′ from i h q e =
-    let e′ : b′ ≡ paste b from s (length s) = e ∙ ap (λ (k : ℕ). paste b from s k) q in
-    let r : from ≤ length b = omega arith in
-    let t : length s ≤ length s = omega arith in
-    record {
-      long = ap length e′ ∙ length-paste b from s (length s) h t;
-      upto = ap (take (from + length s)) e′ ∙ take-paste b from s (length s) r t ∙ ap (λ (x : List ℕ). take from b ++ x) (take-length s);
-      rest = ap (drop (from + length s)) e′ ∙ drop-paste b from s (length s) r t;
-    }
-
--- the whole buffer after it
-pub put-is : {b s b′ : List ℕ} {from : ℕ} → Put b from s b′ → b′ ≡ take from b ++ s ++ drop (from + length s) b
-put-is {b} {s} {b′} {from} u = sym (take-append-drop (from + length s) b′) ∙ ap₂ {C = List ℕ} _++_ (u .upto) (u .rest)
-
--- all of a buffer is put
-pub put-whole : {b s b′ : List ℕ} → Put b 0 s b′ → length b ≡ length s → b′ ≡ s
-put-whole {b} {s} {b′} u h = sym (take-all (0 + length s) b′ (omega (arith, u .long))) ∙ u .upto
-
--- bytes that are cleared are zeros that are put
-module _ (at k : ℕ) (b b′ : List ℕ) (h : at + k ≤ length b) (z : Cleared at k b b′) where
+-- the bytes of s are laid at `at`
+module _ (f : ℕ → ℕ) (at : ℕ) (s b b′ : List ℕ) (same : (i : ℕ) → i < length s → f i ≡ getD s i 0) (fits : at + length s ≤ length b) (u : Laid f at (length s) b b′) where
   before : take at b′ ≡ take at b
   before =
-      let l : length (take at b′) ≡ at = length-take-le at b′ (omega (arith, z .len)) in
+      let l : length (take at b′) ≡ at = length-take-le at b′ (omega (arith, u .len)) in
       ext-getD 0 (take at b′) (take at b) (l ∙ sym (length-take-le at b (omega arith)))
       (λ i t.
       let q : i < at = omega (arith, l) in
-      getD-take at b′ i 0 q ∙ z .under i q ∙ sym (getD-take at b i 0 q))
+      getD-take at b′ i 0 q ∙ u .under i q ∙ sym (getD-take at b i 0 q))
 
-  zeros : take k (drop at b′) ≡ replicate k 0
-  zeros =
-      let l : length (take k (drop at b′)) ≡ k = length-take-le k (drop at b′) (omega (arith, length-drop at b′, z .len)) in
-      ext-getD 0 (take k (drop at b′)) (replicate k 0) (l ∙ sym (length-replicate k 0))
+  here : take (length s) (drop at b′) ≡ s
+  here =
+      let l : length (take (length s) (drop at b′)) ≡ length s = length-take-le (length s) (drop at b′) (omega (arith, length-drop at b′, u .len)) in
+      ext-getD 0 (take (length s) (drop at b′)) s l
       (λ i t.
-      let q : i < k = omega (arith, l) in
-      getD-take k (drop at b′) i 0 q ∙ getD-drop at b′ i 0 ∙ z .inside i q ∙ sym (getD-replicate k i 0 0 q))
+      let q : i < length s = omega (arith, l) in
+      getD-take (length s) (drop at b′) i 0 q ∙ getD-drop at b′ i 0 ∙ u .inside i q ∙ same i q)
 
-  after : drop (at + k) b′ ≡ drop (at + k) b
+  pub laid-upto : take (at + length s) b′ ≡ take at b ++ s
+  laid-upto = take-add at (length s) b′ ∙ ap₂ {C = List ℕ} _++_ before here
+
+  after : drop (at + length s) b′ ≡ drop (at + length s) b
   after =
-      ext-getD 0 (drop (at + k) b′) (drop (at + k) b) (length-drop (at + k) b′ ∙ ap (λ (m : ℕ). m - (at + k)) (z .len) ∙ sym (length-drop (at + k) b))
-      (λ i t. getD-drop (at + k) b′ i 0 ∙ z .over (at + k + i) (omega arith) ∙ sym (getD-drop (at + k) b i 0))
+      ext-getD 0 (drop (at + length s) b′) (drop (at + length s) b)
+      (length-drop (at + length s) b′ ∙ ap (λ (m : ℕ). m - (at + length s)) (u .len) ∙ sym (length-drop (at + length s) b))
+      (λ i t. getD-drop (at + length s) b′ i 0 ∙ u .over (at + length s + i) (omega arith) ∙ sym (getD-drop (at + length s) b i 0))
 
-  pub zeros-put : Put b at (replicate k 0) b′
-  zeros-put =
-      let l : at + k ≡ at + length (replicate {A = ℕ} k 0) = omega (arith, length-replicate {A = ℕ} k 0) in
-      record {
-        long = z .len;
-        upto = ap (λ (m : ℕ). take m b′) (sym l) ∙ take-add at k b′ ∙ ap₂ {C = List ℕ} _++_ before zeros;
-        rest = subst (λ (m : ℕ). drop m b′ ≡ drop m b) l after;
-      }
+  pub laid-is : b′ ≡ take at b ++ s ++ drop (at + length s) b
+  laid-is = sym (take-append-drop (at + length s) b′) ∙ ap₂ {C = List ℕ} _++_ laid-upto after
+
+-- bytes that are put
+module _ {at : ℕ} {b b′ : List ℕ} (s : List ℕ) (u : Put s at (length s) b b′) (fits : at + length s ≤ length b) where
+  pub put-upto : take (at + length s) b′ ≡ take at b ++ s
+  put-upto = laid-upto (λ j. getD s j 0) at s b b′ (λ i h. refl) fits u
+
+  pub put-is : b′ ≡ take at b ++ s ++ drop (at + length s) b
+  put-is = laid-is (λ j. getD s j 0) at s b b′ (λ i h. refl) fits u
+
+-- all of a buffer is put
+pub put-whole : {b b′ : List ℕ} (s : List ℕ) → Put s 0 (length s) b b′ → length b ≡ length s → b′ ≡ s
+put-whole {b′ = b′} s u h = sym (take-all (0 + length s) b′ (omega (arith, u .len))) ∙ put-upto s u (omega arith)
+
+-- bytes that are cleared are zeros
+pub cleared-upto : {at k : ℕ} {b b′ : List ℕ} → Cleared at k b b′ → at + k ≤ length b → take (at + k) b′ ≡ take at b ++ replicate k 0
+cleared-upto {at} {k} {b} {b′} u h =
+    let l = length-replicate {A = ℕ} k 0 in
+    rw l at (laid-upto (λ j. 0) at (replicate k 0) b b′ (λ i t. sym (getD-replicate k i 0 0 (omega (arith, l)))) (omega (arith, l)) (rw l u))

@@ -3,7 +3,7 @@ use mathlib.Core.Path.{_≡_}
 use mathlib.Core.Bool.{Bool, true}
 use mathlib.Core.List.{List, _∷_, _++_}
 use mathlib.Core.Option.{none, some}
-use Prim.Native.Nat.{ℕ, _+_, _-_, _*_, _≤_}
+use Prim.Native.Nat.{ℕ, _-_, _*_, _≤_}
 use lib.Dec.{ltb}
 use lib.ListN.{length, take, drop, replicate}
 use Rattle.records.specs.Record.{Rec, Net, mostRecords, storeBytes, kind, records, flat, ofKind}
@@ -12,12 +12,6 @@ use Rattle.records.specs.Refusal.{Refusal}
 use Rattle.records.specs.declared.Widths.{Widths}
 use Rattle.calls.specs.declared.apply.Row.{Row}
 use Rattle.calls.specs.declared.apply.Row.the-variants.{Refused, Passed}
-
--- b′ is b with s from byte `from` on
-pub record Put (b : List ℕ) (from : ℕ) (s b′ : List ℕ) : Type 0 where
-  pub long : length b′ ≡ length b
-  pub upto : take (from + length s) b′ ≡ take from b ++ s
-  pub rest : drop (from + length s) b′ ≡ drop (from + length s) b
 
 -- bytes, then zeros to byte 15,384
 unfoldable pub padded : List ℕ → List ℕ

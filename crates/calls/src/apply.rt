@@ -12,22 +12,10 @@ ghost use Rattle.records.specs.Rows.{row12, row13};
 ghost use Rattle.records.specs.Refusal.{commandRow};
 ghost use Rattle.records.specs.Search.{firstAt};
 ghost use Rattle.calls.specs.Apply.{asRule, withActions, changed, added, removed, applied};
-ghost use Rattle.calls.specs.Effect.{Put, padded, spliced, joined, aboveRules, Room, Made, Known, refusalOf};
+ghost use Rattle.calls.specs.Effect.{padded, spliced, joined, aboveRules, Room, Made, Known, refusalOf};
 
 // The bytes of the largest network.
 pub const STORE_BYTES: usize = 15384;
-
-// Copies s to b from byte `from` on.
-pub fn put(b: &mut [u8], from: usize, s: &[u8])
-    requires { ⌜ from + length (now s) ≤ length (now b) ⌝ }
-    ensures { λ _. ⌜ Put (now (b .entry)) from (now (s .entry)) (now (b .exit)) ⌝ }
-{
-    let mut i = 0;
-    while i < s.len() {
-        b[from + i] = s[i];
-        i += 1;
-    }
-}
 
 // The rule of a command.
 fn as_rule(given: &[u8]) -> [u8; 24]
@@ -35,7 +23,7 @@ fn as_rule(given: &[u8]) -> [u8; 24]
     ensures { λ r. ⌜ r ≡ asRule (now (given .entry)) ⌝ }
 {
     let mut rule = [0u8; 24];
-    put(&mut rule, 0, given);
+    planes::put(&mut rule, 0, given);
     rule[0] = 4;
     rule
 }
@@ -46,8 +34,8 @@ fn with_actions(given: &[u8], r: &[u8]) -> [u8; 24]
     ensures { λ x. ⌜ x ≡ withActions (now (given .entry)) (now (r .entry)) ⌝ }
 {
     let mut rule = [0u8; 24];
-    put(&mut rule, 0, r);
-    put(&mut rule, 8, &given[8..21]);
+    planes::put(&mut rule, 0, r);
+    planes::put(&mut rule, 8, &given[8..21]);
     rule
 }
 
@@ -73,7 +61,7 @@ fn finish(next: &mut [u8], at: usize, store: &[u8], n: usize, j: usize)
 {
     let b = j * 24;
     let e = n * 24;
-    put(next, at, &store[b..e]);
+    planes::put(next, at, &store[b..e]);
     let end = at + (e - b);
     planes::clear(next, end, STORE_BYTES - end);
 }
@@ -85,8 +73,8 @@ fn splice(next: &mut [u8], store: &[u8], n: usize, rule: &[u8; 24], i: usize, j:
     ensures { λ r. ⌜ Made (spliced (records n (now (store .entry))) i j (now (rule .entry))) r (now (next .exit)) ⌝ }
 {
     let a = i * 24;
-    put(next, 0, &store[0..a]);
-    put(next, a, rule);
+    planes::put(next, 0, &store[0..a]);
+    planes::put(next, a, rule);
     finish(next, a + 24, store, n, j);
     i + 1 + (n - j)
 }
@@ -98,7 +86,7 @@ fn join(next: &mut [u8], store: &[u8], n: usize, i: usize, j: usize) -> usize
     ensures { λ r. ⌜ Made (joined (records n (now (store .entry))) i j) r (now (next .exit)) ⌝ }
 {
     let a = i * 24;
-    put(next, 0, &store[0..a]);
+    planes::put(next, 0, &store[0..a]);
     finish(next, a, store, n, j);
     i + (n - j)
 }
@@ -170,7 +158,7 @@ pub fn write_back(store: &mut [u8], next: &[u8])
     requires { ⌜ (length (now next) ≡ storeBytes) × (storeBytes ≤ length (now store)) ⌝ }
     ensures { λ _. ⌜ now (store .exit) ≡ now (next .entry) ++ drop storeBytes (now (store .entry)) ⌝ }
 {
-    put(store, 0, next);
+    planes::put(store, 0, next);
 }
 
 // Row 12: not 24 bytes, kind not 6 to 8, or a field fault.

@@ -1,7 +1,6 @@
 // The gate: judges a network and then commands, read from standard input, and prints a line for each.
 use calls::Checked;
 use calls::Commanded;
-ghost use Prim.Native.Nat.{_<_};
 
 // How the network's records ended.
 enum Met {
@@ -22,17 +21,6 @@ fn is_command(kind: u8) -> bool {
     match kind {
         6..=8 => true,
         0..=5 | 9..=255 => false,
-    }
-}
-
-// Copies a record to place n of the store.
-fn put(store: &mut [u8; 15384], n: usize, rec: &[u8; 24])
-    requires { ⌜ n < 641 ⌝ }
-{
-    let mut i = 0;
-    while i < 24 {
-        store[n * 24 + i] = rec[i];
-        i += 1;
     }
 }
 
@@ -62,7 +50,7 @@ fn load(store: &mut [u8; 15384], rec: &mut [u8; 24]) -> Loaded {
             };
         }
         if n < 641 {
-            put(store, n, rec);
+            planes::put(store, n * 24, rec);
         }
         n += 1;
     }

@@ -15,7 +15,7 @@ returns : tie.Need-returns
 unfolding asRule
 returns c =
     let a = c .before .before .before .before in
-    ap (λ (x : List ℕ). set x 0 4) (put-whole (c .before .put .ensures) (omega arith)) ∙ set-split (now (a .args .given)) 0 4 (omega arith)
+    ap (λ (x : List ℕ). set x 0 4) (put-whole (now (a .args .given)) (c .before .put .ensures) (omega arith)) ∙ set-split (now (a .args .given)) 0 4 (omega arith)
 
 pub as-rule-spec : {M : Type 1} → statement M
 as-rule-spec = tie.close (tie.spec (λ c. search needs) (λ c κs. search needs) (λ c. search needs) returns)

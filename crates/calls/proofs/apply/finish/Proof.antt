@@ -10,7 +10,6 @@ use borrow.Author.Needs.{needs}
 use Rattle.calls.proofs.apply.finish.Statement.{statement}
 use Rattle.calls.proofs.apply.finish.Tie as tie
 
--- src/apply.rt:67:1
 returns : tie.Need-returns
 returns c =
     let k = c .before .before in

@@ -6,7 +6,6 @@ use borrow.Author.Needs.{needs}
 use Rattle.calls.proofs.apply.join.Statement.{statement}
 use Rattle.calls.proofs.apply.join.Tie as tie
 
--- src/apply.rt:92:1
 returns : tie.Need-returns
 returns c =
     let k = c .before .before in
@@ -16,7 +15,7 @@ returns c =
     let store = now (a .store) in
     record {
       count-is = sym (length-joined store (a .n) (a .i) (a .j) (omega arith));
-      bytes-are = joined-bytes store (now (a .next)) (p .put .last .0) (a .n) (a .i) (a .j) (start .pre .1) (start .pre .0 .stored) (p .put .ensures) (k .finish .last .0) (k .finish .ensures);
+      bytes-are = joined-bytes store (now (a .next)) (p .put .last .0) (a .n) (a .i) (a .j) (start .pre .1) (start .pre .0 .stored) (omega arith) (p .put .ensures) (k .finish .last .0) (k .finish .ensures);
     }
 
 pub join-spec : {M : Type 1} → statement M

@@ -6,7 +6,6 @@ use borrow.Author.Needs.{needs}
 use Rattle.calls.proofs.apply.splice.Statement.{statement}
 use Rattle.calls.proofs.apply.splice.Tie as tie
 
--- src/apply.rt:79:1
 returns : tie.Need-returns
 returns c =
     let k = c .before .before in
@@ -19,8 +18,8 @@ returns c =
     record {
       count-is = sym (length-spliced store (a .n) (a .i) (a .j) rule (omega arith));
       bytes-are =
-          spliced-bytes store (now (a .next)) (p .put .last .0) (a .n) (a .i) (a .j) (start .pre .1) (start .pre .0 .stored) (p .put .ensures)
-          rule (q .put2 .last .0) (k .finish .last .0) (omega arith) (q .put2 .ensures) (k .finish .ensures);
+          spliced-bytes store (now (a .next)) (p .put .last .0) (a .n) (a .i) (a .j) (start .pre .1) (start .pre .0 .stored) (omega arith) (p .put .ensures)
+          rule (q .put2 .last .0) (k .finish .last .0) (omega arith) (omega arith) (q .put2 .ensures) (k .finish .ensures);
     }
 
 pub splice-spec : {M : Type 1} → statement M

@@ -19,9 +19,9 @@ returns c =
     let given = now (start .args .given) in
     let r = now (start .args .r) in
     let actions : List ℕ = take 13 (drop 8 given) in
-    let whole = put-whole (p .put .ensures) (omega arith) in
+    let whole = put-whole r (p .put .ensures) (omega arith) in
     let l : 8 + length (take 13 (drop 8 given)) ≡ 21 = omega (arith, length-take-le 13 (drop 8 given) (omega (arith, length-drop 8 given))) in
-    put-is (c .before .put2 .ensures)
+    put-is actions (c .before .put2 .ensures) (omega arith)
     ∙ ap₂ (λ (x : List ℕ) (m : ℕ). take 8 x ++ actions ++ drop m x) whole l
     ∙ append-assoc (take 8 r) actions (drop 21 r)
 

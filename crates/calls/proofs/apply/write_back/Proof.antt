@@ -16,7 +16,7 @@ returns c =
     let start = p .before .before .before .before in
     let next = now (start .args .next) in
     let l : 0 + length next ≡ storeBytes = omega arith in
-    put-is (p .put .ensures) ∙ ap (λ (m : ℕ). next ++ drop m (now (start .args .store))) l
+    put-is next (p .put .ensures) (omega arith) ∙ ap (λ (m : ℕ). next ++ drop m (now (start .args .store))) l
 
 pub write-back-spec : {M : Type 1} → statement M
 write-back-spec = tie.close (tie.spec (λ c κs. search needs) (λ c. search needs) returns)
