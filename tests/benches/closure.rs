@@ -4,7 +4,7 @@ use std::time::Instant;
 
 #[link(name = "closure", kind = "static")]
 extern "C" {
-    fn wegbaro_close(work: *mut u8, len: usize, base: usize, w: usize);
+    fn wegbaro_close(work: *mut u8, len: usize, base: usize, w: usize) -> bool;
 }
 
 const STATES: usize = 1024;
@@ -101,9 +101,12 @@ fn main() {
         for _ in 0..RUNS {
             let mut ours = black_box(plane.clone());
             let mut theirs = black_box(words(plane));
-            library
-                .push(time(|| unsafe { wegbaro_close(ours.as_mut_ptr(), ours.len(), 0, BYTES) }));
+            let mut closed = false;
+            library.push(time(|| {
+                closed = unsafe { wegbaro_close(ours.as_mut_ptr(), ours.len(), 0, BYTES) }
+            }));
             rust.push(time(|| warshall(&mut theirs)));
+            assert!(closed, "{name}: not within the buffer");
             assert_eq!(words(&ours), theirs, "{name}: the two closures differ");
         }
         let (a, b) = (median(library), median(rust));
