@@ -4,6 +4,8 @@ use mathlib.Core.Path.{_≡_, sym, ap, _∙_}
 use Prim.Native.Nat.{ℕ, _+_, _<_, _≤_}
 use native.Mathlib.Omega.{arith}
 use Rattle.records.specs.Record.{Rec, Net, records}
+use Rattle.records.specs.Search.{found}
+use Rattle.records.specs.declared.rules.Found.the-variants.{At}
 use Rattle.calls.specs.Apply.{added}
 use Rattle.calls.specs.Effect.{spliced}
 use Rattle.calls.proofs.Bytes.{room-spliced}
@@ -26,13 +28,15 @@ module _ (c : tie.After-f) where
   abbrev i : ℕ
   i = c .f .given .0 .0
 
+  told : At i ≡ found (now (start .args .given)) (net start)
+  told = sym (c .f .given .1) ∙ c .before .before .find-rule .ensures
+
   below : i < start .args .n
-  below = at-below (now (start .args .given)) (now (start .args .store)) (start .args .n) i (sym (c .f .given .1) ∙ c .before .before .find-rule .ensures)
+  below = at-below _ _ _ i told
 
   replaces : left start ≡ spliced (net start) i (i + 1) (c .before .before .before .as-rule .result)
   replaces =
-      added-at (now (start .args .given)) (now (start .args .store)) (start .args .n) i (sym (c .f .given .1) ∙ c .before .before .find-rule .ensures)
-      ∙ ap (λ (r : Rec). spliced (net start) i (i + 1) r) (sym (c .before .before .before .as-rule .ensures))
+      added-at _ _ _ i told ∙ ap (λ (r : Rec). spliced (net start) i (i + 1) r) (sym (c .before .before .before .as-rule .ensures))
 
 -- where it was not, and the new rule's place
 module _ (c : tie.After-place) where
@@ -43,12 +47,11 @@ module _ (c : tie.After-place) where
   k = c .place .result
 
   within : k ≤ start-2 .args .n
-  within = new-below (now (start-2 .args .given)) (now (start-2 .args .store)) (start-2 .args .n) k (c .place .ensures)
+  within = new-below (now (start-2 .args .given)) _ _ k (c .place .ensures)
 
   inserts : left start-2 ≡ spliced (net start-2) k k (c .before .before .before .before .as-rule .result)
   inserts =
-      added-new (now (start-2 .args .given)) (now (start-2 .args .store)) (start-2 .args .n) k (c .place .ensures)
-      (sym (c .before .enum-told .given .1) ∙ c .before .before .before .find-rule .ensures)
+      added-new _ _ _ k (c .place .ensures) (sym (c .before .enum-told .given .1) ∙ c .before .before .before .find-rule .ensures)
       ∙ ap (λ (r : Rec). spliced (net start-2) k k r) (sym (c .before .before .before .before .as-rule .ensures))
 
 add-splice : tie.Need-add-splice
@@ -57,16 +60,14 @@ add-splice c = omega (arith, below (c .before .before .before))
 splice-requires : tie.Need-splice-requires
 splice-requires c κs =
     let f = c .before .before .before in
-    let s = start f in
     let h = below f in
-    (room-spliced (now (s .args .store)) (s .args .n) (i f) (i f + 1) (f .before .before .before .as-rule .result) (replaces f) (omega arith) (s .pre .0), (omega arith, omega arith))
+    (room-spliced _ _ _ _ _ (replaces f) (omega arith) (start f .pre .0), (omega arith, omega arith))
 
 splice-requires-2 : tie.Need-splice-requires-2
 splice-requires-2 c κs =
     let f = c .before .before in
-    let s = start-2 f in
     let h = within f in
-    (room-spliced (now (s .args .store)) (s .args .n) (k f) (k f) (f .before .before .before .before .as-rule .result) (inserts f) h (s .pre .0), (omega arith, h))
+    (room-spliced _ _ _ _ _ (inserts f) h (start-2 f .pre .0), (omega arith, h))
 
 returns : tie.Need-returns
 returns c = let w = c .before .before in rw (replaces (w .before .before .before .before)) (w .splice .ensures)

@@ -4,6 +4,8 @@ use mathlib.Core.Path.{_≡_, sym, _∙_}
 use Prim.Native.Nat.{ℕ, _+_, _<_}
 use native.Mathlib.Omega.{arith}
 use Rattle.records.specs.Record.{Net, records}
+use Rattle.records.specs.Search.{found}
+use Rattle.records.specs.declared.rules.Found.the-variants.{At}
 use Rattle.calls.specs.Apply.{removed}
 use Rattle.calls.specs.Effect.{joined}
 use Rattle.calls.proofs.Bytes.{room-joined}
@@ -26,11 +28,14 @@ module _ (c : tie.After-f) where
   abbrev i : ℕ
   i = c .f .given .0 .0
 
+  told : At i ≡ found (now (start .args .given)) (net start)
+  told = sym (c .f .given .1) ∙ c .before .before .find-rule .ensures
+
   below : i < start .args .n
-  below = at-below (now (start .args .given)) (now (start .args .store)) (start .args .n) i (sym (c .f .given .1) ∙ c .before .before .find-rule .ensures)
+  below = at-below _ _ _ i told
 
   removes : left start ≡ joined (net start) i (i + 1)
-  removes = removed-at (now (start .args .given)) (now (start .args .store)) (start .args .n) i (sym (c .f .given .1) ∙ c .before .before .find-rule .ensures)
+  removes = removed-at _ _ _ i told
 
 -- where it was not
 module _ (c : tie.After-enum-told) where
@@ -38,7 +43,7 @@ module _ (c : tie.After-enum-told) where
   start-2 = c .before .before .before .before .before .before
 
   keeps : left start-2 ≡ joined (net start-2) (start-2 .args .n) (start-2 .args .n)
-  keeps = removed-none (now (start-2 .args .given)) (now (start-2 .args .store)) (start-2 .args .n) (sym (c .enum-told .given .1) ∙ c .before .before .find-rule .ensures)
+  keeps = removed-none _ _ _ (sym (c .enum-told .given .1) ∙ c .before .before .find-rule .ensures)
 
 add-join : tie.Need-add-join
 add-join c = omega (arith, below (c .before .before))
@@ -46,15 +51,11 @@ add-join c = omega (arith, below (c .before .before))
 join-requires : tie.Need-join-requires
 join-requires c κs =
     let f = c .before .before in
-    let s = start f in
     let h = below f in
-    (room-joined (now (s .args .store)) (s .args .n) (i f) (i f + 1) (removes f) (omega arith) (s .pre .0), (omega arith, omega arith))
+    (room-joined _ _ _ _ (removes f) (omega arith) (start f .pre .0), (omega arith, omega arith))
 
 join-requires-2 : tie.Need-join-requires-2
-join-requires-2 c κs =
-    let f = c .before in
-    let s = start-2 f in
-    (room-joined (now (s .args .store)) (s .args .n) (s .args .n) (s .args .n) (keeps f) (omega arith) (s .pre .0), (omega arith, omega arith))
+join-requires-2 c κs = (room-joined _ _ _ _ (keeps (c .before)) (omega arith) (start-2 (c .before) .pre .0), (omega arith, omega arith))
 
 returns : tie.Need-returns
 returns c = let w = c .before .before in rw (removes (w .before .before .before)) (w .join .ensures)

@@ -4,6 +4,8 @@ use mathlib.Core.Path.{_≡_, sym, ap, _∙_}
 use Prim.Native.Nat.{ℕ, _+_, _<_}
 use native.Mathlib.Omega.{arith}
 use Rattle.records.specs.Record.{Rec, Net, records}
+use Rattle.records.specs.Search.{found}
+use Rattle.records.specs.declared.rules.Found.the-variants.{At}
 use Rattle.records.specs.Laws.Records.{part-is}
 use Rattle.calls.specs.Apply.{withActions, changed}
 use Rattle.calls.specs.Effect.{spliced, joined}
@@ -27,17 +29,19 @@ module _ (c : tie.After-f) where
   abbrev i : ℕ
   i = c .f .given .0 .0
 
+  told : At i ≡ found (now (start .args .given)) (net start)
+  told = sym (c .f .given .1) ∙ c .before .before .find-rule .ensures
+
   below : i < start .args .n
-  below = at-below (now (start .args .given)) (now (start .args .store)) (start .args .n) i (sym (c .f .given .1) ∙ c .before .before .find-rule .ensures)
+  below = at-below _ _ _ i told
 
 -- and its actions replaced
 replaces : (c : tie.After-with-actions) → left (start (c .before .before .before)) ≡ spliced (net (start (c .before .before .before))) (i (c .before .before .before)) (i (c .before .before .before) + 1) (c .with-actions .result)
 replaces c =
     let f = c .before .before .before in
     let given = now (start f .args .given) in
-    let store = now (start f .args .store) in
-    changed-at given store (start f .args .n) (withActions given) (i f) (sym (f .f .given .1) ∙ f .before .before .find-rule .ensures)
-    ∙ ap (λ (r : Rec). spliced (net (start f)) (i f) (i f + 1) r) (sym (c .with-actions .ensures ∙ ap (withActions given) (part-is store (i f))))
+    changed-at _ _ _ (withActions given) (i f) (told f)
+    ∙ ap (λ (r : Rec). spliced (net (start f)) (i f) (i f + 1) r) (sym (c .with-actions .ensures ∙ ap (withActions given) (part-is (now (start f .args .store)) (i f))))
 
 -- where it was not
 module _ (c : tie.After-enum-told) where
@@ -45,9 +49,7 @@ module _ (c : tie.After-enum-told) where
   start-2 = c .before .before .before .before .before .before
 
   keeps : left start-2 ≡ joined (net start-2) (start-2 .args .n) (start-2 .args .n)
-  keeps =
-      let given = now (start-2 .args .given) in
-      changed-none given (now (start-2 .args .store)) (start-2 .args .n) (withActions given) (sym (c .enum-told .given .1) ∙ c .before .before .find-rule .ensures)
+  keeps = changed-none _ _ _ (withActions (now (start-2 .args .given))) (sym (c .enum-told .given .1) ∙ c .before .before .find-rule .ensures)
 
 mul-a : tie.Need-mul-a
 mul-a c = omega (arith, below (c .before), c .before .before .before .before .before .before .before .pre .0 .stored)
@@ -65,15 +67,11 @@ splice-requires : tie.Need-splice-requires
 splice-requires c κs =
     let w = c .before .before in
     let f = w .before .before .before in
-    let s = start f in
     let h = below f in
-    (room-spliced (now (s .args .store)) (s .args .n) (i f) (i f + 1) (w .with-actions .result) (replaces w) (omega arith) (s .pre .0), (omega arith, omega arith))
+    (room-spliced _ _ _ _ _ (replaces w) (omega arith) (start f .pre .0), (omega arith, omega arith))
 
 join-requires : tie.Need-join-requires
-join-requires c κs =
-    let f = c .before in
-    let s = start-2 f in
-    (room-joined (now (s .args .store)) (s .args .n) (s .args .n) (s .args .n) (keeps f) (omega arith) (s .pre .0), (omega arith, omega arith))
+join-requires c κs = (room-joined _ _ _ _ (keeps (c .before)) (omega arith) (start-2 (c .before) .pre .0), (omega arith, omega arith))
 
 returns : tie.Need-returns
 returns c = let w = c .before .before in rw (replaces (w .before .before .before)) (w .splice .ensures)
