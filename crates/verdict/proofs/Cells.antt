@@ -2,7 +2,7 @@
 use mathlib.Core.Path.{_≡_, refl, sym, ap, _∙_}
 use mathlib.Core.Bool.{Bool, true, false, _||_}
 use mathlib.Core.List.{List}
-use mathlib.Core.Logic.{_↔_, _⊎_, ⊎-elim}
+use mathlib.Core.Logic.{_↔_, ⊎-elim}
 use Prim.Native.Nat.{ℕ, zero, suc, _+_, _*_, _/_, _<_}
 use native.Mathlib.Nat.{mul-assoc, mul-add, mul-one}
 use native.Mathlib.Omega.{arith}
@@ -19,8 +19,7 @@ use Rattle.verdict.specs.declared.rows.Op.the-variants.{Or}
 use Rattle.verdict.specs.Truth.{value}
 use Rattle.verdict.specs.Laws.Tables.{value-lt}
 use Rattle.verdict.specs.Made.{opBool, Row, Plane, Source, Made, arranged, Reaches}
-use Rattle.verdict.proofs.Bytes.{row-as}
-use Rattle.verdict.proofs.Laying.{Laid, source-kept, made-as}
+use Rattle.verdict.proofs.Laying.{made-as}
 
 -- a byte other than 0 names Y
 pub other-var : (v : ℕ) → (v ≡ 0 → ⊥) → varOf v ≡ Y
@@ -60,12 +59,6 @@ in-stride w x z hx hz = omega (arith, mul-assoc z w 8, row-before z (w * 8) w hz
 
 pub on-diagonal : (w z : ℕ) → 0 + z * (w * 8 + 1) ≡ z + z * (w * 8)
 on-diagonal w z = omega (arith, mul-add z (w * 8) 1, mul-one z)
-
--- column x of a source, read by stride while another plane is laid
-pub column-source : (f : ℕ → ℕ → Bool) (w base p x row : ℕ) (a l r : List ℕ) → Laid f w base x row a l → x < w * 8 → Source a w base p
-    → Row (λ z. bit l (p * 8 + (x + z * (w * 8)))) (w * 8) r → Row (λ y. cell a p w y x) (w * 8) r
-column-source f w base p x row a l r I hx S R =
-    row-as _ _ (w * 8) r (λ y hy. ap (bit l) (at-cell p w x y) ∙ source-kept f w base p x a l (I .made) (I .bound) S y x hy hx) R
 
 -- copied, closed and arranged
 module _ (u v : Var) (w p scratch base : ℕ) (a a1 a2 b : List ℕ) (M1 : Made (cell a p w) w scratch (w * 8) a a1) (C : Closed scratch w a1 a2)

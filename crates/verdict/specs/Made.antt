@@ -7,12 +7,14 @@ use Prim.Native.Nat.{ℕ, _+_, _*_, _^_, _≤_, _<_}
 use lib.ListN.{length, getD}
 use lib.Bits.{bitAnd, bitOr, bitXor}
 use Rattle.planes.specs.Plane.{bit, cell, On, planeSize}
-use Rattle.records.specs.Policy.{Var}
+use Rattle.records.specs.Policy.{Var, varOf}
 use Rattle.closure.specs.Walk.{Walk}
 use Rattle.verdict.specs.Truth.{value, withX, withY}
 use Rattle.verdict.specs.Computed.{anyBelow, allBelow}
 use Rattle.verdict.specs.declared.rows.Op.{Op}
 use Rattle.verdict.specs.declared.rows.Op.the-variants.{Not, And, Or}
+use Rattle.verdict.specs.declared.shapes.Shape.{Shape}
+use Rattle.verdict.specs.declared.shapes.Shape.the-variants.{Combined, Filled, Exchanged}
 
 -- an operation on tests; NOT is of the first
 abbrev pub opBool : Op → Bool → Bool → Bool
@@ -87,6 +89,18 @@ pub record Made (f : ℕ → ℕ → Bool) (w base n : ℕ) (before after : List
   pub here : (x y : ℕ) → x < n → y < w * 8 → cell after base w x y ≡ f x y
   pub under : (m : ℕ) → m < base → getD after m 0 ≡ getD before m 0
   pub over : (m : ℕ) → base + n * w ≤ m → getD after m 0 ≡ getD before m 0
+
+-- the plane of a shape: two planes combined, the row of a variable, a plane with x and y exchanged
+abbrev pub shaped : Shape → List ℕ → List ℕ → ℕ → ℕ → ℕ → Bool
+shaped (Combined o a b) r bytes w x y = opBool o (cell bytes a w x y) (cell bytes b w x y)
+shaped (Filled v) r bytes w x y = bit r (value (varOf v) x y)
+shaped (Exchanged a) r bytes w x y = cell bytes a w y x
+
+-- each plane that a shape reads is as P says
+abbrev pub Reads : (ℕ → Type 0) → Shape → Type 0
+Reads P (Combined o a b) = P a × P b
+Reads P (Filled v) = Unit {0}
+Reads P (Exchanged a) = P a
 
 -- the plane at a with the variable v running over every state
 abbrev pub ranged : Op → Var → List ℕ → ℕ → ℕ → ℕ → ℕ → Bool

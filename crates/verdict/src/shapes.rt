@@ -5,9 +5,66 @@ ghost use Rattle.planes.specs.Bit.{bitOf};
 ghost use Rattle.planes.specs.Plane.{bit, cell};
 ghost use Rattle.records.specs.Policy.{varOf};
 ghost use Rattle.verdict.specs.Truth.{value};
-ghost use Rattle.verdict.specs.Made.{opBool, over, Quantifies, Row, Plane, Source, Made, ranged, arranged, Reaches};
+ghost use Rattle.verdict.specs.Made.{opBool, over, Quantifies, Row, Plane, Source, Made, shaped, Reads, ranged, arranged, Reaches};
 use crate::rows;
 use crate::rows::Op;
+
+// What a plane is laid of: the planes at a and b, a row that tests the variable v, the plane at a.
+enum Shape {
+    Combined { o: Op, a: usize, b: usize },
+    Filled { v: u8 },
+    Exchanged { a: usize },
+}
+
+// Bits first, first + step, .. of the plane at a, as a row of s bits.
+fn stride(work: &[u8], a: usize, first: usize, step: usize, s: usize) -> [u8; 128]
+    requires { ⌜ (s ≤ 1024) × (step ≤ 1025) × (first ≤ 1024) ⌝ }
+    requires { ⌜ ((z : ℕ) → z < s → a + (first + z * step) / 8 < length (now work)) ⌝ }
+    ensures { λ r. ⌜ Row (λ z. bit (now (work .entry)) (a * 8 + (first + z * step))) s r ⌝ }
+{
+    let mut r = [0u8; 128];
+    let mut z: usize = 0;
+    let mut n: usize = first;
+    while z < s {
+        let t = planes::get_at(work, a, n);
+        rows::push(&mut r, z, t);
+        z += 1;
+        n += step;
+    }
+    r
+}
+
+// Row x of the plane of a shape.
+fn row_of(work: &[u8], shape: Shape, r: [u8; 128], x: usize, w: usize) -> [u8; 128]
+    requires { ⌜ Reads (Plane (now work) w) shape ⌝ }
+    requires { ⌜ (w ≤ 128) × (x < w * 8) ⌝ }
+    ensures { λ e. ⌜ Row (shaped shape r (now (work .entry)) w x) (w * 8) e ⌝ }
+{
+    match shape {
+        Shape::Combined { o, a, b } => {
+            let row = x * w;
+            let p = planes::load_row(work, a + row, w);
+            let q = planes::load_row(work, b + row, w);
+            rows::join(o, &p, &q)
+        }
+        Shape::Filled { v } => rows::spread(r, v, x),
+        Shape::Exchanged { a } => stride(work, a, x, w * 8, w * 8),
+    }
+}
+
+// The plane at base becomes that of a shape.
+fn lay(work: &mut [u8], shape: Shape, r: [u8; 128], base: usize, w: usize)
+    requires { ⌜ Plane (now work) w base ⌝ }
+    requires { ⌜ Reads (Source (now work) w base) shape ⌝ }
+    ensures { λ _. ⌜ Made (shaped shape r (now (work .entry)) w) w base (w * 8) (now (work .entry)) (now (work .exit)) ⌝ }
+{
+    let mut x: usize = 0;
+    while x < w * 8 {
+        let e = row_of(work, shape, r, x, w);
+        planes::put_row(work, base + x * w, &e, w);
+        x += 1;
+    }
+}
 
 // NOT, AND, OR: the plane at base becomes the operation on the planes at a and b.
 pub fn combine(work: &mut [u8], o: Op, a: usize, b: usize, base: usize, w: usize)
@@ -16,17 +73,7 @@ pub fn combine(work: &mut [u8], o: Op, a: usize, b: usize, base: usize, w: usize
     requires { ⌜ Source (now work) w base b ⌝ }
     ensures { λ _. ⌜ Made (λ x y. opBool o (cell (now (work .entry)) a w x y) (cell (now (work .entry)) b w x y)) w base (w * 8) (now (work .entry)) (now (work .exit)) ⌝ }
 {
-    let s = w * 8;
-    let mut x: usize = 0;
-    let mut row: usize = 0;
-    while x < s {
-        let p = planes::load_row(work, a + row, w);
-        let q = planes::load_row(work, b + row, w);
-        let r = rows::join(o, &p, &q);
-        planes::put_row(work, base + row, &r, w);
-        x += 1;
-        row += w;
-    }
+    lay(work, Shape::Combined { o, a, b }, [0u8; 128], base, w);
 }
 
 // The plane at base tests the variable v as the row r does.
@@ -34,15 +81,16 @@ pub fn fill(work: &mut [u8], r: [u8; 128], v: u8, base: usize, w: usize)
     requires { ⌜ Plane (now work) w base ⌝ }
     ensures { λ _. ⌜ Made (λ x y. bit r (value (varOf v) x y)) w base (w * 8) (now (work .entry)) (now (work .exit)) ⌝ }
 {
-    let s = w * 8;
-    let mut x: usize = 0;
-    let mut row: usize = 0;
-    while x < s {
-        let e = rows::spread(r, v, x);
-        planes::put_row(work, base + row, &e, w);
-        x += 1;
-        row += w;
-    }
+    lay(work, Shape::Filled { v }, r, base, w);
+}
+
+// The plane at base becomes that at a with x and y exchanged.
+fn exchange(work: &mut [u8], a: usize, base: usize, w: usize)
+    requires { ⌜ Plane (now work) w base ⌝ }
+    requires { ⌜ Source (now work) w base a ⌝ }
+    ensures { λ _. ⌜ Made (λ x y. cell (now (work .entry)) a w y x) w base (w * 8) (now (work .entry)) (now (work .exit)) ⌝ }
+{
+    lay(work, Shape::Exchanged { a }, [0u8; 128], base, w);
 }
 
 // BIT: the plane at base tests bit i of the variable v.
@@ -108,41 +156,6 @@ pub fn range(work: &mut [u8], o: Op, a: usize, v: u8, base: usize, w: usize)
     } else {
         let r = gather_x(work, o, a, w);
         fill(work, r, 1, base, w);
-    }
-}
-
-// Bits first, first + step, .. of the plane at a, as a row of s bits.
-fn stride(work: &[u8], a: usize, first: usize, step: usize, s: usize) -> [u8; 128]
-    requires { ⌜ (s ≤ 1024) × (step ≤ 1025) × (first ≤ 1024) ⌝ }
-    requires { ⌜ ((z : ℕ) → z < s → a + (first + z * step) / 8 < length (now work)) ⌝ }
-    ensures { λ r. ⌜ Row (λ z. bit (now (work .entry)) (a * 8 + (first + z * step))) s r ⌝ }
-{
-    let mut r = [0u8; 128];
-    let mut z: usize = 0;
-    let mut n: usize = first;
-    while z < s {
-        let t = planes::get_at(work, a, n);
-        rows::push(&mut r, z, t);
-        z += 1;
-        n += step;
-    }
-    r
-}
-
-// The plane at base becomes that at a with x and y exchanged.
-fn exchange(work: &mut [u8], a: usize, base: usize, w: usize)
-    requires { ⌜ Plane (now work) w base ⌝ }
-    requires { ⌜ Source (now work) w base a ⌝ }
-    ensures { λ _. ⌜ Made (λ x y. cell (now (work .entry)) a w y x) w base (w * 8) (now (work .entry)) (now (work .exit)) ⌝ }
-{
-    let s = w * 8;
-    let mut x: usize = 0;
-    let mut row: usize = 0;
-    while x < s {
-        let r = stride(work, a, x, s, s);
-        planes::put_row(work, base + row, &r, w);
-        x += 1;
-        row += w;
     }
 }
 
