@@ -1,15 +1,15 @@
 -- A plane that is laid row by row.
-use mathlib.Core.Path.{_≡_, refl, ap, ap₂, _∙_}
+use mathlib.Core.Path.{_≡_, refl, ap₂, _∙_}
 use mathlib.Core.Bool.{Bool}
 use mathlib.Core.List.{List}
 use Prim.Native.Nat.{ℕ, _+_, _*_, _≤_, _<_}
 use native.Mathlib.Nat.{not-suc-le-zero, mul-le-mul-right}
 use native.Mathlib.Omega.{arith}
 use borrow.Author.Count.{below-more}
-use Rattle.planes.specs.Plane.{bit, cell, planeSize}
-use Rattle.planes.specs.Rows.{Put, Loaded}
+use Rattle.planes.specs.Plane.{cell}
+use Rattle.planes.specs.Rows.{Put}
 use Rattle.planes.specs.Laws.Places.{row-before, row-next}
-use Rattle.planes.specs.Laws.Rows.{row-kept, loaded-bit, put-bit, plane-apart}
+use Rattle.planes.specs.Laws.Rows.{row-kept, put-bit, plane-apart}
 use Rattle.verdict.specs.declared.shapes.Shape.{Shape}
 use Rattle.verdict.specs.declared.shapes.Shape.the-variants.{Combined, Filled, Exchanged}
 use Rattle.verdict.specs.Made.{opBool, Row, Plane, Source, Made, shaped, Reads}
@@ -33,14 +33,6 @@ module _ (f : ℕ → ℕ → Bool) (w base x : ℕ) (a l m r : List ℕ) (M : M
     under = λ n h. P .under n (omega arith) ∙ M .under n h;
     over = λ n h. P .over n (omega (arith, row-next x w)) ∙ M .over n (omega (arith, row-next x w));
   }
-
--- row x lies within a plane
-pub within : (w x row : ℕ) → x < w * 8 → row ≡ x * w → row + w ≤ planeSize w
-within w x row h e = omega (arith, row-before x (w * 8) w h)
-
--- a row that was loaded has the plane's bits
-pub loaded-cell : (l r : List ℕ) (w p x row : ℕ) → row ≡ x * w → Loaded (p + row) w l r → (y : ℕ) → y < w * 8 → bit r y ≡ cell l p w x y
-loaded-cell l r w p x row q L y hy = loaded-bit (p + row) w l r L y hy ∙ ap (λ (n : ℕ). bit l ((p + n) * 8 + y)) q
 
 -- while row x is laid, the planes that a shape reads are there, and are as before
 module _ (f : ℕ → ℕ → Bool) (w base x : ℕ) (a l : List ℕ) (M : Made f w base x a l) (hx : x < w * 8) where

@@ -96,15 +96,12 @@ fn lowest_set(work: &[u8], base: usize, w: usize) -> Lowest
     requires { ⌜ Plane (now work) w base ⌝ }
     ensures { λ r. ⌜ stateOf r ≡ firstFrom (w * 8) 0 (λ x. cell (now (work .entry)) base w x 0) ⌝ }
 {
-    let states = w * 8;
     let mut x: usize = 0;
-    let mut row: usize = 0;
-    while x < states {
-        if planes::get_at(work, base + row, 0) {
+    while x < w * 8 {
+        if planes::get_at(work, base + x * w, 0) {
             return Lowest::State(x);
         }
         x += 1;
-        row += w;
     }
     Lowest::None
 }

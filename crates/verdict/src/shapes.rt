@@ -111,14 +111,11 @@ fn gather_x(work: &[u8], o: Op, a: usize, w: usize) -> [u8; 128]
 {
     let u = rows::units(o);
     let mut acc = [u; 128];
-    let s = w * 8;
     let mut x: usize = 0;
-    let mut row: usize = 0;
-    while x < s {
-        let p = planes::load_row(work, a + row, w);
+    while x < w * 8 {
+        let p = planes::load_row(work, a + x * w, w);
         acc = rows::join(o, &acc, &p);
         x += 1;
-        row += w;
     }
     acc
 }
@@ -130,15 +127,12 @@ fn gather_y(work: &[u8], o: Op, a: usize, w: usize) -> [u8; 128]
     ensures { λ r. ⌜ Row (λ x. over o (w * 8) (λ y. cell (now (work .entry)) a w x y)) (w * 8) r ⌝ }
 {
     let mut r = [0u8; 128];
-    let s = w * 8;
     let mut x: usize = 0;
-    let mut row: usize = 0;
-    while x < s {
-        let p = planes::load_row(work, a + row, w);
+    while x < w * 8 {
+        let p = planes::load_row(work, a + x * w, w);
         let t = rows::row_over(o, &p, w);
         rows::push(&mut r, x, t);
         x += 1;
-        row += w;
     }
     r
 }

@@ -1,13 +1,13 @@
 -- `verdict::shapes::row_of` meets its contract: an arm for each shape.
-use mathlib.Core.Path.{refl, ap, ap₂, _∙_}
+use mathlib.Core.Path.{ap, ap₂, _∙_}
 use Prim.Native.Nat.{_+_, _*_, _≤_}
 use lib.ListN.{length}
 use denote.Ref.{now}
 use Rattle.planes.specs.Plane.{bit}
 use Rattle.planes.specs.Laws.Places.{row-before}
+use Rattle.planes.specs.Laws.Rows.{loaded-bit}
 use Rattle.verdict.specs.Made.{opBool}
 use Rattle.verdict.proofs.Bytes.{joined-bit, row-as}
-use Rattle.verdict.proofs.Laying.{loaded-cell}
 use Rattle.verdict.proofs.Cells.{at-cell, in-stride}
 use native.Mathlib.Omega.{arith}
 use borrow.Author.Needs.{needs}
@@ -38,8 +38,8 @@ returns c =
       is = λ y hy.
           joined-bit _ _ _ _ (c .join .ensures) y (omega (arith, at-start .pre .1))
           ∙ ap₂ (opBool (in-arm .before .shape .given .0 .0))
-          (loaded-cell _ _ _ _ _ _ refl (c .before .before .before .before .load-row .ensures) y hy)
-          (loaded-cell _ _ _ _ _ _ refl (c .before .before .before .load-row2 .ensures) y hy);
+          (loaded-bit _ _ _ _ (c .before .before .before .before .load-row .ensures) y hy)
+          (loaded-bit _ _ _ _ (c .before .before .before .load-row2 .ensures) y hy);
     })
 
 returns-2 : tie.Need-returns-2
