@@ -49,10 +49,10 @@ pub fn check(store: &[u8], n: usize, work: &mut [u8]) -> Checked
 {
     let reading = records::scan::check_rows(store, n, work.len());
     match reading {
-        Reading::Refused { number, place } => Checked::Refused {
-            number: number as usize,
-            place,
-        },
+        Reading::Refused { number, place } => {
+            let number = number as usize;
+            Checked::Refused { number, place }
+        }
         Reading::Clean(l) => {
             let v = verdict::judge::judge(store, n, l, work);
             checked_as(v)
@@ -122,10 +122,10 @@ pub fn command(store: &mut [u8], n: usize, work: &mut [u8], given: &[u8]) -> Com
 {
     let reading = records::scan::check_rows(store, n, work.len());
     match reading {
-        Reading::Refused { number, place } => Commanded::Refused {
-            number: number as usize,
-            place,
-        },
+        Reading::Refused { number, place } => {
+            let number = number as usize;
+            Commanded::Refused { number, place }
+        }
         Reading::Clean(l) => after_check(store, n, l, work, given),
     }
 }

@@ -1,6 +1,6 @@
 -- `closure::close` meets its contract. The loop's invariant is Warshall's.
 use mathlib.Core.Path.{_≡_}
-use Prim.Native.Nat.{_-_, _*_, _≤_}
+use Prim.Native.Nat.{_-_, _*_, _≤_, _<_}
 use native.Mathlib.Omega.{arith}
 use Rattle.planes.specs.Laws.Places.{row-before}
 use Rattle.closure.proofs.Warshall.{Through, through-none, through-more, through-all}
@@ -20,15 +20,14 @@ round-requires : tie.Need-round-requires Inv-loop μ-loop
 round-requires c κs =
     let at-loop = c .before .before in
     let at-start = at-loop .before .before in
-    let n = at-loop .loop .inv .1 .len in (
-      (at-start .pre .0, omega (arith, n), c .before .loop-test .taken),
-      omega (arith, n, row-before (at-loop .loop .k) (at-start .args .w * 8) (at-start .args .w) (c .before .loop-test .taken)),
-    )
+    let h : at-loop .loop .k < at-start .args .w * 8 = omega arith in
+    let n = at-loop .loop .inv .1 .len in
+    ((at-start .pre .0, omega (arith, n), h), omega (arith, n, row-before (at-loop .loop .k) (at-start .args .w * 8) (at-start .args .w) h))
 
 loop-again : tie.Need-loop-again Inv-loop μ-loop
 loop-again c =
-    let at-test = c .before .before .before .before in
-    (omega arith, through-more _ _ _ _ _ _ (at-test .loop-test .taken) (at-test .before .loop .inv .1) (c .before .before .round .ensures))
+    let at-loop = c .before .before .before .before .before in
+    (omega arith, through-more _ _ _ _ _ _ (omega arith) (at-loop .loop .inv .1) (c .before .before .round .ensures))
 
 same-length : tie.Need-same-length Inv-loop μ-loop
 same-length c = c .before .loop .inv .1 .len
