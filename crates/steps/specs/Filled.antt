@@ -4,7 +4,8 @@ use mathlib.Core.Bool.{Bool, true, _||_}
 use mathlib.Core.List.{List}
 use Prim.Native.Nat.{ℕ, _+_, _*_, _/_, _^_, _<_, _≤_}
 use lib.ListN.{length, getD}
-use Rattle.planes.specs.Plane.{bit, cell, planeSize}
+use Rattle.planes.specs.Plane.{bit, planeSize}
+use Rattle.planes.specs.Rows.{Made}
 use Rattle.records.specs.Lists.{member}
 use Rattle.records.specs.Record.{Net}
 use Rattle.records.specs.Widths.{states, withinLimits, widthsOf}
@@ -37,13 +38,6 @@ pub record Adds (passes : ℕ → Bool) (at n : ℕ) (before after : List ℕ) :
 abbrev pub Added : List ℕ → ℕ → ℕ → List ℕ → List ℕ → Type 0
 Added l row n before after = Adds (λ t. member t l) row n before after
 
--- the plane at byte base is the relation f: bit (s, t) is set exactly if f s t; every other byte is as before
-pub record Shows (f : ℕ → ℕ → Bool) (w : Widths) (base : ℕ) (before after : List ℕ) : Type 0 where
-  pub len : length after ≡ length before
-  pub pairs : (s t : ℕ) → s < states w → t < states w → cell after base (rowBytes w) s t ≡ f s t
-  pub under : (m : ℕ) → m < base → getD after m 0 ≡ getD before m 0
-  pub over : (m : ℕ) → base + planeSize (rowBytes w) ≤ m → getD after m 0 ≡ getD before m 0
-
--- the plane at byte base is the step relation: bit (s, t) is set exactly if s steps to t
+-- the plane at byte base is the step relation: bit (s, t) is set exactly if s steps to t; every other byte is as before
 abbrev pub Filled : Net → ℕ → List ℕ → List ℕ → Type 0
-Filled net base before after = Shows (λ s t. member t (next net s)) (widthsOf net) base before after
+Filled net base before after = let w = widthsOf net in Made (λ s t. member t (next net s)) (rowBytes w) base (states w) before after

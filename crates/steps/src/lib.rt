@@ -14,12 +14,13 @@ ghost use mathlib.Core.Bool.{true};
 ghost use Prim.Native.Nat.{_+_, _≤_};
 ghost use lib.ListN.{length};
 ghost use Rattle.planes.specs.Plane.{planeSize};
+ghost use Rattle.planes.specs.Rows.{Made};
 ghost use Rattle.records.specs.Lists.{member};
 ghost use Rattle.records.specs.Record.{Net, records};
-ghost use Rattle.records.specs.Widths.{withinLimits, widthsOf};
+ghost use Rattle.records.specs.Widths.{states, withinLimits, widthsOf};
 ghost use Rattle.steps.specs.Step.{external};
 ghost use Rattle.steps.specs.Choice.{arrival};
-ghost use Rattle.steps.specs.Filled.{rowBytes, Added, Shows, Filled};
+ghost use Rattle.steps.specs.Filled.{rowBytes, Added, Filled};
 ghost use Rattle.steps.specs.Sent.{Sends, relayed, relays};
 ghost use Rattle.steps.specs.Carried.{LinkedPoints};
 ghost use Rattle.steps.specs.Stored.{Stored};
@@ -71,17 +72,16 @@ fn relay_state(work: &mut [u8], row: usize, store: &[u8], n: usize, l: Layout, s
 fn fill_arriving(work: &mut [u8], base: usize, store: &[u8], n: usize, l: Layout)
     requires { ⌜ base + planeSize (rowBytes (l .widths)) ≤ length (now work) ⌝ }
     requires { ⌜ Stored n l (now store) ⌝ }
-    ensures { λ _. ⌜ Shows (λ s t. member t (relays (records n (now (store .entry))) (l .widths) s)) (l .widths) base (now (work .entry)) (now (work .exit)) ⌝ }
+    ensures { λ _. ⌜ Made (λ s t. member t (relays (records n (now (store .entry))) (l .widths) s)) (rowBytes (l .widths)) base (states (l .widths)) (now (work .entry)) (now (work .exit)) ⌝ }
 {
     let w = l.widths;
     let states = w.states();
     let bytes = states / 8;
-    let mut row = base;
     let mut s: usize = 0;
     while s < states {
+        let row = base + s * bytes;
         planes::clear(work, row, bytes);
         relay_state(work, row, store, n, l, s);
-        row += bytes;
         s += 1;
     }
 }

@@ -7,6 +7,8 @@ use Prim.Native.Nat.{ℕ, zero, suc, _+_, _*_, _/_, _<_}
 use native.Mathlib.Nat.{mul-assoc, mul-add, mul-one}
 use native.Mathlib.Omega.{arith}
 use lib.ListN.{length}
+use Rattle.planes.specs.Rows.{Made}
+use Rattle.planes.specs.Laws.Planes.{made-as}
 use Rattle.planes.specs.Plane.{bit, cell, On, planeSize}
 use Rattle.planes.specs.Rows.{Cleared}
 use Rattle.planes.specs.Laws.Places.{row-before}
@@ -18,8 +20,7 @@ use Rattle.closure.specs.Laws.Walks.{map-walk}
 use Rattle.verdict.specs.declared.rows.Op.the-variants.{Or}
 use Rattle.verdict.specs.Truth.{value}
 use Rattle.verdict.specs.Laws.Tables.{value-lt}
-use Rattle.verdict.specs.Made.{opBool, Row, Plane, Source, Made, arranged, Reaches}
-use Rattle.verdict.proofs.Laying.{made-as}
+use Rattle.verdict.specs.Made.{opBool, Row, Plane, Source, arranged, Reaches}
 
 -- a byte other than 0 names Y
 pub other-var : (v : ℕ) → (v ≡ 0 → ⊥) → varOf v ≡ Y
@@ -29,7 +30,7 @@ other-var (suc v) h = refl
 -- a plane that tests one variable
 pub made-spread : (g : ℕ → Bool) (v : Var) (w base : ℕ) (a b r : List ℕ) → Row g (w * 8) r
     → Made (λ x y. bit r (value v x y)) w base (w * 8) a b → Made (λ x y. g (value v x y)) w base (w * 8) a b
-made-spread g v w base a b r R M = made-as _ _ w base a b (λ x y hx hy. R .is (value v x y) (value-lt v hx hy)) M
+made-spread g v w base a b r R M = made-as _ _ w base (w * 8) a b (λ x y hx hy. R .is (value v x y) (value-lt v hx hy)) M
 
 or-same : (p : Bool) → (p || p) ≡ p
 or-same true = refl
@@ -37,7 +38,7 @@ or-same false = refl
 
 pub made-copy : (w base p : ℕ) (a b : List ℕ) → Made (λ x y. opBool Or (cell a p w x y) (cell a p w x y)) w base (w * 8) a b
     → Made (cell a p w) w base (w * 8) a b
-made-copy w base p a b M = made-as _ _ w base a b (λ x y hx hy. or-same (cell a p w x y)) M
+made-copy w base p a b M = made-as _ _ w base (w * 8) a b (λ x y hx hy. or-same (cell a p w x y)) M
 
 -- a plane that was cleared
 pub made-none : (w base : ℕ) (a b : List ℕ) → Cleared base (planeSize w) a b → Made (λ x y. false) w base (w * 8) a b

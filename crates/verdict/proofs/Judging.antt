@@ -82,7 +82,7 @@ module _ (end : ℕ) (l : Layout) (store : List ℕ) where
       model = record {
         counts = bits;
         steps = λ x y hx hy.
-            let e = F .pairs x y (omega (arith, bits)) (omega (arith, bits)) in
+            let e = F .here x y (omega (arith, bits)) (omega (arith, bits)) in
             (λ t. sym e ∙ t, λ t. e ∙ t);
         externals = λ x hx. let e = R .is x (omega (arith, bits)) in (λ t. sym e ∙ t, λ t. e ∙ t);
       };
@@ -110,7 +110,7 @@ module _ (end : ℕ) (l : Layout) (store : List ℕ) where
           let n = needed net within in
           K .over i (omega arith)
           ∙ S .behind i (omega (arith, n))
-          ∙ F .over i (omega (arith, n, first-plane (rowBytes own) (longest net)))
+          ∙ F .over i (omega (arith, n, first-plane (rowBytes own) (longest net), ap (λ (m : ℕ). m * rowBytes own) bits))
           ∙ sym (behind-zeros k i a (omega arith))
 
       pub left : d ≡ replicate k 0 ++ drop k a

@@ -9,6 +9,7 @@ use native.Mathlib.Decide.{ℕ-discrete}
 use native.Mathlib.Omega.{arith}
 use lib.ListN.{List·getD-eq-default}
 use Rattle.planes.specs.Bit.{bitOf}
+use Rattle.planes.specs.Rows.{Made}
 use Rattle.planes.specs.Plane.{bit, cell, planeSize}
 use Rattle.planes.specs.Rows.{Cleared}
 use Rattle.planes.specs.Laws.Places.{row-before}
@@ -16,7 +17,7 @@ use Rattle.records.specs.Policy.{Formula, kBIT, kR, kE, kNOT, kAND, kOR, kSOME,
 use Rattle.closure.specs.Laws.Walks.{map-walk}
 use Rattle.verdict.specs.declared.rows.Op.the-variants.{And, Or}
 use Rattle.verdict.specs.Truth.{value, withX, withY, Truth}
-use Rattle.verdict.specs.Made.{over, Plane, Source, Made, ranged, arranged, Reaches}
+use Rattle.verdict.specs.Made.{over, Plane, Source, ranged, arranged, Reaches}
 use Rattle.verdict.specs.Node.{planeAt, arity, Operand, modelAt, Shows, Makeable, NodeMade}
 use Rattle.verdict.proofs.Cells.{made-none}
 use Rattle.verdict.specs.Laws.Tables.{withX-lt, withY-lt, any-iff, all-iff}

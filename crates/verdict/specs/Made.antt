@@ -83,13 +83,6 @@ pub record Source (bytes : List ℕ) (w base a : ℕ) : Type 0 where
   pub within : a + planeSize w ≤ length bytes
   pub apart : (a + planeSize w ≤ base) ⊎ (base + planeSize w ≤ a)
 
--- the first n rows of the plane at base are f; every byte outside of them is as before
-pub record Made (f : ℕ → ℕ → Bool) (w base n : ℕ) (before after : List ℕ) : Type 0 where
-  pub len : length after ≡ length before
-  pub here : (x y : ℕ) → x < n → y < w * 8 → cell after base w x y ≡ f x y
-  pub under : (m : ℕ) → m < base → getD after m 0 ≡ getD before m 0
-  pub over : (m : ℕ) → base + n * w ≤ m → getD after m 0 ≡ getD before m 0
-
 -- the plane of a shape: two planes combined, the row of a variable, a plane with x and y exchanged
 abbrev pub shaped : Shape → List ℕ → List ℕ → ℕ → ℕ → ℕ → Bool
 shaped (Combined o a b) r bytes w x y = opBool o (cell bytes a w x y) (cell bytes b w x y)

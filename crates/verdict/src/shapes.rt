@@ -3,9 +3,10 @@ ghost use Prim.Native.Nat.{ℕ, _+_, _*_, _/_, _≤_, _<_};
 ghost use lib.ListN.{length};
 ghost use Rattle.planes.specs.Bit.{bitOf};
 ghost use Rattle.planes.specs.Plane.{bit, cell};
+ghost use Rattle.planes.specs.Rows.{Made};
 ghost use Rattle.records.specs.Policy.{varOf};
 ghost use Rattle.verdict.specs.Truth.{value};
-ghost use Rattle.verdict.specs.Made.{opBool, over, Quantifies, Row, Plane, Source, Made, shaped, Reads, ranged, arranged, Reaches};
+ghost use Rattle.verdict.specs.Made.{opBool, over, Quantifies, Row, Plane, Source, shaped, Reads, ranged, arranged, Reaches};
 use crate::rows;
 use crate::rows::Op;
 

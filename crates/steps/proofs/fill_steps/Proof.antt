@@ -4,15 +4,17 @@ use mathlib.Core.Path.{ap, ap₂, subst, _∙_}
 use mathlib.Core.Bool.{Bool, _||_}
 use mathlib.Core.List.{List}
 use Prim.Native.Nat.{ℕ}
+use Rattle.planes.specs.Rows.{Made}
 use Rattle.records.specs.Lists.{member}
 use Rattle.records.specs.Record.{records, ofKind}
+use Rattle.records.specs.Widths.{states}
 use Rattle.records.specs.declared.Widths.{Widths}
 use Rattle.steps.specs.Step.{across, next}
-use Rattle.steps.specs.Filled.{Shows}
+use Rattle.steps.specs.Filled.{rowBytes}
 use Rattle.steps.specs.Sent.{relays}
 use Rattle.steps.specs.Carried.{crosses}
 use Rattle.steps.proofs.Pairs.{pair-first, pair-second}
-use Rattle.steps.proofs.Filling.{room-on, shows-more}
+use Rattle.steps.proofs.Filling.{room-on, pairs-added}
 use Rattle.steps.proofs.Stepping.{either-step}
 use Rattle.steps.proofs.fill_steps.Statement.{statement}
 use Rattle.steps.proofs.fill_steps.Tie as tie
@@ -30,8 +32,8 @@ returns c =
     let w = a .l .widths in
     let net = records (a .n) (now (a .store)) in
     let ends : ℕ → ℕ → List (ℕ × ℕ) = λ sw p. across sw p (ofKind 2 net) in
-    subst (λ (v : Widths). Shows (λ x t. member t (next net x)) v (a .base) (now (a .work)) (c .before .before .cross .last .0)) (s .pre .1 .laid .widths)
-    (shows-more w (s .pre .1 .laid .limits) (a .base) (λ x t. member t (relays net w x)) (λ x t. member t (next net x)) _ _ _ _ (f .fill-arriving .ensures) (c .before .before .cross .ensures)
+    subst (λ (v : Widths). Made (λ x t. member t (next net x)) (rowBytes v) (a .base) (states v) (now (a .work)) (c .before .before .cross .last .0)) (s .pre .1 .laid .widths)
+    (pairs-added w (s .pre .1 .laid .limits) (a .base) (λ x t. member t (relays net w x)) (λ x t. member t (next net x)) _ _ _ _ (f .fill-arriving .ensures) (c .before .before .cross .ensures)
     (λ x t hx ht.
     ap (λ (b : Bool). b || member t (relays net w x)) (ap₂ (crosses w ends) (pair-first w x t ht) (pair-second w x t ht))
     ∙ either-step net w (s .pre .1 .laid .widths) x t))

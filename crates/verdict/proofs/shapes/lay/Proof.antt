@@ -3,9 +3,11 @@ use mathlib.Core.Path.{_≡_}
 use Prim.Native.Nat.{_+_, _*_, _-_, _≤_}
 use native.Mathlib.Omega.{arith}
 use Rattle.planes.specs.Plane.{planeSize}
+use Rattle.planes.specs.Rows.{Made}
 use Rattle.planes.specs.Laws.Places.{row-before}
-use Rattle.verdict.specs.Made.{Made, shaped}
-use Rattle.verdict.proofs.Laying.{laid-none, laid-more, sources-there, row-as-before}
+use Rattle.planes.specs.Laws.Planes.{made-none}
+use Rattle.verdict.specs.Made.{shaped}
+use Rattle.verdict.proofs.Laying.{laid-more, sources-there, row-as-before}
 use Rattle.verdict.proofs.shapes.lay.Statement.{statement}
 use Rattle.verdict.proofs.shapes.lay.Tie as tie
 
@@ -51,7 +53,7 @@ lay-spec =
     (tie.spec
     Inv-loop
     μ-loop
-    (λ c. (omega arith, laid-none _ _ _ _))
+    (λ c. (omega arith, made-none _ _ _ _))
     (λ c. omega arith)
     row-of-requires
     (λ c. omega (arith, fits (c .before .before .before)))
