@@ -1,34 +1,34 @@
 -- What the two calls have done, by whether a row refuses and by the verdict.
-use mathlib.Core.Path.{_≡_, refl, sym, ap, ap₂, subst, _∙_}
+use mathlib.Core.Path.{_≡_, refl, sym, ap, _∙_}
 use mathlib.Core.List.{List, [], _++_}
 use mathlib.Core.Option.{none, some}
 use Prim.Native.Nat.{ℕ, _+_, _-_, _*_, _≤_}
 use native.Mathlib.Omega.{arith}
 use lib.ListN.{length, drop, replicate, length-append, length-drop, length-replicate}
 use lib.Seq.{length-take-le}
-use Rattle.records.specs.Record.{Rec, Net, mostRecords, storeBytes, records, flat}
+use Rattle.records.specs.Record.{Rec, Net, storeBytes, records, flat}
 use Rattle.records.specs.Rows.{workNeeded}
-use Rattle.records.specs.Refusal.{Refusal, orElse, fileRow, checkRefusal, commandRow, commandRefusal}
+use Rattle.records.specs.Refusal.{Refusal, fileRow, checkRefusal, commandRow, commandRefusal}
 use Rattle.records.specs.Layout.{LayoutOf}
 use Rattle.records.specs.declared.scan.Layout.{Layout}
-use Rattle.records.specs.Laws.Records.{Whole, length-flat}
+use Rattle.records.specs.Laws.Records.{length-flat}
 use Rattle.records.specs.Laws.Clean.{not-empty}
 use Rattle.verdict.specs.declared.judge.Judged.{Judged}
 use Rattle.verdict.specs.declared.judge.Judged.the-variants as judged
 use Rattle.verdict.specs.Verdict.{Verdict, holds, violated}
 use Rattle.verdict.specs.Judgement.{verdict}
-use Rattle.verdict.specs.Judge.{verdictOf, Clean, Judgeable, Judges}
+use Rattle.verdict.specs.Judge.{verdictOf, Judgeable, Judges}
 use Rattle.calls.specs.declared.Checked.{Checked}
 use Rattle.calls.specs.Answer.{CheckAnswer, CommandAnswer, forwarded, blocked, checkAnswerOf}
 use Rattle.calls.specs.Apply.{applied}
-use Rattle.calls.specs.Effect.{padded, filled, Room, Made, Known}
-use Rattle.calls.specs.Check.{unless, ofVerdict, checkAnswer, cleared, checkWork, checkedAs, CheckPromised}
-use Rattle.calls.specs.Reference.{Installed, Outcome, stored, unchanged, judged as judgedStep, step, commandWork}
+use Rattle.calls.specs.Effect.{padded, Room, Made, Known}
+use Rattle.calls.specs.Check.{ofVerdict, checkAnswer, cleared, checkWork, checkedAs, CheckPromised}
+use Rattle.calls.specs.Reference.{Installed, Outcome, stored, judged as judgedStep, step, commandWork}
 use Rattle.calls.specs.NeverStuck.{GoesOn, work-same}
 use Rattle.calls.specs.Series.{Promised, call}
 use Rattle.calls.specs.Laws.Store.{installed-whole}
 use Rattle.calls.specs.Laws.Stored.{command}
-use Rattle.calls.specs.Laws.Refusals.{Checks, checks, passed, goes-on}
+use Rattle.calls.specs.Laws.Refusals.{checks, passed, goes-on}
 use Rattle.calls.proofs.Bytes.{stored-filled, made-records}
 
 -- a scan that answers a refusal where none is given

@@ -1,7 +1,6 @@
 -- The effect of a command on the records of a network: add, modify and delete in strict form.
-use mathlib.Core.Bool.{Bool, true, false, cond}
+use mathlib.Core.Bool.{true, false, cond}
 use mathlib.Core.List.{[], _∷_, _++_}
-use Prim.Native.Nat.{ℕ}
 use lib.Dec.{eqb, ltb}
 use lib.ListN.{take, drop}
 use Rattle.records.specs.Record.{Rec, Net, kind, sameRule, present}

@@ -3,7 +3,7 @@ use mathlib.Core.Path.{_≡_}
 use mathlib.Core.List.{List, [], _∷_, map}
 use Prim.Native.Nat.{ℕ}
 use lib.ListN.{length}
-use Rattle.records.specs.Record.{Rec, Net, records}
+use Rattle.records.specs.Record.{Rec, Net}
 use Rattle.verdict.specs.Verdict.{Holds, Lowest}
 use Rattle.calls.specs.Answer.{CheckAnswer, CommandAnswer, forwarded, blocked}
 use Rattle.calls.specs.Apply.{applied}

@@ -20,7 +20,7 @@ use Rattle.records.specs.Policy.{X, Y, R, TC, nodeKind, nodeSays, firstNodes, f
 use Rattle.records.specs.Rows.{row1, row2, row3, row4, row5, row6, row7, row8, row9, row10, row11, row12, row13, zeros, pointGood, actionOf, actionGood, actionsGood, matchGood, nodeGood, fieldsGood, missesIncomplete, operandsGood, endsPolicy, freeAt, workNeeded, commandGood}
 use Rattle.records.specs.Refusal.{recordRow, fileRow, argumentsRow, networkRow, checkRefusal, commandRow, commandRefusal}
 use Rattle.steps.specs.Step.{ruleMatches, outranked, best, orMiss, chosen, reached, copies, sent, across, next, Step, external}
-use Rattle.verdict.specs.Truth.{Truth, modelOf}
+use Rattle.verdict.specs.Truth.{Truth}
 use Rattle.verdict.specs.Verdict.{Verdict, holds, violated, Holds, Lowest, Is}
 use Rattle.verdict.specs.Computed.{tableOf, anyBelow, allBelow, truth, firstFrom, lowestState, verdictFrom}
 use Rattle.verdict.specs.Judgement.{judgement, verdict, verdict-meant}

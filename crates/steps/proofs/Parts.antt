@@ -1,22 +1,18 @@
 -- The links, the misses and the rules of a store, by their places.
-use borrow.Author.Tests.{eqb-true}
-use mathlib.Core.Path.{_≡_, refl, sym, ap, subst, _∙_}
-use mathlib.Core.Bool.{Bool, true, false, cond, _&&_}
-use mathlib.Core.List.{List, [], _∷_}
-use Prim.Native.Nat.{ℕ, zero, suc, _+_, _-_, _^_, _<_, _≤_}
+use mathlib.Core.Path.{_≡_, sym, _∙_}
+use mathlib.Core.Bool.{true, _&&_}
+use mathlib.Core.List.{List, []}
+use Prim.Native.Nat.{ℕ, _-_, _^_, _<_, _≤_}
 use native.Mathlib.Decide.{decLt}
-use native.Mathlib.Numerals.{add-one}
 use native.Mathlib.Omega.{arith}
-use lib.Dec.{eqb, ltb}
-use lib.ListN.{length, getD, take, drop, length-drop}
-use lib.Seq.{drop-cons, getD-take, getD-drop, length-take-le}
+use lib.Dec.{ltb}
+use lib.ListN.{getD}
 use Rattle.planes.specs.Laws.Tests.{and-left, and-right, both}
-use Rattle.records.specs.Lists.{keep}
-use Rattle.records.specs.Record.{Rec, Net, at, kind, records, ofKind}
+use Rattle.records.specs.Record.{Net, at, records}
 use Rattle.records.specs.Rows.{zeros, pointGood, actionsGood, matchGood}
 use Rattle.records.specs.Laws.Fields.{link-fields, miss-fields, rule-fields}
 use Rattle.records.specs.Laws.Records.{length-records}
-use Rattle.records.specs.Laws.Parts.{part, part-at, kind-in}
+use Rattle.records.specs.Laws.Parts.{kind-in}
 use Rattle.records.specs.declared.scan.Layout.{Layout}
 use Rattle.steps.specs.Stored.{Stored}
 

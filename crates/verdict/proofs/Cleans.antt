@@ -1,13 +1,13 @@
 -- What rows 3 to 10 leave of the records of a clean network, by their places.
-use mathlib.Core.Path.{_≡_, sym, ap, subst, _∙_}
+use mathlib.Core.Path.{_≡_, sym, ap, _∙_}
 use mathlib.Core.Bool.{true}
 use mathlib.Core.List.{List, []}
-use Prim.Native.Nat.{ℕ, _-_, _*_, _≤_, _<_}
+use Prim.Native.Nat.{ℕ, _-_, _≤_, _<_}
 use native.Mathlib.Decide.{decLt}
 use native.Mathlib.Omega.{arith}
 use lib.ListN.{length, getD, take, drop, length-drop}
 use lib.Seq.{take-all, length-take-le}
-use Rattle.records.specs.Record.{Rec, Net, kind, records, ofKind}
+use Rattle.records.specs.Record.{Net, kind, records, ofKind}
 use Rattle.records.specs.Rows.{fieldsGood}
 use Rattle.records.specs.declared.Widths.{Widths}
 use Rattle.records.specs.declared.scan.Layout.{Layout}

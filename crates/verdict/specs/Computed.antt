@@ -8,7 +8,7 @@ use Rattle.planes.specs.Bit.{bitOf}
 use Rattle.records.specs.Lists.{member}
 use Rattle.records.specs.Record.{Net}
 use Rattle.records.specs.Widths.{states, widthsOf}
-use Rattle.records.specs.Policy.{Var, Formula, absent, BIT, R, E, NOT, AND, OR, SOME, ALL, TC, forbidden, policyCount}
+use Rattle.records.specs.Policy.{Formula, absent, BIT, R, E, NOT, AND, OR, SOME, ALL, TC, forbidden}
 use Rattle.steps.specs.Step.{next, external}
 use Rattle.closure.specs.Computed.{Grid, cell, tab, closed}
 use Rattle.verdict.specs.Truth.{value, withX, withY}

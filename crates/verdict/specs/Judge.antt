@@ -5,7 +5,7 @@ use mathlib.Core.List.{List, [], _++_}
 use mathlib.Core.Logic.{_⊎_}
 use mathlib.Core.Option.{none}
 use Prim.Native.Nat.{ℕ, suc, _+_, _*_, _≤_, _<_}
-use lib.ListN.{length, getD, take, drop, replicate}
+use lib.ListN.{length, getD, drop, replicate}
 use Rattle.records.specs.Record.{Rec, Net, at, records}
 use Rattle.records.specs.Policy.{nodesOf, policyCount, longest}
 use Rattle.records.specs.Rows.{operandsGood, workNeeded}

@@ -1,6 +1,5 @@
 -- The verdict on a network, with the proof that it is the one that is meant, and that no other is.
-use mathlib.Core.Path.{_≡_, refl, sym, subst, subst⁻¹, _∙_}
-use mathlib.Core.Bool.{true}
+use mathlib.Core.Path.{_≡_, refl, sym, subst⁻¹, _∙_}
 use mathlib.Core.Logic.{_⊎_, inl, inr, ⊎-elim}
 use mathlib.Core.Option.{Option, none, some}
 use Prim.Native.Nat.{ℕ, zero, suc, _+_, _<_}
@@ -11,8 +10,7 @@ use lib.Pow.{pow-pos}
 use Rattle.records.specs.Record.{Net}
 use Rattle.records.specs.Widths.{width, states, widthsOf}
 use Rattle.records.specs.Policy.{forbidden, policyCount}
-use Rattle.verdict.specs.Truth.{Truth, modelOf}
-use Rattle.verdict.specs.Verdict.{Verdict, holds, violated, Breaks, Holds, Lowest, Is}
+use Rattle.verdict.specs.Verdict.{Verdict, holds, violated, Breaks, Lowest, Is}
 use Rattle.verdict.specs.Computed.{tableOf, truth, firstFrom, lowestState, verdictFrom}
 use Rattle.verdict.specs.Laws.Tables.{truth-iff}
 use Rattle.verdict.specs.Laws.Search.{First, first-is}

@@ -8,7 +8,7 @@ use lib.ListN.{length}
 use Rattle.records.specs.Record.{Rec, Net}
 use Rattle.records.specs.Refusal.{Refusal, checkRefusal, commandRefusal}
 use Rattle.records.specs.Laws.Records.{Whole}
-use Rattle.verdict.specs.Verdict.{Verdict, holds, violated, Holds, Lowest, Is}
+use Rattle.verdict.specs.Verdict.{Verdict, holds, violated, Holds, Is}
 use Rattle.verdict.specs.Judgement.{verdict, verdict-meant, only}
 use Rattle.calls.specs.Answer.{CheckAnswer, CommandAnswer, forwarded, blocked}
 use Rattle.calls.specs.Apply.{applied}

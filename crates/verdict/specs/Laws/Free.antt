@@ -1,8 +1,8 @@
 -- The truth of a formula goes by the values of its free variables alone.
 use mathlib.Core.Path.{_≡_, refl, sym, subst, subst₂}
-use mathlib.Core.Bool.{Bool, true, false, not, _&&_, _||_}
+use mathlib.Core.Bool.{Bool, true, false, not, _&&_}
 use mathlib.Core.Logic.{_↔_, _⊎_, inl, inr, ⊎-elim}
-use Prim.Native.Nat.{ℕ, _<_}
+use Prim.Native.Nat.{ℕ}
 use Rattle.planes.specs.Bit.{bitOf}
 use Rattle.planes.specs.Laws.Tests.{not-both, and-both, or-left, or-right}
 use Rattle.records.specs.Policy.{Var, X, Y, Formula, absent, BIT, R, E, NOT, AND, OR, SOME, ALL, TC, sameVar, free}

@@ -1,18 +1,17 @@
 -- A verdict depends on a network only through its widths, external points, policies and steps.
-use mathlib.Core.Path.{_≡_, refl, sym, ap, subst, subst⁻¹, _∙_}
-use mathlib.Core.Bool.{Bool, true}
+use mathlib.Core.Path.{_≡_, sym, subst, subst⁻¹, _∙_}
 use mathlib.Core.Logic.{_↔_, _⊎_, inl, inr, ⊎-elim}
 use Prim.Native.Nat.{ℕ, _<_}
 use native.Mathlib.Omega.{arith}
 use lib.Pow.{pow-pos}
 use Rattle.records.specs.Record.{Net}
 use Rattle.records.specs.Widths.{width, states, widthsOf}
-use Rattle.records.specs.Policy.{Var, X, Y, Formula, absent, BIT, R, E, NOT, AND, OR, SOME, ALL, TC, forbidden, policyCount}
+use Rattle.records.specs.Policy.{Formula, absent, BIT, R, E, NOT, AND, OR, SOME, ALL, TC, forbidden, policyCount}
 use Rattle.steps.specs.Step.{Step, external}
 use Rattle.closure.specs.Walk.{Walk}
 use Rattle.closure.specs.Laws.Walks.{map-walk}
 use Rattle.verdict.specs.Truth.{Model, modelOf, value, withX, withY, Truth}
-use Rattle.verdict.specs.Verdict.{Verdict, holds, violated, Breaks, Holds, Lowest, Is}
+use Rattle.verdict.specs.Verdict.{Verdict, holds, violated, Breaks, Is}
 use Rattle.verdict.specs.Judgement.{verdict, verdict-meant, only}
 use Rattle.verdict.specs.Laws.Tables.{value-lt, withX-lt, withY-lt}
 
