@@ -1,6 +1,6 @@
 -- Policies: the formula that a node record stands for, and its free variables.
 use mathlib.Core.Bool.{Bool, true, false, cond, not, _&&_, _||_}
-use mathlib.Core.List.{List, [], _∷_}
+use mathlib.Core.List.{[], _∷_}
 use Prim.Native.Nat.{ℕ, zero, suc, _-_, _/_, _%_, max}
 use lib.Dec.{eqb}
 use lib.ListN.{length, getD}

@@ -1,5 +1,5 @@
 -- Which refusal is answered: number and place. Rows are checked downwards; in the file, the first faulty record counts, and in it the lowest number.
-use mathlib.Core.Bool.{Bool, true, false, cond}
+use mathlib.Core.Bool.{Bool, cond}
 use mathlib.Core.List.{List, [], _∷_, _++_}
 use mathlib.Core.Option.{Option, none, some}
 use Prim.Native.Nat.{ℕ}

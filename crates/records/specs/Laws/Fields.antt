@@ -1,6 +1,6 @@
 -- Fields of a record: read from a rule's body, bytes 1 to 20; by the record's kind; action by action; and zero bytes one at a time.
 use mathlib.Core.Path.{_≡_, refl, ap, _∙_}
-use mathlib.Core.Bool.{Bool, true, false, not, _&&_, _||_, and-false}
+use mathlib.Core.Bool.{Bool, true, false, _&&_, and-false}
 use mathlib.Core.List.{List, _∷_}
 use mathlib.Core.Logic.{_⊎_, inl, inr}
 use Prim.Native.Nat.{ℕ, zero, suc, _+_, _-_, _*_, _^_, _≤_, _<_}
@@ -12,7 +12,6 @@ use lib.ListN.{length, getD, take, drop, length-drop}
 use lib.Seq.{length-take-le, getD-take, getD-drop, slice-cons, slice-empty}
 use Rattle.records.specs.Lists.{all}
 use Rattle.records.specs.Record.{Rec, at, kind}
-use Rattle.records.specs.Pattern.{patternGood}
 use Rattle.records.specs.Rows.{zeros, usedGood, unusedGood, actionOf, actionGood, actionsGood, pointGood, matchGood, nodeGood, fieldsGood, commandGood}
 use Rattle.records.specs.declared.Widths.{Widths}
 

@@ -1,8 +1,8 @@
 -- The fields of a network that no row refuses are good.
 use borrow.Author.Tests.{not-false}
-use mathlib.Core.Path.{_≡_, sym, ap, ap₂, _∙_}
-use mathlib.Core.Bool.{Bool, true}
-use mathlib.Core.List.{List, [], _∷_, _++_}
+use mathlib.Core.Path.{_≡_, ap₂, _∙_}
+use mathlib.Core.Bool.{true}
+use mathlib.Core.List.{[], _∷_, _++_}
 use mathlib.Core.Option.{none}
 use Prim.Native.Nat.{ℕ, _+_, _<_, _≤_}
 use native.Mathlib.Decide.{decLt}
@@ -13,7 +13,6 @@ use Rattle.records.specs.Record.{Rec, Net}
 use Rattle.records.specs.Widths.{widthsOf}
 use Rattle.records.specs.Rows.{row5, fieldsGood}
 use Rattle.records.specs.Refusal.{fileRow}
-use Rattle.records.specs.declared.Widths.{Widths}
 use Rattle.records.specs.Laws.Scan.{widths-stay}
 use Rattle.records.specs.Laws.Clean.{Passes, clean-all}
 

@@ -1,20 +1,20 @@
 -- The kinds of a network that no row refuses stand one after the other.
 use mathlib.Core.Path.{_≡_, refl, sym, ap, subst, _∙_}
-use mathlib.Core.Bool.{Bool, true, false, not, _&&_, _||_, true≢false, or-false}
+use mathlib.Core.Bool.{true}
 use mathlib.Core.List.{[], _∷_, _++_, append-assoc, append-nil}
-use mathlib.Core.Logic.{_⊎_, inl, inr, ⊎-elim}
+use mathlib.Core.Logic.{⊎-elim}
 use mathlib.Core.Option.{none}
 use Prim.Native.Nat.{ℕ, zero, suc, _+_, _-_, _^_, _≤_, _<_}
 use native.Mathlib.Omega.{arith}
-use lib.Dec.{eqb, leb, ltb}
-use lib.ListN.{length, getD, take, drop, length-append}
+use lib.Dec.{eqb}
+use lib.ListN.{length, take, drop, length-append}
 use lib.Seq.{length-take-le, take-append-le, take-at, drop-at}
-use borrow.Author.Tests.{eq-eqb, ne-eqb, eqb-true, eqb-false, lt-ltb, ltb-true, ltb-false, leb-false, not-false}
+use borrow.Author.Tests.{eq-eqb, ne-eqb, ltb-false, not-false}
 use Rattle.records.specs.Lists.{keep}
-use Rattle.records.specs.Record.{Rec, Net, at, kind, ofKind}
+use Rattle.records.specs.Record.{Rec, Net, kind, ofKind}
 use Rattle.records.specs.Widths.{withinLimits, widthsOf}
-use Rattle.records.specs.Policy.{nodesOf, policyCount, longestOf, longest}
-use Rattle.records.specs.Rows.{row3, row4, row5, row7, row9, row10, fieldsGood, operandsGood, endsPolicy, freeAt, missesIncomplete}
+use Rattle.records.specs.Policy.{policyCount, longestOf, longest}
+use Rattle.records.specs.Rows.{row4, missesIncomplete}
 use Rattle.records.specs.Refusal.{fileRow}
 use Rattle.records.specs.Scan.{SeenOf}
 use Rattle.records.specs.Layout.{LayoutOf, Counted}
@@ -22,13 +22,12 @@ use Rattle.records.specs.declared.turns.Seen.{Seen}
 use Rattle.records.specs.declared.scan.Reading.the-variants.{Clean}
 use Rattle.records.specs.declared.Widths.{Widths}
 use Rattle.records.specs.declared.scan.Layout.{Layout}
-use Rattle.planes.specs.Laws.Tests.{both, or-none}
 use Rattle.records.specs.Laws.Lists.{keep-in, keep-out}
 use Rattle.records.specs.Laws.Formulas.{same-or-not}
 use Rattle.records.specs.Laws.Policies.{count-node, count-other, longest-follows, longest-other}
 use Rattle.records.specs.Laws.Scan.{last-kind, widths-stay}
 use Rattle.records.specs.Laws.Kinds.{lastKind}
-use Rattle.records.specs.Laws.Clean.{Passes, clean-all, misses-complete, and-test, not-empty, Ordered, ordered, miss-next, miss-switch, rule-room, node-room, node-follows}
+use Rattle.records.specs.Laws.Clean.{Passes, clean-all, misses-complete, not-empty, Ordered, ordered, miss-next, miss-switch, rule-room, node-room, node-follows}
 
 -- the records of a kind, one record more
 pub kind-in : (k : ℕ) (before : Net) (r : Rec) → kind r ≡ k → ofKind k (before ++ (r ∷ [])) ≡ ofKind k before ++ (r ∷ [])

@@ -2,18 +2,18 @@
 use borrow.Author.Tests.{eqb-true, eq-eqb, ltb-true, ltb-false}
 use mathlib.Core.Path.{_≡_, refl, sym, ap, ap₂, subst, _∙_}
 use mathlib.Core.Bool.{Bool, true, false, cond, not, _&&_, _||_, and-true, and-false, or-false, true≢false, false≢true}
-use mathlib.Core.Logic.{_↔_, _⊎_, inl, inr}
+use mathlib.Core.Logic.{_↔_}
 use Prim.Native.Nat.{ℕ, zero, suc, _+_, _-_, _*_, _%_, _^_, _<_, _≤_}
 use native.Mathlib.Nat.{not-suc-le-zero, pow-suc}
 use native.Mathlib.Decide.{ℕ-discrete}
 use native.Mathlib.Omega.{arith}
 use lib.Bits.{bitAnd, bitOr}
 use lib.Dec.{eqb, ltb}
-use lib.Pow.{pow-pos, pow-mono}
+use lib.Pow.{pow-mono}
 use Rattle.planes.specs.Bit.{bitOf}
 use Rattle.planes.specs.Laws.Bits.{bit-and, bit-or, bit-not, bit-block, bit-top, bit-above, bits-ext}
 use Rattle.records.specs.Pattern.{Ternary, fixed0, fixed1, star, ternary, agrees, FixedToOther, written, matches, putBits, patternGood}
-use Rattle.planes.specs.Laws.Tests.{same-test, not-both, true-of, and-both, and-left, and-right}
+use Rattle.planes.specs.Laws.Tests.{same-test, not-both, and-both, and-left, and-right}
 
 other-iff : (t : Ternary) (b : Bool) → agrees t b ≡ true ↔ (FixedToOther t b → ⊥)
 other-iff fixed0 true = (λ e. absurd (false≢true e), λ f. absurd (f refl))

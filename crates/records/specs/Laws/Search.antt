@@ -2,15 +2,15 @@
 use mathlib.Core.Path.{_≡_, refl, sym, ap, _∙_}
 use mathlib.Core.Bool.{Bool, true, false, cond, or-true, false≢true}
 use mathlib.Core.List.{List, [], _∷_, _++_, append-nil}
-use Prim.Native.Nat.{ℕ, suc, _+_, _<_}
+use Prim.Native.Nat.{ℕ, suc, _+_, _-_, _*_, _<_}
 use native.Mathlib.Omega.{arith}
-use lib.ListN.{length}
+use lib.ListN.{length, take, drop}
 use Rattle.records.specs.Lists.{any}
 use Rattle.records.specs.Record.{Rec, Net, records, sameRule, present}
 use Rattle.records.specs.Search.{recordAt, recordsAfter, firstAt, found}
 use Rattle.records.specs.declared.rules.Found.the-variants.{At, Nothing}
 use Rattle.records.specs.Laws.Lists.{any-append, any-snoc}
-use Rattle.records.specs.Laws.Records.{length-records, records-split, records-left, records-more}
+use Rattle.records.specs.Laws.Records.{length-records, records-split, records-left, records-more, part-is}
 
 -- the first that passes stands after those of which none does
 pub first-after : (f : Rec → Bool) (xs ys : Net) → any f xs ≡ false → firstAt f (xs ++ ys) ≡ length xs + firstAt f ys
@@ -53,10 +53,23 @@ module _ (f : Rec → Bool) (s : List ℕ) where
   first-none n e =
       ap (firstAt f) (sym (append-nil (records n s))) ∙ first-after f (records n s) [] e ∙ omega (arith, length-records n s)
 
-pub found-at : (c : Rec) (s : List ℕ) (n i : ℕ) → i < n → any (sameRule c) (records i s) ≡ false → sameRule c (recordAt s i) ≡ true
-    → At i ≡ found c (records n s)
+-- the same, where a test t of record i, a part of the store, comes after those of which none passed
+module _ (f : Rec → Bool) (s : List ℕ) (i : ℕ) (t : Bool) (none : any f (records i s) ≡ false) (e : t ≡ f (take (i * 24 + 24 - i * 24) (drop (i * 24) s))) where
+  tested : (b : Bool) → t ≡ b → f (recordAt s i) ≡ b
+  tested b q = ap f (sym (part-is s i)) ∙ sym e ∙ q
+
+  pub none-after : t ≡ false → any f (records (i + 1) s) ≡ false
+  none-after q = none-more f s i none (tested false q)
+
+  pub some-here : (n : ℕ) → i < n → t ≡ true → any f (records n s) ≡ true
+  some-here n h q = some-found f s n i h (tested true q)
+
+  pub first-here : (n : ℕ) → i < n → t ≡ true → firstAt f (records n s) ≡ i
+  first-here n h q = first-found f s n i h none (tested true q)
+
+pub found-at : (c : Rec) (net : Net) (i : ℕ) → any (sameRule c) net ≡ true → firstAt (sameRule c) net ≡ i → At i ≡ found c net
 unfolding found present
-found-at c s n i h e t = sym (rw (some-found (sameRule c) s n i h t) (ap At (first-found (sameRule c) s n i h e t)))
+found-at c net i t e = sym (rw t (ap At e))
 
 pub found-none : (c : Rec) (net : Net) → any (sameRule c) net ≡ false → Nothing ≡ found c net
 unfolding found present

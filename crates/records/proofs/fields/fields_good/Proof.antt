@@ -5,6 +5,7 @@ use mathlib.Core.Logic.{_⊎_, ⊎-elim}
 use Prim.Native.Nat.{ℕ, _<_}
 use native.Mathlib.Omega.{arith}
 use lib.Dec.{lit<}
+use lib.ListN.{length}
 use Rattle.records.specs.Record.{Rec, kind}
 use Rattle.records.specs.Rows.{fieldsGood}
 use Rattle.records.specs.Widths.{withinLimits}
@@ -14,29 +15,10 @@ use Rattle.records.specs.Laws.Fields.{widths-fields, no-record}
 use Rattle.records.proofs.fields.fields_good.Statement.{statement}
 use Rattle.records.proofs.fields.fields_good.Tie as tie
 
--- a record that is not the first kind has widths within their limits
-known : (w : Widths) (r : Rec) (k : ℕ) → (kind r ≡ 1) ⊎ (withinLimits w ≡ true) → 1 < k → kind r ≡ k → withinLimits w ≡ true
-known w r k p l e = ⊎-elim (λ f. absurd (omega arith)) (λ g. g) p
-
-link-good-requires : tie.Need-link-good-requires
-link-good-requires c κs =
-    let s = c .before .before .before in
-    (s .pre .0, known (s .args .w) (now (s .args .r)) 2 (s .pre .1) (lit< tt) (c .match .keys2), c .match .keys2)
-
-miss-good-requires : tie.Need-miss-good-requires
-miss-good-requires c κs =
-    let s = c .before .before .before in
-    (s .pre .0, known (s .args .w) (now (s .args .r)) 3 (s .pre .1) (lit< tt) (c .match .keys3), c .match .keys3)
-
-rule-good-requires : tie.Need-rule-good-requires
-rule-good-requires c κs =
-    let s = c .before .before .before in
-    (s .pre .0, known (s .args .w) (now (s .args .r)) 4 (s .pre .1) (lit< tt) (c .match .keys4), c .match .keys4)
-
-policy-node-good-requires : tie.Need-policy-node-good-requires
-policy-node-good-requires c κs =
-    let s = c .before .before .before in
-    (s .pre .0, known (s .args .w) (now (s .args .r)) 5 (s .pre .1) (lit< tt) (c .match .keys5), c .match .keys5)
+-- what is asked of a record of another kind than the first: its widths are within their limits
+asked : (w : Widths) (r : Rec) (k : ℕ) → (length r ≡ 24) × ((kind r ≡ 1) ⊎ (withinLimits w ≡ true)) → 1 < k → kind r ≡ k
+    → (length r ≡ 24) × (withinLimits w ≡ true) × (kind r ≡ k)
+asked w r k p l e = (p .0, ⊎-elim (λ f. absurd (omega arith)) (λ g. g) (p .1), e)
 
 returns : tie.Need-returns
 returns c =
@@ -56,10 +38,10 @@ fields-good-spec =
     (tie.spec
     (λ c. search needs)
     (λ c κs. search needs)
-    link-good-requires
-    miss-good-requires
-    rule-good-requires
-    policy-node-good-requires
+    (λ c κs. asked _ (now (c .before .before .before .args .r)) 2 (c .before .before .before .pre) (lit< tt) (c .match .keys2))
+    (λ c κs. asked _ (now (c .before .before .before .args .r)) 3 (c .before .before .before .pre) (lit< tt) (c .match .keys3))
+    (λ c κs. asked _ (now (c .before .before .before .args .r)) 4 (c .before .before .before .pre) (lit< tt) (c .match .keys4))
+    (λ c κs. asked _ (now (c .before .before .before .args .r)) 5 (c .before .before .before .pre) (lit< tt) (c .match .keys5))
     returns
     (λ c. c .link-good .ensures)
     (λ c. c .miss-good .ensures)

@@ -1,14 +1,12 @@
-use denote.Ref.{now}
 use borrow.Author.Needs.{needs}
 use mathlib.Core.Bool.{false}
-use mathlib.Core.Path.{_≡_, sym, ap, subst, _∙_}
-use Prim.Native.Nat.{ℕ, _≤_, _-_}
+use mathlib.Core.Path.{_≡_, sym}
+use Prim.Native.Nat.{_≤_, _-_}
 use native.Mathlib.Omega.{arith}
 use Rattle.records.specs.Lists.{any}
 use Rattle.records.specs.Record.{records}
 use Rattle.records.specs.Search.{fromPolicy, policyStart}
-use Rattle.records.specs.Laws.Records.{part-is}
-use Rattle.records.specs.Laws.Search.{none-yet, none-more, first-found, first-none}
+use Rattle.records.specs.Laws.Search.{none-yet, none-after, first-here, first-none}
 use Rattle.records.proofs.nodes.policy_start.Statement.{statement}
 use Rattle.records.proofs.nodes.policy_start.Tie as tie
 
@@ -18,36 +16,15 @@ Inv-loop store n p i₀ i = (i ≤ n) × (any (fromPolicy p) (records i store) �
 abbrev μ-loop : tie.MeasureT-loop
 μ-loop store n p i₀ i = n - i
 
-loop-holds : tie.Need-loop-holds Inv-loop μ-loop
-loop-holds c =
-    let a = c .before .args in
-    (omega arith, none-yet (fromPolicy (a .p)) (now (a .store)))
-
 returns : tie.Need-returns Inv-loop μ-loop
 unfolding policyStart
-returns c =
-    let a = c .before .before .before .before .before .before .args in
-    let l = c .before .before .before .before .loop in
-    let s = now (a .store) in
-    let e = ap (fromPolicy (a .p)) (sym (part-is s (l .i))) ∙ sym (c .before .from-policy .ensures) ∙ c .if1 .taken in
-    sym (first-found (fromPolicy (a .p)) s (a .n) (l .i) (c .before .before .before .loop-test .taken) (l .inv .1) e)
-
-loop-again : tie.Need-loop-again Inv-loop μ-loop
-loop-again c =
-    let a = c .before .before .before .before .before .before .args in
-    let l = c .before .before .before .before .loop in
-    let s = now (a .store) in
-    let e = ap (fromPolicy (a .p)) (sym (part-is s (l .i))) ∙ sym (c .before .from-policy .ensures) ∙ c .if1 .left in
-    (omega arith, none-more (fromPolicy (a .p)) s (l .i) (l .inv .1) e)
+returns c = sym (first-here _ _ _ _ (c .before .before .before .before .loop .inv .1) (c .before .from-policy .ensures) _ (c .before .before .before .loop-test .taken) (c .if1 .taken))
 
 returns-2 : tie.Need-returns-2 Inv-loop μ-loop
 unfolding policyStart
 returns-2 c =
-    let a = c .before .before .before .args in
-    let l = c .before .loop in
-    let s = now (a .store) in
-    let e : l .i ≡ a .n = omega arith in
-    sym (first-none (fromPolicy (a .p)) s (a .n) (subst (λ (m : ℕ). any (fromPolicy (a .p)) (records m s) ≡ false) e (l .inv .1)))
+    let e : c .before .loop .i ≡ c .before .before .before .args .n = omega arith in
+    sym (first-none _ _ _ (rw e at (c .before .loop .inv .1)))
 
 pub policy-start-spec : {M : Type 1} → statement M
 policy-start-spec =
@@ -55,7 +32,7 @@ policy-start-spec =
     (tie.spec
     Inv-loop
     μ-loop
-    loop-holds
+    (λ c. (omega arith, none-yet _ _))
     (λ c. search needs)
     (λ c. search needs)
     (λ c. search needs)
@@ -65,5 +42,5 @@ policy-start-spec =
     returns
     (λ c. search needs)
     (λ c. search needs)
-    loop-again
+    (λ c. (omega arith, none-after _ _ _ _ (c .before .before .before .before .loop .inv .1) (c .before .from-policy .ensures) (c .if1 .left)))
     returns-2)

@@ -1,13 +1,11 @@
-use denote.Ref.{now}
 use borrow.Author.Needs.{needs}
 use mathlib.Core.Bool.{false}
-use mathlib.Core.Path.{_≡_, sym, ap, subst, _∙_}
-use Prim.Native.Nat.{ℕ, _≤_, _-_}
+use mathlib.Core.Path.{_≡_}
+use Prim.Native.Nat.{_≤_, _-_}
 use native.Mathlib.Omega.{arith}
 use Rattle.records.specs.Lists.{any}
 use Rattle.records.specs.Record.{records, sameRule}
-use Rattle.records.specs.Laws.Records.{part-is}
-use Rattle.records.specs.Laws.Search.{none-yet, none-more, found-at, found-none}
+use Rattle.records.specs.Laws.Search.{none-yet, none-after, some-here, first-here, found-at, found-none}
 use Rattle.records.proofs.rules.find_rule.Statement.{statement}
 use Rattle.records.proofs.rules.find_rule.Tie as tie
 
@@ -17,37 +15,16 @@ Inv-loop store n c i₀ i = (i ≤ n) × (any (sameRule c) (records i store) ≡
 abbrev μ-loop : tie.MeasureT-loop
 μ-loop store n c i₀ i = n - i
 
-loop-holds : tie.Need-loop-holds Inv-loop μ-loop
-loop-holds c =
-    let a = c .before .before .args in
-    (omega arith, none-yet (sameRule (now (a .c))) (now (a .store)))
-
 returns : tie.Need-returns Inv-loop μ-loop
 returns c =
-    let a = c .before .before .before .before .before .before .before .args in
-    let l = c .before .before .before .before .loop in
-    let s = now (a .store) in
-    let g = now (a .c) in
-    let e = ap (sameRule g) (sym (part-is s (l .i))) ∙ sym (c .before .same-rule .ensures) ∙ c .if1 .taken in
-    found-at g s (a .n) (l .i) (c .before .before .before .loop-test .taken) (l .inv .1) e
-
-loop-again : tie.Need-loop-again Inv-loop μ-loop
-loop-again c =
-    let a = c .before .before .before .before .before .before .before .args in
-    let l = c .before .before .before .before .loop in
-    let s = now (a .store) in
-    let g = now (a .c) in
-    let e = ap (sameRule g) (sym (part-is s (l .i))) ∙ sym (c .before .same-rule .ensures) ∙ c .if1 .left in
-    (omega arith, none-more (sameRule g) s (l .i) (l .inv .1) e)
+    let none = c .before .before .before .before .loop .inv .1 in
+    let h = c .before .before .before .loop-test .taken in
+    found-at _ _ _ (some-here _ _ _ _ none (c .before .same-rule .ensures) _ h (c .if1 .taken)) (first-here _ _ _ _ none (c .before .same-rule .ensures) _ h (c .if1 .taken))
 
 returns-2 : tie.Need-returns-2 Inv-loop μ-loop
 returns-2 c =
-    let a = c .before .before .before .before .args in
-    let l = c .before .loop in
-    let s = now (a .store) in
-    let g = now (a .c) in
-    let e : l .i ≡ a .n = omega arith in
-    found-none g (records (a .n) s) (subst (λ (m : ℕ). any (sameRule g) (records m s) ≡ false) e (l .inv .1))
+    let e : c .before .loop .i ≡ c .before .before .before .before .args .n = omega arith in
+    found-none _ _ (rw e at (c .before .loop .inv .1))
 
 pub find-rule-spec : {M : Type 1} → statement M
 find-rule-spec =
@@ -55,7 +32,7 @@ find-rule-spec =
     (tie.spec
     Inv-loop
     μ-loop
-    loop-holds
+    (λ c. (omega arith, none-yet _ _))
     (λ c. search needs)
     (λ c. search needs)
     (λ c. search needs)
@@ -65,5 +42,5 @@ find-rule-spec =
     returns
     (λ c. search needs)
     (λ c. search needs)
-    loop-again
+    (λ c. (omega arith, none-after _ _ _ _ (c .before .before .before .before .loop .inv .1) (c .before .same-rule .ensures) (c .if1 .left)))
     returns-2)

@@ -2,16 +2,15 @@ use denote.Ref.{now}
 use borrow.Author.Needs.{needs}
 use borrow.Author.Tests.{eq-eqb, ne-eqb, lt-ltb, le-ltb}
 use mathlib.Core.Path.{_≡_, sym, ap, _∙_}
-use mathlib.Core.List.{List, []}
+use mathlib.Core.List.{[]}
 use mathlib.Core.Option.{none, some}
-use Prim.Native.Nat.{ℕ, _≤_}
+use Prim.Native.Nat.{ℕ}
 use native.Mathlib.Omega.{arith}
 use lib.Dec.{ltb}
-use lib.ListN.{length}
 use Rattle.records.specs.Record.{Net, records}
 use Rattle.records.specs.Rows.{row1, row2, row11, workNeeded}
 use Rattle.records.specs.Refusal.{Refusal, row, fileRow, argumentsRow, networkRow, checkRefusal}
-use Rattle.records.specs.Layout.{LayoutOf, refusalOf, Read}
+use Rattle.records.specs.Layout.{refusalOf, Read}
 use Rattle.records.specs.declared.scan.Layout.{Layout}
 use Rattle.records.specs.declared.scan.Reading.{Reading}
 use Rattle.records.specs.declared.scan.Reading.the-variants.{Clean, Refused}
@@ -19,9 +18,11 @@ use Rattle.records.proofs.scan.check_rows.Statement.{statement}
 use Rattle.records.proofs.scan.check_rows.Tie as tie
 
 -- rows 1 and 2 are passed
-past-door : (store : List ℕ) (n work : ℕ) → (n ≡ 0 → ⊥) → n ≤ 641 → 15384 ≤ length store → checkRefusal store n work ≡ networkRow (records n store) work
+past-arguments : (c : tie.Else3)
+    → let a = c .before .before .before .before .args in
+    checkRefusal (now (a .store)) (a .n) (a .work) ≡ networkRow (records (a .n) (now (a .store))) (a .work)
 unfolding checkRefusal argumentsRow row1 row2
-past-door store n work h l s = rw (ne-eqb n 0 h, le-ltb 641 n l, le-ltb (length store) 15384 s)
+past-arguments c = rw (ne-eqb _ 0 (c .before .before .if1 .left), le-ltb 641 _ (c .before .if2 .left), le-ltb _ 15384 (c .if3 .left))
 
 -- a refusal has no layout
 refused : (net : Net) (refusal : Refusal) (number place : ℕ) → some (number, place) ≡ refusal → Read net refusal (Refused number place)
@@ -35,13 +36,9 @@ module _ (net : Net) (work : ℕ) (r : Reading) (read : Read net (fileRow [] net
       let f : fileRow [] net ≡ some (number, place) = sym (read .answer) ∙ ap refusalOf e in
       rw e (refused net (networkRow net work) number place (rw f))
 
-  module _ (l : Layout) (e : r ≡ Clean l) where
-    by-work : networkRow net work ≡ row (ltb work (workNeeded net)) 11 0
-    unfolding networkRow row11
-    by-work = let f : fileRow [] net ≡ none = sym (read .answer) ∙ ap refusalOf e in rw f
-
-    layout : LayoutOf net l
-    layout = read .layout l e
+  by-work : (l : Layout) → r ≡ Clean l → networkRow net work ≡ row (ltb work (workNeeded net)) 11 0
+  unfolding networkRow row11
+  by-work l e = let f : fileRow [] net ≡ none = sym (read .answer) ∙ ap refusalOf e in rw f
 
 returns : tie.Need-returns
 unfolding checkRefusal argumentsRow row1
@@ -57,38 +54,35 @@ returns-3 c = refused _ _ 2 0 (rw (ne-eqb _ 0 (c .before .before .if1 .left), le
 
 returns-4 : tie.Need-returns-4
 returns-4 c =
-    let a = c .before .before .before .before .before .before .before .args in
     let g = c .enum-told .given in
-    rw (past-door (now (a .store)) (a .n) (a .work) (c .before .before .before .before .before .if1 .left) (c .before .before .before .before .if2 .left) (c .before .before .before .if3 .left))
-    (by-file _ (a .work) _ (c .before .before .scan .ensures) (g .0 .0) (g .0 .1 .0) (g .1))
+    rw (past-arguments (c .before .before .before)) (by-file _ _ _ (c .before .before .scan .ensures) (g .0 .0) (g .0 .1 .0) (g .1))
 
 work-needed-requires : tie.Need-work-needed-requires
 work-needed-requires c κs =
     let g = c .before .reading .given in
-    let l = layout _ 0 _ (c .before .before .before .scan .ensures) (g .0 .0) (g .1) in
+    let l = c .before .before .before .scan .ensures .layout (g .0 .0) (g .1) in
     (l .limits, l .few-nodes)
+
+-- row 11, by the work that the code found
+last-row : (c : tie.After-work-needed)
+    → let a = c .before .before .before .before .before .before .before .before .before .args in
+    networkRow (records (a .n) (now (a .store))) (a .work) ≡ row (ltb (a .work) (c .work-needed .result)) 11 0
+last-row c =
+    let a = c .before .before .before .before .before .before .before .before .before .args in
+    let read = c .before .before .before .before .scan .ensures in
+    let g = c .before .before .reading .given in
+    by-work _ (a .work) _ read (g .0 .0) (g .1) ∙ ap (λ (m : ℕ). row (ltb (a .work) m) 11 0) (sym (c .work-needed .ensures _ (read .layout (g .0 .0) (g .1))))
 
 returns-5 : tie.Need-returns-5
 returns-5 c =
-    let a = c .before .before .before .before .before .before .before .before .before .before .args in
-    let g = c .before .before .before .reading .given in
-    let net = records (a .n) (now (a .store)) in
-    let l = layout net (a .work) _ (c .before .before .before .before .before .scan .ensures) (g .0 .0) (g .1) in
-    let short = ap (ltb (a .work)) (sym (c .before .work-needed .ensures net l)) ∙ lt-ltb _ _ (c .if4 .taken) in
-    rw (past-door (now (a .store)) (a .n) (a .work) (c .before .before .before .before .before .before .before .before .if1 .left) (c .before .before .before .before .before .before .before .if2 .left) (c .before .before .before .before .before .before .if3 .left))
-    (refused net _ 11 0 (sym (by-work net (a .work) _ (c .before .before .before .before .before .scan .ensures) (g .0 .0) (g .1) ∙ rw short)))
+    rw (past-arguments (c .before .before .before .before .before .before)) (refused _ _ 11 0 (sym (last-row (c .before) ∙ rw (lt-ltb _ _ (c .if4 .taken)))))
 
 returns-6 : tie.Need-returns-6
 returns-6 c =
-    let a = c .before .before .before .before .before .before .before .before .before .before .args in
-    let g = c .before .before .before .reading .given in
-    let net = records (a .n) (now (a .store)) in
-    let l = layout net (a .work) _ (c .before .before .before .before .before .scan .ensures) (g .0 .0) (g .1) in
-    let enough = ap (ltb (a .work)) (sym (c .before .work-needed .ensures net l)) ∙ le-ltb _ _ (c .if4 .left) in
-    rw (past-door (now (a .store)) (a .n) (a .work) (c .before .before .before .before .before .before .before .before .if1 .left) (c .before .before .before .before .before .before .before .if2 .left) (c .before .before .before .before .before .before .if3 .left))
+    rw (past-arguments (c .before .before .before .before .before .before))
     (record {
-      answer = sym (by-work net (a .work) _ (c .before .before .before .before .before .scan .ensures) (g .0 .0) (g .1) ∙ rw enough);
-      layout = λ k q. c .before .before .before .before .before .scan .ensures .layout k (g .1 ∙ q);
+      answer = sym (last-row (c .before) ∙ rw (le-ltb _ _ (c .if4 .left)));
+      layout = λ k q. c .before .before .before .before .before .scan .ensures .layout k (c .before .before .before .reading .given .1 ∙ q);
     })
 
 pub check-rows-spec : {M : Type 1} → statement M

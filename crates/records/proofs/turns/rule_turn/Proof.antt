@@ -1,17 +1,17 @@
 use borrow.Author.Needs.{needs}
 use borrow.Author.Tests.{le-leb, lt-leb}
-use mathlib.Core.Path.{sym, _∙_}
+use mathlib.Core.Path.{_≡_, sym, _∙_}
 use native.Mathlib.Omega.{arith}
+use lib.Dec.{leb}
+use lib.ListN.{length}
+use denote.Ref.{now}
+use Rattle.records.specs.Record.{Net, records}
+use Rattle.records.specs.Refusal.{row, recordRow}
 use Rattle.records.specs.Laws.Limits.{limits}
 use Rattle.records.specs.Laws.Rows.{rule-rows, row-first, row-none}
 use Rattle.records.specs.Laws.Scan.{seen-rule, misses-known}
 use Rattle.records.proofs.turns.rule_turn.Statement.{statement}
 use Rattle.records.proofs.turns.rule_turn.Tie as tie
-
-form-row-requires : tie.Need-form-row-requires
-form-row-requires c κs =
-    let p = c .before .before .pre in
-    (p .0 .whole, omega (arith, p .1), omega (arith, p .1), p .0 .seen .limits)
 
 returns : tie.Need-returns
 returns c after =
@@ -38,27 +38,23 @@ returns-3 c after =
     rule-rows _ _ after (p .1) ∙ row-none _ _ _ _ (c .before .before .before .before .before .before .form-row .ensures .first _ (p .0 .seen)) (c .before .before .before .before .before .if1 .left)
     ∙ rw (misses-known _ _ (p .0 .seen) ∙ sym (c .before .before .before .incomplete .ensures) ∙ c .before .before .if2 .left, sym (c .before .is-present .ensures) ∙ c .if3 .taken)
 
+-- past every row but 10
+last-row : (c : tie.Else3) (after : Net)
+    → let a = c .before .before .before .before .before .before .before .before .before .args in
+    let before = records (a .i) (now (a .store)) in
+    recordRow before (now (a .r)) after ≡ row (leb 256 (a .s .rules)) 10 (length before)
+last-row c after =
+    let p = c .before .before .before .before .before .before .before .before .before .pre in
+    rule-rows _ _ after (p .1) ∙ row-none _ _ _ _ (c .before .before .before .before .before .before .form-row .ensures .first _ (p .0 .seen)) (c .before .before .before .before .before .if1 .left)
+    ∙ rw (misses-known _ _ (p .0 .seen) ∙ sym (c .before .before .before .incomplete .ensures) ∙ c .before .before .if2 .left, sym (c .before .is-present .ensures) ∙ c .if3 .left, ← (p .0 .seen .rules))
+
 returns-4 : tie.Need-returns-4
-returns-4 c after =
-    let p = c .before .before .before .before .before .before .before .before .before .before .pre in
-    rule-rows _ _ after (p .1) ∙ row-none _ _ _ _ (c .before .before .before .before .before .before .before .form-row .ensures .first _ (p .0 .seen)) (c .before .before .before .before .before .before .if1 .left)
-    ∙ rw (
-      misses-known _ _ (p .0 .seen) ∙ sym (c .before .before .before .before .incomplete .ensures) ∙ c .before .before .before .if2 .left,
-      sym (c .before .before .is-present .ensures) ∙ c .before .if3 .left,
-      ← (p .0 .seen .rules),
-      le-leb _ _ (c .if4 .taken),
-    )
+returns-4 c after = last-row (c .before) after ∙ rw (le-leb _ _ (c .if4 .taken))
 
 returns-5 : tie.Need-returns-5
 returns-5 c after =
     let p = c .before .before .before .before .before .before .before .before .before .before .pre in (
-      rule-rows _ _ after (p .1) ∙ row-none _ _ _ _ (c .before .before .before .before .before .before .before .form-row .ensures .first _ (p .0 .seen)) (c .before .before .before .before .before .before .if1 .left)
-          ∙ rw (
-            misses-known _ _ (p .0 .seen) ∙ sym (c .before .before .before .before .incomplete .ensures) ∙ c .before .before .before .if2 .left,
-            sym (c .before .before .is-present .ensures) ∙ c .before .if3 .left,
-            ← (p .0 .seen .rules),
-            lt-leb _ _ (c .if4 .left),
-          ),
+      last-row (c .before) after ∙ rw (lt-leb _ _ (c .if4 .left)),
       seen-rule _ _ (p .0 .seen) _ (c .before .before .before .before .before .before .before .form-row .ensures .later (c .before .before .before .before .before .before .if1 .left)) (p .1),
     )
 
@@ -66,7 +62,7 @@ pub rule-turn-spec : {M : Type 1} → statement M
 rule-turn-spec =
     tie.close
     (tie.spec
-    form-row-requires
+    (λ c κs. let p = c .before .before .pre in (p .0 .whole, omega (arith, p .1), omega (arith, p .1), p .0 .seen .limits))
     returns
     incomplete-requires
     returns-2
