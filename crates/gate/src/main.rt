@@ -63,6 +63,13 @@ fn tell_number(n: usize) {
     io::print_decimal(1, n as u64);
 }
 
+// Writes a word and two numbers.
+fn tell_two(word: &[u8], a: usize, b: usize) {
+    io::write_all(1, word);
+    tell_number(a);
+    tell_number(b);
+}
+
 // Tells that the last record was cut.
 fn tell_short() {
     io::write_all(1, b"end short\n");
@@ -70,20 +77,13 @@ fn tell_short() {
 
 // Tells what the check call answered.
 fn tell_start(a: Checked) {
+    io::write_all(1, b"start");
     match a {
         Checked::Holds => {
-            io::write_all(1, b"start holds");
+            io::write_all(1, b" holds");
         }
-        Checked::Violated { policy, state } => {
-            io::write_all(1, b"start violated");
-            tell_number(policy);
-            tell_number(state);
-        }
-        Checked::Refused { number, place } => {
-            io::write_all(1, b"start refused");
-            tell_number(number);
-            tell_number(place);
-        }
+        Checked::Violated { policy, state } => tell_two(b" violated", policy, state),
+        Checked::Refused { number, place } => tell_two(b" refused", number, place),
     }
     io::write_all(1, b"\n");
 }
@@ -96,16 +96,8 @@ fn tell(turn: u64, a: Commanded) {
             io::write_all(1, b" forwarded");
             tell_number(count);
         }
-        Commanded::Blocked { policy, state } => {
-            io::write_all(1, b" blocked");
-            tell_number(policy);
-            tell_number(state);
-        }
-        Commanded::Refused { number, place } => {
-            io::write_all(1, b" refused");
-            tell_number(number);
-            tell_number(place);
-        }
+        Commanded::Blocked { policy, state } => tell_two(b" blocked", policy, state),
+        Commanded::Refused { number, place } => tell_two(b" refused", number, place),
     }
     io::write_all(1, b"\n");
 }
