@@ -87,6 +87,9 @@ module _ (kind a b k w : ℕ) (work : List ℕ) (M : Makeable kind a b k w work)
       let h = plane-before w j k (M .earlier j o) in
       record { within = omega (arith, M .within); apart = inl h }
 
+  pub operand-sources : (n : ℕ) → kind ≡ n → 1 < arity (nodeKind n) → Source work w (planeAt w k) (planeAt w a) × Source work w (planeAt w k) (planeAt w b)
+  operand-sources n e h = (operand-source a (first-operand kind a b n e (omega arith)), operand-source b (second-operand kind a b n e h))
+
   pub operand-scratch : (j : ℕ) → Operand (nodeKind kind) a b j → Source work w (planeSize w) (planeAt w j)
   operand-scratch j o =
       let h = plane-before w j k (M .earlier j o) in

@@ -39,9 +39,6 @@ offer-requires c κs =
 add-q : tie.Need-add-q Inv-loop μ-loop
 add-q c = omega (arith, c .before .before .before .before .before .before .values .ok)
 
-loop-less : tie.Need-loop-less Inv-loop μ-loop
-loop-less c = omega arith
-
 loop-again : tie.Need-loop-again Inv-loop μ-loop
 loop-again c =
     let a = c .before .before .before .before .before .before .before .before .args in
@@ -75,7 +72,7 @@ flood-spec =
     loop-holds
     offer-requires
     add-q
-    loop-less
+    (λ c. omega arith)
     loop-again
     same-length
     returns)

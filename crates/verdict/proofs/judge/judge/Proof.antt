@@ -39,9 +39,6 @@ clear-requires c κs =
       c .before .before .before .before .before .before .before .before .before .fill-steps .ensures .len,
     )
 
-same-length : tie.Need-same-length
-same-length c = search needs
-
 returns : tie.Need-returns
 returns c =
     judged _ _ _ _ (c .before .before .before .before .before .before .before .before .before .before .before .before .before .before .before .before .before .before .before .pre) _ (c .before .before .before .before .before .before .before .before .before .before .before .before .before .before .before .states .ensures) _ _ _ _ _ _ (c .before .before .before .before .work-bytes .ensures) (c .before .before .before .before .before .plane-bytes .ensures)
@@ -58,5 +55,5 @@ judge-spec =
     plane-bytes-requires
     work-bytes-requires
     clear-requires
-    same-length
+    (λ c. search needs)
     returns)

@@ -14,9 +14,6 @@ Inv-loop store start end i₀ i = (start < i) × (i ≤ end) × ((j : ℕ) → j
 abbrev μ-loop : tie.MeasureT-loop
 μ-loop store start end i₀ i = end - i
 
-add-i : tie.Need-add-i Inv-loop μ-loop
-add-i c = omega arith
-
 loop-holds : tie.Need-loop-holds Inv-loop μ-loop
 loop-holds c =
     let store = now (c .args .store) in (
@@ -24,24 +21,6 @@ loop-holds c =
       omega arith,
       λ j h l. let e : j ≡ c .args .start = omega arith in ap (policyAt store) e,
     )
-
-mul-if1 : tie.Need-mul-if1 Inv-loop μ-loop
-mul-if1 c = omega arith
-
-add-if1 : tie.Need-add-if1 Inv-loop μ-loop
-add-if1 c = omega arith
-
-shared-slice-read-if1 : tie.Need-shared-slice-read-if1 Inv-loop μ-loop
-shared-slice-read-if1 c = omega arith
-
-mul-if1-2 : tie.Need-mul-if1-2 Inv-loop μ-loop
-mul-if1-2 c = omega arith
-
-add-if1-2 : tie.Need-add-if1-2 Inv-loop μ-loop
-add-if1-2 c = omega arith
-
-shared-slice-read-if1-2 : tie.Need-shared-slice-read-if1-2 Inv-loop μ-loop
-shared-slice-read-if1-2 c = omega arith
 
 returns : tie.Need-returns Inv-loop μ-loop
 returns c =
@@ -52,12 +31,6 @@ returns c =
       same = λ j l h. I .2 j h l;
       ends = λ h e. c .if1 .taken e;
     }
-
-add-i-2 : tie.Need-add-i-2 Inv-loop μ-loop
-add-i-2 c = omega arith
-
-loop-less : tie.Need-loop-less Inv-loop μ-loop
-loop-less c = omega arith
 
 loop-again : tie.Need-loop-again Inv-loop μ-loop
 loop-again c =
@@ -87,16 +60,16 @@ policy-end-spec =
     (tie.spec
     Inv-loop
     μ-loop
-    add-i
+    (λ c. omega arith)
     loop-holds
-    mul-if1
-    add-if1
-    shared-slice-read-if1
-    mul-if1-2
-    add-if1-2
-    shared-slice-read-if1-2
+    (λ c. omega arith)
+    (λ c. omega arith)
+    (λ c. omega arith)
+    (λ c. omega arith)
+    (λ c. omega arith)
+    (λ c. omega arith)
     returns
-    add-i-2
-    loop-less
+    (λ c. omega arith)
+    (λ c. omega arith)
     loop-again
     returns-2)

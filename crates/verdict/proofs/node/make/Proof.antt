@@ -1,7 +1,7 @@
 -- `verdict::node::make` meets its contract: an arm for each kind of node.
 use Rattle.records.specs.Policy.{nodeKind}
 use Prim.Native.Nat.{zero-le}
-use Rattle.verdict.proofs.Nodes.{offset-fits, from-next, first-operand, second-operand, own-plane, step-source, scratch-source, operand-source, operand-scratch, bit-node, step-node, external-node, not-node, and-node, or-node, some-node, all-node, closure-node, no-node}
+use Rattle.verdict.proofs.Nodes.{offset-fits, from-next, first-operand, second-operand, own-plane, step-source, scratch-source, operand-source, operand-sources, operand-scratch, bit-node, step-node, external-node, not-node, and-node, or-node, some-node, all-node, closure-node, no-node}
 use native.Mathlib.Omega.{arith}
 use borrow.Author.Needs.{needs}
 use Rattle.verdict.proofs.node.make.Statement.{statement}
@@ -28,27 +28,11 @@ combine-requires c κs =
 
 combine-requires-2 : tie.Need-combine-requires-2
 unfolding nodeKind
-combine-requires-2 c κs =
-    let M = c .before .before .before .pre in
-    let e = c .before .match .keys5 in (
-      own-plane _ _ _ _ _ _ M,
-      (
-        operand-source _ _ _ _ _ _ M _ (first-operand _ _ _ 4 e (omega arith)),
-        operand-source _ _ _ _ _ _ M _ (second-operand _ _ _ 4 e (omega arith)),
-      ),
-    )
+combine-requires-2 c κs = let M = c .before .before .before .pre in (own-plane _ _ _ _ _ _ M, operand-sources _ _ _ _ _ _ M 4 (c .before .match .keys5) (omega arith))
 
 combine-requires-3 : tie.Need-combine-requires-3
 unfolding nodeKind
-combine-requires-3 c κs =
-    let M = c .before .before .before .pre in
-    let e = c .before .match .keys6 in (
-      own-plane _ _ _ _ _ _ M,
-      (
-        operand-source _ _ _ _ _ _ M _ (first-operand _ _ _ 5 e (omega arith)),
-        operand-source _ _ _ _ _ _ M _ (second-operand _ _ _ 5 e (omega arith)),
-      ),
-    )
+combine-requires-3 c κs = let M = c .before .before .before .pre in (own-plane _ _ _ _ _ _ M, operand-sources _ _ _ _ _ _ M 5 (c .before .match .keys6) (omega arith))
 
 range-requires : tie.Need-range-requires
 unfolding nodeKind

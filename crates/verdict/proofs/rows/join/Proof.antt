@@ -17,24 +17,6 @@ abbrev μ-loop : tie.MeasureT-loop
 loop-holds : tie.Need-loop-holds Inv-loop μ-loop
 loop-holds c = (omega arith, refl, joined-none _ _ _ _)
 
-element-copy-out-byte-op : tie.Need-element-copy-out-byte-op Inv-loop μ-loop
-element-copy-out-byte-op c = omega arith
-
-element-copy-out-byte-op-2 : tie.Need-element-copy-out-byte-op-2 Inv-loop μ-loop
-element-copy-out-byte-op-2 c = omega arith
-
-byte-op-requires : tie.Need-byte-op-requires Inv-loop μ-loop
-byte-op-requires c κs = omega arith
-
-array-write-r : tie.Need-array-write-r Inv-loop μ-loop
-array-write-r c = omega arith
-
-add-j : tie.Need-add-j Inv-loop μ-loop
-add-j c = omega arith
-
-loop-less : tie.Need-loop-less Inv-loop μ-loop
-loop-less c = omega arith
-
 loop-again : tie.Need-loop-again Inv-loop μ-loop
 loop-again c =
     let at-loop = c .before .before .before .before in (
@@ -56,11 +38,11 @@ join-spec =
     Inv-loop
     μ-loop
     loop-holds
-    element-copy-out-byte-op
-    element-copy-out-byte-op-2
-    byte-op-requires
-    array-write-r
-    add-j
-    loop-less
+    (λ c. omega arith)
+    (λ c. omega arith)
+    (λ c κs. omega arith)
+    (λ c. omega arith)
+    (λ c. omega arith)
+    (λ c. omega arith)
     loop-again
     returns)

@@ -15,25 +15,10 @@ Inv-loop o r w b₀ j₀ b j = (j ≤ w) × (over o 8 (bitOf b) ≡ over o (j * 
 abbrev μ-loop : tie.MeasureT-loop
 μ-loop o r w b₀ j₀ b j = w - j
 
-units-requires : tie.Need-units-requires Inv-loop μ-loop
-units-requires c κs = omega arith
-
 loop-holds : tie.Need-loop-holds Inv-loop μ-loop
 loop-holds c =
     let at-start = c .before in
     (omega arith, rw (c .units .ensures) (bytes-none (at-start .args .o) (at-start .pre .1) _))
-
-element-copy-out-byte-op : tie.Need-element-copy-out-byte-op Inv-loop μ-loop
-element-copy-out-byte-op c = omega arith
-
-byte-op-requires : tie.Need-byte-op-requires Inv-loop μ-loop
-byte-op-requires c κs = omega arith
-
-add-j : tie.Need-add-j Inv-loop μ-loop
-add-j c = omega arith
-
-loop-less : tie.Need-loop-less Inv-loop μ-loop
-loop-less c = omega arith
 
 loop-again : tie.Need-loop-again Inv-loop μ-loop
 loop-again c =
@@ -56,12 +41,12 @@ row-over-spec =
     (tie.spec
     Inv-loop
     μ-loop
-    units-requires
+    (λ c κs. omega arith)
     loop-holds
-    element-copy-out-byte-op
-    byte-op-requires
-    add-j
-    loop-less
+    (λ c. omega arith)
+    (λ c κs. omega arith)
+    (λ c. omega arith)
+    (λ c. omega arith)
     loop-again
     byte-over-requires
     returns)

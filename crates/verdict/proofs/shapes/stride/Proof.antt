@@ -24,20 +24,11 @@ get-at-requires c κs =
     let at-loop = c .before in
     omega (arith, at-loop .before .before .pre .1 (at-loop .loop .z) (c .loop-test .taken))
 
-push-requires : tie.Need-push-requires Inv-loop μ-loop
-push-requires c κs = omega arith
-
-add-z : tie.Need-add-z Inv-loop μ-loop
-add-z c = omega arith
-
 add-n : tie.Need-add-n Inv-loop μ-loop
 add-n c =
     let at-loop = c .before .before .before .before in
     let h : at-loop .loop .z ≤ 1024 = omega arith in
     omega (arith, mul-le-mul-right (at-loop .before .before .args .step) h)
-
-loop-less : tie.Need-loop-less Inv-loop μ-loop
-loop-less c = omega arith
 
 loop-again : tie.Need-loop-again Inv-loop μ-loop
 loop-again c =
@@ -63,9 +54,9 @@ stride-spec =
     μ-loop
     loop-holds
     get-at-requires
-    push-requires
-    add-z
+    (λ c κs. omega arith)
+    (λ c. omega arith)
     add-n
-    loop-less
+    (λ c. omega arith)
     loop-again
     returns)
