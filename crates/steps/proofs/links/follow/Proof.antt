@@ -16,7 +16,7 @@ carry-requires-2 : tie.Need-carry-requires-2
 carry-requires-2 c κs =
     let k = c .before .before .before in
     let s = k .before .before .before .before .before .before .before .before in
-    (room-on _ _ _ _ (k .carry .ensures .len) (s .pre .0), (s .pre .1 .1 .other, s .pre .1 .1 .one))
+    (room-on _ _ _ _ (k .carry .ensures .len) (s .pre .0), search needs)
 
 same-length : tie.Need-same-length
 same-length c = c .before .before .carry2 .ensures .len ∙ c .before .before .before .before .before .before .carry .ensures .len
