@@ -49,12 +49,12 @@ last-row c after =
     ∙ rw (misses-known _ _ (p .0 .seen) ∙ sym (c .before .before .before .incomplete .ensures) ∙ c .before .before .if2 .left, sym (c .before .is-present .ensures) ∙ c .if3 .left, ← (p .0 .seen .rules))
 
 returns-4 : tie.Need-returns-4
-returns-4 c after = last-row (c .before) after ∙ rw (le-leb _ _ (c .if4 .taken))
+returns-4 c after = last-row (c .before) after ∙ rw (le-leb 256 _ (c .if4 .taken))
 
 returns-5 : tie.Need-returns-5
 returns-5 c after =
     let p = c .before .before .before .before .before .before .before .before .before .before .pre in (
-      last-row (c .before) after ∙ rw (lt-leb _ _ (c .if4 .left)),
+      last-row (c .before) after ∙ rw (lt-leb 256 _ (c .if4 .left)),
       seen-rule _ _ (p .0 .seen) _ (c .before .before .before .before .before .before .before .form-row .ensures .later (c .before .before .before .before .before .before .if1 .left)) (p .1),
     )
 
