@@ -1,3 +1,4 @@
+use borrow.Author.Needs.{needs}
 use denote.Ref.{now}
 use mathlib.Core.Path.{_≡_}
 use mathlib.Core.Bool.{true}
@@ -41,7 +42,10 @@ mark-requires : tie.Need-mark-requires Inv-loop μ-loop
 mark-requires c κs = let t = c .before .before .before in (t .before .before .before .before .before .pre .laid .limits, ends t .0)
 
 mark-requires-2 : tie.Need-mark-requires-2 Inv-loop μ-loop
-mark-requires-2 c κs = let t = c .before .before .before .before .before .before .before in (t .before .before .before .before .before .pre .laid .limits, ends t .1)
+mark-requires-2 c κs =
+    let t = c .before .before .before .before .before .before .before in
+    let points = ends t in
+    (t .before .before .before .before .before .pre .laid .limits, search needs)
 
 loop-again : tie.Need-loop-again Inv-loop μ-loop
 loop-again c =

@@ -28,11 +28,17 @@ combine-requires c κs =
 
 combine-requires-2 : tie.Need-combine-requires-2
 unfolding nodeKind
-combine-requires-2 c κs = let M = c .before .before .before .pre in (own-plane _ _ _ _ _ _ M, operand-sources _ _ _ _ _ _ M 4 (c .before .match .keys5) (omega arith))
+combine-requires-2 c κs =
+    let M = c .before .before .before .pre in
+    let S = operand-sources _ _ _ _ _ _ M 4 (c .before .match .keys5) (omega arith) in
+    (own-plane _ _ _ _ _ _ M, search needs)
 
 combine-requires-3 : tie.Need-combine-requires-3
 unfolding nodeKind
-combine-requires-3 c κs = let M = c .before .before .before .pre in (own-plane _ _ _ _ _ _ M, operand-sources _ _ _ _ _ _ M 5 (c .before .match .keys6) (omega arith))
+combine-requires-3 c κs =
+    let M = c .before .before .before .pre in
+    let S = operand-sources _ _ _ _ _ _ M 5 (c .before .match .keys6) (omega arith) in
+    (own-plane _ _ _ _ _ _ M, search needs)
 
 range-requires : tie.Need-range-requires
 unfolding nodeKind
