@@ -12,10 +12,11 @@ record24 bytes = take 24 (bytes ++ replicate 24 0)
 unfoldable pub node : ℕ → ℕ → ℕ → Rec
 node k a b = record24 (5 ∷ 0 ∷ k ∷ a ∷ b ∷ [])
 
--- rules A and B: switch, priority, port 1, a header pattern, OUTPUT 2
+-- rule A: switch 0, priority 10, port 1, header 0, OUTPUT 2
 unfoldable pub A : Rec
 A = record24 (4 ∷ 0 ∷ 10 ∷ 0 ∷ 1 ∷ 3 ∷ 0 ∷ 1 ∷ 1 ∷ 1 ∷ 2 ∷ 3 ∷ [])
 
+-- rule B: switch 1, priority 10, port 1, any header, OUTPUT 2
 unfoldable pub B : Rec
 B = record24 (4 ∷ 1 ∷ 10 ∷ 0 ∷ 1 ∷ 3 ∷ 0 ∷ 0 ∷ 1 ∷ 1 ∷ 2 ∷ 3 ∷ [])
 
@@ -71,9 +72,10 @@ addDrop = record24 (6 ∷ 0 ∷ 10 ∷ 0 ∷ 1 ∷ 3 ∷ 0 ∷ 1 ∷ 1 ∷ 1 ∷
 unfoldable pub deleteAbsent : Rec
 deleteAbsent = record24 (8 ∷ 1 ∷ 99 ∷ 0 ∷ 1 ∷ 3 ∷ [])
 
--- add and delete of D: switch 0, priority 8, any port, header 1, OUTPUT 0
+-- add of D: switch 0, priority 8, any port, header 1, OUTPUT 0
 unfoldable pub addD : Rec
 addD = record24 (6 ∷ 0 ∷ 8 ∷ 0 ∷ 0 ∷ 0 ∷ 1 ∷ 1 ∷ 1 ∷ 1 ∷ 0 ∷ 3 ∷ [])
 
+-- delete of D
 unfoldable pub deleteD : Rec
 deleteD = record24 (8 ∷ 0 ∷ 8 ∷ 0 ∷ 0 ∷ 0 ∷ 1 ∷ 1 ∷ [])

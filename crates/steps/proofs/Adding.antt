@@ -12,11 +12,8 @@ use Rattle.planes.specs.Rows.{BitSet}
 use Rattle.planes.specs.Laws.Places.{byte-at}
 use Rattle.planes.specs.Laws.Tests.{same-test}
 use Rattle.records.specs.Lists.{any, member}
+use Rattle.records.specs.Laws.Lists.{any-append}
 use Rattle.steps.specs.Filled.{Adds, Added}
-
-or-assoc : (a b c : Bool) → (a || b) || c ≡ a || (b || c)
-or-assoc true b c = refl
-or-assoc false b c = refl
 
 or-swap : (a b c : Bool) → a || (b || c) ≡ (b || a) || c
 or-swap true true c = refl
@@ -25,9 +22,8 @@ or-swap false true c = refl
 or-swap false false c = refl
 
 pub member-append : (t : ℕ) (xs ys : List ℕ) → member t (xs ++ ys) ≡ (member t xs || member t ys)
-unfolding member any
-member-append t [] ys = refl
-member-append t (x ∷ xs) ys = ap (λ (b : Bool). eqb t x || b) (member-append t xs ys) ∙ sym (or-assoc (eqb t x) (member t xs) (member t ys))
+unfolding member
+member-append t xs ys = any-append (eqb t) xs ys
 
 -- one bit that was set
 pub set-bit : (k m : ℕ) (a b : List ℕ) → BitSet k a b → bit b m ≡ (eqb m k || bit a m)

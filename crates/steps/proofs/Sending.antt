@@ -11,6 +11,7 @@ use Rattle.records.specs.Lists.{keep, from}
 use Rattle.records.specs.Widths.{withinLimits}
 use Rattle.records.specs.State.{state, ordinary}
 use Rattle.records.specs.Pattern.{matches}
+use Rattle.records.specs.Laws.Lists.{keep-append}
 use Rattle.records.specs.Laws.States.{state-lt, whole-bytes}
 use Rattle.records.specs.declared.Widths.{Widths}
 use Rattle.steps.specs.Filled.{rowBytes, Added}
@@ -20,15 +21,6 @@ use Rattle.steps.proofs.Adding.{added-one}
 pub map-append : {A : Type 0} (f : A → ℕ) (xs ys : List A) → map f (xs ++ ys) ≡ map f xs ++ map f ys
 map-append f [] ys = refl
 map-append f (x ∷ xs) ys = ap (λ (l : List ℕ). f x ∷ l) (map-append f xs ys)
-
-keep-append : (f : ℕ → Bool) (xs ys : List ℕ) → keep f (xs ++ ys) ≡ keep f xs ++ keep f ys
-unfolding keep
-keep-append f [] ys = refl
-keep-append f (x ∷ xs) ys = go (f x) (keep-append f xs ys)
-  where
-    go : (b : Bool) → keep f (xs ++ ys) ≡ keep f xs ++ keep f ys → cond b (x ∷ keep f (xs ++ ys)) (keep f (xs ++ ys)) ≡ cond b (x ∷ keep f xs) (keep f xs) ++ keep f ys
-    go true ih = ap (λ (l : List ℕ). x ∷ l) ih
-    go false ih = ih
 
 -- so it is later, with another header
 pub sends-on : (w : Widths) (row sw h k : ℕ) (a b : List ℕ) → length b ≡ length a → k < 2 ^ w .h → Sends w row sw h a → Sends w row sw k b

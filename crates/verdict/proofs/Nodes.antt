@@ -20,7 +20,7 @@ use Rattle.verdict.specs.Truth.{value, withX, withY, Truth}
 use Rattle.verdict.specs.Made.{over, Plane, Source, ranged, arranged, Reaches}
 use Rattle.verdict.specs.Node.{planeAt, arity, Operand, modelAt, Shows, Makeable, NodeMade}
 use Rattle.verdict.proofs.Cells.{made-none}
-use Rattle.verdict.specs.Laws.Tables.{withX-lt, withY-lt, any-iff, all-iff}
+use Rattle.verdict.specs.Laws.Tables.{not-iff, withX-lt, withY-lt, any-iff, all-iff}
 
 -- the plane of an earlier node ends before that of a later one starts
 pub plane-before : (w j k : ℕ) → j < k → planeAt w j + planeSize w ≤ planeAt w k
@@ -36,10 +36,6 @@ offset-fits w k h l =
     let s : w * 8 ≤ 1024 = omega arith in
     let t : k + 2 ≤ 258 = omega arith in
     omega (arith, mul-le-mul-right w s, mul-le-mul-right (planeSize w) t)
-
-not-says : {P : Type 0} (p : Bool) → p ≡ true ↔ P → not p ≡ true ↔ (P → ⊥)
-not-says true e = (λ n. absurd (false≢true n), λ f. absurd (f (e .0 refl)))
-not-says false e = (λ n p. false≢true (e .1 p), λ f. refl)
 
 and-says : {P Q : Type 0} (p q : Bool) → p ≡ true ↔ P → q ≡ true ↔ Q → (p && q) ≡ true ↔ (P × Q)
 and-says true q e f = (λ t. (e .0 refl, f .0 t), λ t. f .1 (t .1))
@@ -136,7 +132,7 @@ module _ (kind a b k w : ℕ) (ext work : List ℕ) where
     unfolding nodeKind nodeSays Truth
     not-node e P = node-made _ after P (λ operand g x y hx hy.
         let s = g a (first-operand kind a b 3 e (omega arith)) .at x y hx hy in
-        rw e (not-says (cell work (planeAt w a) w x y) s))
+        rw e (not-iff (cell work (planeAt w a) w x y) s))
 
     pub and-node : kind ≡ 4 → Made (λ x y. cell work (planeAt w a) w x y && cell work (planeAt w b) w x y) w (planeAt w k) (w * 8) work after
         → NodeMade kind a b k w ext work after

@@ -94,6 +94,7 @@ CheckSmall CheckAnswer.holds = Unit {0}
 CheckSmall (CheckAnswer.violated policy state) = Fits16 policy × Fits16 state
 CheckSmall (CheckAnswer.refused number place) = Fits16 number × Fits16 place
 
+-- and those of the command call's answer
 abbrev pub CommandSmall : CommandAnswer → Type 0
 CommandSmall (CommandAnswer.forwarded count) = Fits16 count
 CommandSmall (CommandAnswer.blocked policy state) = Fits16 policy × Fits16 state

@@ -13,7 +13,7 @@ use Rattle.records.specs.Record.{Rec, Net}
 use Rattle.records.specs.Widths.{widthsOf}
 use Rattle.records.specs.Rows.{row5, fieldsGood}
 use Rattle.records.specs.Refusal.{fileRow}
-use Rattle.records.specs.Laws.Scan.{widths-stay}
+use Rattle.records.specs.Laws.Kinds.{widths-append}
 use Rattle.records.specs.Laws.Clean.{Passes, clean-all}
 
 -- the fields of every record after the widths are good
@@ -28,10 +28,10 @@ good-more before r after g p i l h = go (decLt i (length before))
     n = length-append before (r ∷ [])
 
     go : Dec (i < length before) → fieldsGood (widthsOf (before ++ (r ∷ []))) (getD (before ++ (r ∷ [])) i []) ≡ true
-    go (yes q) = ap₂ fieldsGood (widths-stay before r (omega arith)) (List·getD-append before (r ∷ []) [] i q) ∙ g i l q
+    go (yes q) = ap₂ fieldsGood (widths-append before (r ∷ []) (omega arith)) (List·getD-append before (r ∷ []) [] i q) ∙ g i l q
     go (no q) =
         let e : length before ≡ i = omega (arith, n) in
-        ap₂ fieldsGood (widths-stay before r (omega arith)) (getD-at before r [] [] i e) ∙ not-false (fieldsGood (widthsOf before) r) (p .not5)
+        ap₂ fieldsGood (widths-append before (r ∷ []) (omega arith)) (getD-at before r [] [] i e) ∙ not-false (fieldsGood (widthsOf before) r) (p .not5)
 
 pub clean-good : (net : Net) → fileRow [] net ≡ none → Good net
 clean-good net e = clean-all Good good-more [] net (λ i l h. absurd (omega arith)) e

@@ -25,8 +25,7 @@ use Rattle.records.specs.declared.scan.Layout.{Layout}
 use Rattle.records.specs.Laws.Lists.{keep-in, keep-out}
 use Rattle.records.specs.Laws.Formulas.{same-or-not}
 use Rattle.records.specs.Laws.Policies.{count-node, count-other, longest-follows, longest-other}
-use Rattle.records.specs.Laws.Scan.{last-kind, widths-stay}
-use Rattle.records.specs.Laws.Kinds.{lastKind}
+use Rattle.records.specs.Laws.Kinds.{lastKind, widths-append, last-kind}
 use Rattle.records.specs.Laws.Clean.{Passes, clean-all, misses-complete, not-empty, Ordered, ordered, miss-next, miss-switch, rule-room, node-room, node-follows}
 
 -- the records of a kind, one record more
@@ -145,7 +144,7 @@ module _ (before : Net) (r : Rec) (after : Net) (q : Numbers before) (p : Passes
           rw e (not-false _ (sym (rw k) ∙ p .not4))
       go (x ∷ b) e =
           let l : 0 < length before = omega (arith, ap length e) in
-          ap withinLimits (widths-stay before r l) ∙ q .0 l
+          ap withinLimits (widths-append before (r ∷ []) l) ∙ q .0 l
 
   some-before : (kind r ≡ 1 → ⊥) → 0 < length before
   some-before h = go (length before) refl
@@ -161,7 +160,7 @@ module _ (before : Net) (r : Rec) (after : Net) (q : Numbers before) (p : Passes
       (λ k.
       let l : 0 < length before = some-before (later k) in
       let n = ap length (kind-in 3 before r k) ∙ length-append (ofKind 3 before) (r ∷ []) in
-      rw (widths-stay before r l) (omega (arith, n, miss-next before r after p k, miss-switch before r after p k)))
+      rw (widths-append before (r ∷ []) l) (omega (arith, n, miss-next before r after p k, miss-switch before r after p k)))
       (λ k. rw (kind-out 3 before r k) (go before refl))
       (same-or-not (kind r) 3)
     where
@@ -172,7 +171,7 @@ module _ (before : Net) (r : Rec) (after : Net) (q : Numbers before) (p : Passes
       go [] e = rw e (omega arith)
       go (x ∷ b) e =
           let l : 0 < length before = omega (arith, ap length e) in
-          rw (widths-stay before r l) (q .1 l)
+          rw (widths-append before (r ∷ []) l) (q .1 l)
 
   rules-more : length (ofKind 4 (before ++ (r ∷ []))) ≤ 256
   rules-more =

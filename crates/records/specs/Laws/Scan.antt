@@ -7,8 +7,7 @@ use Prim.Native.Nat.{ℕ, suc, _+_, _-_, _^_, _<_, _≤_, max}
 use native.Mathlib.Omega.{arith}
 use lib.Bits.{bitOr}
 use lib.Dec.{eqb, ltb}
-use lib.ListN.{length, getD, length-append, List·getD-append}
-use lib.Seq.{getD-at}
+use lib.ListN.{length, length-append}
 use borrow.Author.Tests.{eq-eqb, ne-eqb, eqb-true, eqb-false}
 use Rattle.records.specs.Lists.{keep}
 use Rattle.records.specs.Record.{Rec, Net, at, kind, records, ofKind}
@@ -18,7 +17,8 @@ use Rattle.records.specs.Rows.{freeAt, missesIncomplete}
 use Rattle.records.specs.Scan.{Marks, PoliciesOf, follows, Entered, SeenOf}
 use Rattle.records.specs.declared.Widths.{Widths}
 use Rattle.records.specs.declared.turns.Seen.{Seen}
-use Rattle.records.specs.Laws.Lists.{keep-in, keep-out, keep-fewer}
+use Rattle.records.specs.Laws.Kinds.{kind-count, widths-append, last-kind}
+use Rattle.records.specs.Laws.Lists.{keep-fewer}
 use Rattle.records.specs.Laws.Records.{length-records}
 use Rattle.records.specs.declared.nodes.Policies.{Policies}
 use Rattle.records.specs.Laws.Formulas.{free-at, marks-none, marks-more, same-or-not}
@@ -86,29 +86,6 @@ policies-node before s x y node known e =
       longest = ap₂ max (omega arith) (known .longest) ∙ sym (longest-follows before x node (known .follow));
     }
 
--- how many records of a kind there are, one record more
-pub kind-count : (k : ℕ) (before : Net) (r : Rec) → length (ofKind k (before ++ (r ∷ []))) ≡ length (ofKind k before) + cond (eqb (kind r) k) 1 0
-unfolding ofKind
-kind-count k before r = go (eqb (kind r) k) refl
-  where
-    test : Rec → Bool
-    test x = eqb (kind x) k
-
-    go : (b : Bool) → eqb (kind r) k ≡ b → length (keep test (before ++ (r ∷ []))) ≡ length (keep test before) + cond b 1 0
-    go true e = ap length (keep-in test before r e) ∙ length-append (keep test before) (r ∷ [])
-    go false e = ap length (keep-out test before r e) ∙ omega arith
-
--- the kind of the last record
-pub last-kind : (before : Net) (r : Rec) → kind (getD (before ++ (r ∷ [])) (length (before ++ (r ∷ [])) - 1) []) ≡ kind r
-last-kind before r =
-    let e : length before ≡ length (before ++ (r ∷ [])) - 1 = omega (arith, length-append before (r ∷ [])) in
-    ap kind (getD-at before r [] [] (length (before ++ (r ∷ [])) - 1) e)
-
--- the widths stay once there are some
-pub widths-stay : (before : Net) (r : Rec) → 0 < length before → widthsOf (before ++ (r ∷ [])) ≡ widthsOf before
-unfolding widthsOf
-widths-stay before r h = rw (List·getD-append before (r ∷ []) [] 0 h)
-
 module _ (before : Net) (s : Seen) (known : SeenOf before s) where
   pub begun : (s .last ≡ 0 → ⊥) → 0 < length before
   begun h =
@@ -149,7 +126,7 @@ module _ (before : Net) (s : Seen) (known : SeenOf before s) where
 
   module _ (r : Rec) (later : s .last ≡ 0 → ⊥) where
     same-widths : s .widths ≡ widthsOf (before ++ (r ∷ []))
-    same-widths = known .widths ∙ sym (widths-stay before r (begun later))
+    same-widths = known .widths ∙ sym (widths-append before (r ∷ []) (begun later))
 
     pub seen-link : kind r ≡ 2
         → SeenOf (before ++ (r ∷ [])) (record { last = 2; widths = s .widths; links = s .links + 1; misses = s .misses; rules = s .rules; policies = s .policies })

@@ -1,17 +1,13 @@
 -- A network that rows 3 to 10 do not refuse: none of its records is refused.
-use mathlib.Core.Path.{_≡_, refl, sym, subst}
+use mathlib.Core.Path.{_≡_, sym, subst}
 use mathlib.Core.List.{[], _∷_, _++_, append-assoc, append-nil}
-use mathlib.Core.Option.{none, some}
+use mathlib.Core.Option.{none}
 use Prim.Native.Nat.{ℕ, zero, suc, _<_}
 use native.Mathlib.Nat.{not-suc-le-zero, le-of-suc-le-suc}
-use native.Mathlib.Omega.{arith}
 use lib.ListN.{length, getD, take, drop}
 use Rattle.records.specs.Record.{Net}
-use Rattle.records.specs.Refusal.{Refusal, orElse, recordRow, fileRow}
-
-neither : (a b : Refusal) → orElse a b ≡ none → (a ≡ none) × (b ≡ none)
-neither none b e = (refl, e)
-neither (some f) b e = let z : _≡_ {A = ℕ} 0 1 = cc in absurd (omega arith)
+use Rattle.records.specs.Refusal.{recordRow, fileRow}
+use Rattle.records.specs.Laws.Clean.{neither}
 
 -- record i, after the records before it
 pub record-passes : (before rest : Net) → fileRow before rest ≡ none → (i : ℕ) → i < length rest

@@ -37,7 +37,7 @@ pub withY-lt : {S : ℕ} (v : Var) {z y : ℕ} → z < S → y < S → withY v z
 withY-lt X hz hy = hy
 withY-lt Y hz hy = hz
 
-not-iff : {P : Type 0} (a : Bool) → a ≡ true ↔ P → not a ≡ true ↔ (P → ⊥)
+pub not-iff : {P : Type 0} (a : Bool) → a ≡ true ↔ P → not a ≡ true ↔ (P → ⊥)
 not-iff true e = (λ n. absurd (false≢true n), λ f. absurd (f (e .0 refl)))
 not-iff false e = (λ n p. false≢true (e .1 p), λ f. refl)
 
