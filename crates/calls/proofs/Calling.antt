@@ -7,12 +7,12 @@ use native.Mathlib.Omega.{arith}
 use lib.ListN.{length, drop, replicate, length-append, length-drop, length-replicate}
 use lib.Seq.{length-take-le}
 use Rattle.records.specs.Record.{Rec, Net, storeBytes, records, flat}
-use Rattle.records.specs.Rows.{workNeeded}
-use Rattle.records.specs.Refusal.{Refusal, fileRow, checkRefusal, commandRow, commandRefusal}
-use Rattle.records.specs.Layout.{LayoutOf}
-use Rattle.records.specs.declared.scan.Layout.{Layout}
+use Rattle.rows.specs.Rows.{workNeeded}
+use Rattle.rows.specs.Refusal.{Refusal, fileRow, checkRefusal, commandRow, commandRefusal}
+use Rattle.scan.specs.Layout.{LayoutOf}
+use Rattle.scan.specs.declared.Layout.{Layout}
 use Rattle.records.specs.Laws.Records.{length-flat}
-use Rattle.records.specs.Laws.Clean.{not-empty}
+use Rattle.rows.specs.Laws.Passing.{not-empty}
 use Rattle.verdict.specs.declared.judge.Judged.{Judged}
 use Rattle.verdict.specs.declared.judge.Judged.the-variants as judged
 use Rattle.verdict.specs.Verdict.{Verdict, holds, violated}
@@ -20,16 +20,17 @@ use Rattle.verdict.specs.Judgement.{verdict}
 use Rattle.verdict.specs.Judge.{verdictOf, Judgeable, Judges}
 use Rattle.calls.specs.declared.Checked.{Checked}
 use Rattle.calls.specs.Answer.{CheckAnswer, CommandAnswer, forwarded, blocked, checkAnswerOf}
-use Rattle.calls.specs.Apply.{applied}
-use Rattle.calls.specs.Effect.{padded, Room, Made, Known}
+use Rattle.commands.specs.Apply.{applied}
+use Rattle.commands.specs.Effect.{padded, Room, Made, Known}
 use Rattle.calls.specs.Check.{ofVerdict, checkAnswer, cleared, checkWork, checkedAs, CheckPromised}
 use Rattle.calls.specs.Reference.{Installed, Outcome, stored, judged as judgedStep, step, commandWork}
-use Rattle.calls.specs.NeverStuck.{GoesOn, work-same}
-use Rattle.calls.specs.Series.{Promised, call}
+use Rattle.commands.specs.NeverStuck.{GoesOn, work-same}
+use Rattle.calls.specs.Command.{Promised, call}
 use Rattle.calls.specs.Laws.Store.{installed-whole}
-use Rattle.calls.specs.Laws.Stored.{command}
+use Rattle.commands.specs.Laws.Stored.{command}
 use Rattle.calls.specs.Laws.Refusals.{checks, passed, goes-on}
-use Rattle.calls.proofs.Bytes.{stored-filled, made-records}
+use Rattle.calls.proofs.InStore.{stored-filled}
+use Rattle.commands.specs.Laws.Built.{made-records}
 
 -- a scan that answers a refusal where none is given
 pub no-refusal : {A : Type 0} {f : ℕ × ℕ} {r : Refusal} → some f ≡ r → r ≡ none → A

@@ -5,8 +5,8 @@ use mathlib.Core.Option.{none, some}
 use Prim.Native.Nat.{ℕ}
 use lib.ListN.{length, drop, replicate}
 use Rattle.records.specs.Record.{records}
-use Rattle.records.specs.Rows.{workNeeded}
-use Rattle.records.specs.Refusal.{Refusal, checkRefusal}
+use Rattle.rows.specs.Rows.{workNeeded}
+use Rattle.rows.specs.Refusal.{Refusal, checkRefusal}
 use Rattle.verdict.specs.Verdict.{Verdict}
 use Rattle.verdict.specs.Judgement.{verdict}
 use Rattle.verdict.specs.declared.judge.Judged.{Judged}

@@ -1,12 +1,6 @@
--- The check call, the command call and the reference of a series of commands.
+-- The check call and the command call.
 pub mod Answer
-pub mod Apply
-pub mod Effect
 pub mod Check
 pub mod Reference
-pub mod Starred
-pub mod NeverStuck
-pub mod Sound
-pub mod Series
-pub mod Theorem
+pub mod Command
 pub mod Laws

@@ -3,12 +3,12 @@ use mathlib.Core.List.{List, [], _∷_, _++_}
 use Prim.Native.Nat.{ℕ, _-_}
 use lib.ListN.{length, drop, replicate}
 use Rattle.records.specs.Record.{Rec, Net, storeBytes, records, flat}
-use Rattle.records.specs.Rows.{workNeeded}
-use Rattle.records.specs.Refusal.{commandRefusal}
+use Rattle.rows.specs.Rows.{workNeeded}
+use Rattle.rows.specs.Refusal.{commandRefusal}
 use Rattle.verdict.specs.Verdict.{Verdict, holds, violated}
 use Rattle.verdict.specs.Judgement.{verdict}
 use Rattle.calls.specs.Answer.{CommandAnswer, forwarded, blocked}
-use Rattle.calls.specs.Apply.{applied}
+use Rattle.commands.specs.Apply.{applied}
 use Rattle.calls.specs.Check.{unless, cleared}
 
 -- a count and the store's bytes

@@ -1,9 +1,7 @@
 // The check call and the command call.
-mod apply;
-
-use apply::Row;
-use records::scan::Layout;
-use records::scan::Reading;
+use commands::Row;
+use scan::Layout;
+use scan::Reading;
 use verdict::judge::Judged;
 ghost use mathlib.Core.Path.{_≡_};
 ghost use mathlib.Core.List.{[]};
@@ -11,13 +9,13 @@ ghost use mathlib.Core.Option.{none};
 ghost use Prim.Native.Nat.{_*_, _≤_};
 ghost use lib.ListN.{length};
 ghost use Rattle.records.specs.Record.{records};
-ghost use Rattle.records.specs.Rows.{workNeeded};
-ghost use Rattle.records.specs.Refusal.{fileRow, checkRefusal, commandRefusal};
-ghost use Rattle.records.specs.Layout.{LayoutOf};
+ghost use Rattle.rows.specs.Rows.{workNeeded};
+ghost use Rattle.rows.specs.Refusal.{fileRow, checkRefusal, commandRefusal};
+ghost use Rattle.scan.specs.Layout.{LayoutOf};
 ghost use Rattle.verdict.specs.Judge.{Judges};
 ghost use Rattle.calls.specs.Answer.{checkAnswerOf, commandAnswerOf};
 ghost use Rattle.calls.specs.Check.{CheckPromised, checkedAs};
-ghost use Rattle.calls.specs.Series.{Promised, call};
+ghost use Rattle.calls.specs.Command.{Promised, call};
 
 // What the check call answers.
 pub enum Checked {
@@ -47,7 +45,7 @@ fn checked_as(v: Judged) -> Checked
 pub fn check(store: &[u8], n: usize, work: &mut [u8]) -> Checked
     ensures { λ r. ⌜ CheckPromised (now (store .entry)) n (now (work .entry)) (checkAnswerOf r) (now (work .exit)) ⌝ }
 {
-    let reading = records::scan::check_rows(store, n, work.len());
+    let reading = scan::check_rows(store, n, work.len());
     match reading {
         Reading::Refused { number, place } => {
             let number = number as usize;
@@ -65,7 +63,7 @@ fn verdict_on(store: &[u8], n: usize, work: &mut [u8]) -> Judged
     requires { ⌜ (n * 24 ≤ length (now store)) × (fileRow [] (records n (now store)) ≡ none) × (workNeeded (records n (now store)) ≤ length (now work)) ⌝ }
     ensures { λ r. ⌜ Judges (records n (now (store .entry))) (now (work .entry)) r (now (work .exit)) ⌝ }
 {
-    let reading = records::scan::scan(store, n);
+    let reading = scan::scan(store, n);
     // The scan is clean, since no row refuses.
     let Reading::Clean(l) = reading else {
         return Judged::Holds;
@@ -84,12 +82,12 @@ fn judged_in(
     requires { ⌜ commandRefusal (now store) n (length (now work)) (now given) ≡ none ⌝ }
     ensures { λ r. ⌜ Promised (call (now (store .entry)) n (now (work .entry)) (now (given .entry)) (commandAnswerOf r) (now (store .exit)) (now (work .exit))) ⌝ }
 {
-    let count = apply::apply_to(next, store, n, given);
+    let count = commands::apply_to(next, store, n, given);
     let v = verdict_on(next, count, work);
     match v {
         Judged::Violated { policy, state } => Commanded::Blocked { policy, state },
         Judged::Holds => {
-            apply::write_back(store, next);
+            commands::write_back(store, next);
             Commanded::Forwarded { count }
         }
     }
@@ -109,7 +107,7 @@ fn after_check(store: &mut [u8], n: usize, l: Layout, work: &mut [u8], given: &[
     requires { ⌜ (checkRefusal (now store) n (length (now work)) ≡ none) × LayoutOf (records n (now store)) l ⌝ }
     ensures { λ r. ⌜ Promised (call (now (store .entry)) n (now (work .entry)) (now (given .entry)) (commandAnswerOf r) (now (store .exit)) (now (work .exit))) ⌝ }
 {
-    let row = apply::command_row(l.widths, store, n, l.nodes - l.rules, given);
+    let row = commands::command_row(l.widths, store, n, l.nodes - l.rules, given);
     match row {
         Row::Refused { number } => Commanded::Refused { number, place: 0 },
         Row::Passed => judged(store, n, work, given),
@@ -120,7 +118,7 @@ fn after_check(store: &mut [u8], n: usize, l: Layout, work: &mut [u8], given: &[
 pub fn command(store: &mut [u8], n: usize, work: &mut [u8], given: &[u8]) -> Commanded
     ensures { λ r. ⌜ Promised (call (now (store .entry)) n (now (work .entry)) (now (given .entry)) (commandAnswerOf r) (now (store .exit)) (now (work .exit))) ⌝ }
 {
-    let reading = records::scan::check_rows(store, n, work.len());
+    let reading = scan::check_rows(store, n, work.len());
     match reading {
         Reading::Refused { number, place } => {
             let number = number as usize;

@@ -1,15 +1,11 @@
--- The records of a network and where they are refused.
+-- The 24-byte records of a network: widths, packet states, patterns, fields and policies.
 pub mod Lists
 pub mod Record
 pub mod Widths
 pub mod State
 pub mod Pattern
 pub mod Policy
-pub mod Rows
-pub mod Refusal
-pub mod NetK
+pub mod Fields
 pub mod Search
-pub mod Scan
-pub mod Layout
-pub mod Count
+pub mod NetK
 pub mod Laws

@@ -9,8 +9,9 @@ ghost use lib.Dec.{ltb};
 ghost use lib.ListN.{length};
 ghost use Rattle.records.specs.Record.{kind};
 ghost use Rattle.records.specs.Widths.{withinLimits, widthsOf};
+ghost use Rattle.records.specs.State.{ordinary};
 ghost use Rattle.records.specs.Pattern.{patternGood};
-ghost use Rattle.records.specs.Rows.{zeros, pointGood, matchGood, actionGood, actionsGood, nodeGood, fieldsGood, commandGood};
+ghost use Rattle.records.specs.Fields.{zeros, pointGood, matchGood, actionGood, actionsGood, nodeGood, fieldsGood, commandGood};
 
 // The bytes from number k up to number m are zero.
 pub fn zeros(r: &[u8], k: usize, m: usize) -> bool
@@ -265,4 +266,16 @@ pub fn command_good(w: Widths, c: &[u8]) -> bool
         8 => zeros(c, 8, 24),
         0..=5 | 9..=255 => false,
     }
+}
+
+// A port is neither drop nor the controller.
+pub fn is_ordinary(w: Widths, p: u8) -> bool
+    requires { ⌜ w .p ≤ 4 ⌝ }
+    ensures { λ r. ⌜ r ≡ ordinary w p ⌝ }
+{
+    let width = w.p;
+    if p == 0 {
+        return false;
+    }
+    p < (1u8 << width) - 1
 }

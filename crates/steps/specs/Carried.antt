@@ -7,7 +7,7 @@ use lib.Dec.{eqb}
 use Rattle.planes.specs.Plane.{bit}
 use Rattle.records.specs.Lists.{member}
 use Rattle.records.specs.Record.{Rec, Net, at, linked}
-use Rattle.records.specs.Rows.{pointGood}
+use Rattle.records.specs.Fields.{pointGood}
 use Rattle.records.specs.State.{state, headerOf, portOf, switchOf, directionOf}
 use Rattle.records.specs.Widths.{states}
 use Rattle.records.specs.declared.Widths.{Widths}

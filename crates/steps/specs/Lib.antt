@@ -1,9 +1,6 @@
 -- One step of a packet state.
 pub mod Step
 pub mod Example
-pub mod Choice
-pub mod Filled
-pub mod Sent
+pub mod Relayed
 pub mod Carried
-pub mod Stored
-pub mod Laws
+pub mod Filled

@@ -1,14 +1,14 @@
 // One step of a packet state.
+use actions::choice::choose;
 use actions::run;
-use choice::choose;
+use actions::state::direction;
+use actions::state::header;
+use actions::state::join;
+use actions::state::port;
+use actions::state::switch;
 use records::Widths;
-use records::links::is_ordinary;
-use records::scan::Layout;
-use state::direction;
-use state::header;
-use state::join;
-use state::port;
-use state::switch;
+use records::fields::is_ordinary;
+use scan::Layout;
 ghost use mathlib.Core.Path.{_≡_};
 ghost use mathlib.Core.Bool.{true};
 ghost use Prim.Native.Nat.{_+_, _≤_};
@@ -19,16 +19,15 @@ ghost use Rattle.records.specs.Lists.{member};
 ghost use Rattle.records.specs.Record.{Net, records};
 ghost use Rattle.records.specs.Widths.{states, withinLimits, widthsOf};
 ghost use Rattle.steps.specs.Step.{external};
-ghost use Rattle.steps.specs.Choice.{arrival};
-ghost use Rattle.steps.specs.Filled.{rowBytes, Added, Filled};
-ghost use Rattle.steps.specs.Sent.{Sends, relayed, relays};
+ghost use Rattle.actions.specs.ByPlace.{arrival};
+ghost use Rattle.actions.specs.Lines.{rowBytes, Added};
+ghost use Rattle.steps.specs.Filled.{Filled};
+ghost use Rattle.actions.specs.Sent.{Sends};
+ghost use Rattle.steps.specs.Relayed.{relayed, relays};
 ghost use Rattle.steps.specs.Carried.{LinkedPoints};
-ghost use Rattle.steps.specs.Stored.{Stored};
+ghost use Rattle.scan.specs.Stored.{Stored};
 
-mod actions;
-mod choice;
 pub mod links;
-mod state;
 
 // Adds what an arrival steps to.
 fn relay(work: &mut [u8], row: usize, store: &[u8], n: usize, l: Layout, sw: u8, p: u8, h: u8)

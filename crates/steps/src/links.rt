@@ -1,9 +1,9 @@
 // What links carry, and where they end.
-use super::state::join;
-use super::state::number;
-use super::state::values;
+use actions::state::join;
+use actions::state::number;
+use actions::state::values;
 use records::Widths;
-use records::scan::Layout;
+use scan::Layout;
 ghost use mathlib.Core.Path.{_≡_};
 ghost use mathlib.Core.Bool.{true};
 ghost use mathlib.Core.List.{[], _∷_};
@@ -13,14 +13,15 @@ ghost use lib.ListN.{length};
 ghost use Rattle.planes.specs.Plane.{planeSize};
 ghost use Rattle.planes.specs.Rows.{BitSet};
 ghost use Rattle.records.specs.Record.{records, ofKind};
-ghost use Rattle.records.specs.Rows.{pointGood};
+ghost use Rattle.records.specs.Fields.{pointGood};
 ghost use Rattle.records.specs.State.{state};
 ghost use Rattle.records.specs.Widths.{withinLimits};
 ghost use Rattle.steps.specs.Step.{across};
-ghost use Rattle.steps.specs.Choice.{ofBody};
-ghost use Rattle.steps.specs.Filled.{rowBytes, Room, Adds};
+ghost use Rattle.actions.specs.ByPlace.{ofBody};
+ghost use Rattle.actions.specs.Lines.{rowBytes, Adds};
+ghost use Rattle.steps.specs.Filled.{Room};
 ghost use Rattle.steps.specs.Carried.{oneWay, Ends, pair, pairs, crosses, point, LinkedPoints};
-ghost use Rattle.steps.specs.Stored.{Stored};
+ghost use Rattle.scan.specs.Stored.{Stored};
 
 // Carries a frame with header h from the point (a, b) to the point (c, d).
 fn hop(work: &mut [u8], base: usize, w: Widths, a: u8, b: u8, c: u8, d: u8, h: u8)

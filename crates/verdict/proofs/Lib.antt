@@ -1,13 +1,8 @@
--- Laws that several proofs use.
-pub mod Bytes
-pub mod Folds
-pub mod Laying
-pub mod Cells
-pub mod Nodes
-pub mod Evals
-pub mod Lowest
-pub mod Fields
-pub mod Runs
-pub mod Searching
-pub mod Judging
-pub mod Cleans
+-- Laws that several proofs of this crate use.
+pub mod CleanStore
+pub mod JudgedWork
+pub mod LowestState
+pub mod MarkedNodes
+pub mod NodeFields
+pub mod PolicyRuns
+pub mod PolicySearch

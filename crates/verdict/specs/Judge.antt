@@ -8,17 +8,17 @@ use Prim.Native.Nat.{ℕ, suc, _+_, _*_, _≤_, _<_}
 use lib.ListN.{length, getD, drop, replicate}
 use Rattle.records.specs.Record.{Rec, Net, at, records}
 use Rattle.records.specs.Policy.{nodesOf, policyCount, longest}
-use Rattle.records.specs.Rows.{operandsGood, workNeeded}
-use Rattle.records.specs.Refusal.{fileRow}
-use Rattle.records.specs.Layout.{LayoutOf}
-use Rattle.records.specs.declared.scan.Layout.{Layout}
+use Rattle.rows.specs.Rows.{operandsGood, workNeeded}
+use Rattle.rows.specs.Refusal.{fileRow}
+use Rattle.scan.specs.Layout.{LayoutOf}
+use Rattle.scan.specs.declared.Layout.{Layout}
 use Rattle.verdict.specs.declared.judge.Judged.{Judged}
 use Rattle.verdict.specs.declared.judge.Judged.the-variants.{Holds, Violated}
-use Rattle.verdict.specs.Truth.{modelOf}
+use Rattle.truth.specs.Truth.{modelOf}
 use Rattle.verdict.specs.Verdict.{Verdict, holds, violated, Is}
 use Rattle.verdict.specs.Judgement.{verdict}
 use Rattle.verdict.specs.Laws.Same.{SameModel}
-use Rattle.verdict.specs.Node.{planeAt, modelAt}
+use Rattle.truth.specs.Node.{planeAt, modelAt}
 
 -- the verdict that an answer gives: the network holds, or its lowest broken policy and the lowest state that breaks it
 abbrev pub verdictOf : Judged → Verdict

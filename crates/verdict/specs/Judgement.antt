@@ -11,8 +11,9 @@ use Rattle.records.specs.Record.{Net}
 use Rattle.records.specs.Widths.{width, states, widthsOf}
 use Rattle.records.specs.Policy.{forbidden, policyCount}
 use Rattle.verdict.specs.Verdict.{Verdict, holds, violated, Breaks, Lowest, Is}
-use Rattle.verdict.specs.Computed.{tableOf, truth, firstFrom, lowestState, verdictFrom}
-use Rattle.verdict.specs.Laws.Tables.{truth-iff}
+use Rattle.truth.specs.Computed.{tableOf, truth}
+use Rattle.verdict.specs.Computed.{firstFrom, lowestState, verdictFrom}
+use Rattle.truth.specs.Laws.Tables.{truth-iff}
 use Rattle.verdict.specs.Laws.Search.{First, first-is}
 
 module _ (net : Net) where

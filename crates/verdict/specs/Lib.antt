@@ -1,10 +1,7 @@
--- Policies and the verdict on a network.
-pub mod Truth
+-- The verdict on a network.
 pub mod Verdict
 pub mod Computed
 pub mod Judgement
-pub mod Made
-pub mod Node
 pub mod Policy
 pub mod Judge
 pub mod Laws

@@ -9,9 +9,9 @@ use Rattle.planes.specs.Bit.{bitOf}
 use Rattle.planes.specs.Plane.{planeSize}
 use Rattle.records.specs.Record.{Rec, Net, at, records}
 use Rattle.records.specs.Policy.{Formula, nodeKind, formula}
-use Rattle.verdict.specs.Truth.{Model, Truth}
-use Rattle.verdict.specs.Node.{planeAt, arity, Operand, modelAt, Shows}
-use Rattle.verdict.specs.declared.node.Node.{Node}
+use Rattle.truth.specs.Truth.{Model, Truth}
+use Rattle.truth.specs.Node.{planeAt, arity, Operand, modelAt, Shows}
+use Rattle.truth.specs.declared.node.Node.{Node}
 use Rattle.verdict.specs.declared.policy.Lowest.{Lowest}
 use Rattle.verdict.specs.declared.policy.Lowest.the-variants.{State, None}
 

@@ -3,14 +3,14 @@ ghost use mathlib.Core.Path.{_≡_};
 ghost use Prim.Native.Nat.{_+_, _*_, _^_, _≤_, _<_};
 ghost use lib.ListN.{length};
 ghost use Rattle.records.specs.Record.{records};
-ghost use Rattle.steps.specs.Stored.{Stored};
+ghost use Rattle.scan.specs.Stored.{Stored};
 ghost use Rattle.steps.specs.Step.{external};
-ghost use Rattle.verdict.specs.Made.{Row};
+ghost use Rattle.truth.specs.Shapes.{Row};
 ghost use Rattle.verdict.specs.Judge.{Run, Testable, Searched, Judgeable, Judges};
 use crate::policy;
 use crate::policy::Lowest;
-use crate::rows;
-use records::scan::Layout;
+use scan::Layout;
+use truth::lines;
 
 // The answer on a network: it holds, or the lowest broken policy and the lowest state that breaks it.
 pub enum Judged {
@@ -74,7 +74,7 @@ fn externals(store: &[u8], end: usize, l: Layout, s: usize) -> [u8; 128]
     let mut z: usize = 0;
     while z < s {
         let t = steps::is_external(&points, w, z);
-        rows::push(&mut r, z, t);
+        lines::push(&mut r, z, t);
         z += 1;
     }
     r

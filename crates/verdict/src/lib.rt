@@ -1,6 +1,3 @@
-// The truth of policies and the verdict on a network.
+// The verdict on a network.
 pub mod judge;
-mod node;
 mod policy;
-mod rows;
-mod shapes;

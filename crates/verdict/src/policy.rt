@@ -4,13 +4,13 @@ ghost use Prim.Native.Nat.{_+_, _*_, _^_, _≤_, _<_};
 ghost use lib.Bits.{bitOr};
 ghost use lib.ListN.{length};
 ghost use Rattle.planes.specs.Bit.{bitOf};
-ghost use Rattle.verdict.specs.Node.{Makeable, NodeMade};
+ghost use Rattle.truth.specs.Node.{Makeable, NodeMade};
 ghost use Rattle.verdict.specs.Policy.{nodesAt, NodeAt, Ready, Asked, Given, stateOf, Tested};
 ghost use Rattle.planes.specs.Plane.{cell};
 ghost use Rattle.verdict.specs.Computed.{firstFrom};
-ghost use Rattle.verdict.specs.Made.{Plane};
-use crate::node;
-use crate::node::Node;
+ghost use Rattle.truth.specs.Shapes.{Plane};
+use truth::node;
+use truth::node::Node;
 
 // The lowest state of some kind, or none.
 pub enum Lowest {

@@ -1,6 +1,6 @@
 use denote.Ref.{now}
 use mathlib.Core.Path.{sym, ap, _∙_}
-use Rattle.calls.specs.Effect.{refusalOf}
+use Rattle.commands.specs.Effect.{refusalOf}
 use Rattle.calls.proofs.Calling.{known, no-row, refused-late, command-refused}
 use borrow.Author.Needs.{needs}
 use Rattle.calls.proofs.after_check.Statement.{statement}

@@ -1,6 +1,6 @@
 use denote.Ref.{now}
 use mathlib.Core.Path.{sym, ap, _∙_}
-use Rattle.records.specs.Layout.{refusalOf}
+use Rattle.scan.specs.Layout.{refusalOf}
 use Rattle.calls.proofs.Calling.{no-refusal, judgeable}
 use borrow.Author.Needs.{needs}
 use Rattle.calls.proofs.verdict_on.Statement.{statement}

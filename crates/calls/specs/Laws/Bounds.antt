@@ -9,15 +9,15 @@ use lib.Dec.{lit≤}
 use lib.ListN.{length, length-append}
 use lib.Pow.{pow-mono}
 use Rattle.records.specs.Widths.{states, widthsOf}
-use Rattle.records.specs.Count.{policies-bound, widths-bound}
+use Rattle.rows.specs.Count.{policies-bound, widths-bound}
 use Rattle.records.specs.Record.{Rec, Net, records}
-use Rattle.records.specs.Rows.{row1, row2, row3, row4, row5, row6, row7, row8, row9, row10, row11, row12, row13, missesIncomplete}
-use Rattle.records.specs.Refusal.{Refusal, orElse, row, recordRow, fileRow, argumentsRow, networkRow, checkRefusal, commandRow, commandRefusal}
+use Rattle.rows.specs.Rows.{row1, row2, row3, row4, row5, row6, row7, row8, row9, row10, row11, row12, row13, missesIncomplete}
+use Rattle.rows.specs.Refusal.{Refusal, orElse, row, recordRow, fileRow, argumentsRow, networkRow, checkRefusal, commandRow, commandRefusal}
 use Rattle.records.specs.Laws.Records.{length-records}
 use Rattle.verdict.specs.Verdict.{Verdict, holds, violated, Lowest, Is}
 use Rattle.verdict.specs.Judgement.{verdict, verdict-meant}
 use Rattle.calls.specs.Answer.{CheckAnswer, CommandAnswer}
-use Rattle.calls.specs.Apply.{applied}
+use Rattle.commands.specs.Apply.{applied}
 use Rattle.calls.specs.Check.{unless, ofVerdict, checkAnswer}
 use Rattle.calls.specs.Reference.{Installed, network, unchanged, judged, step}
 use Rattle.calls.specs.Laws.Store.{arguments}

@@ -7,10 +7,10 @@ use mathlib.Core.Option.{none}
 use Prim.Native.Nat.{ℕ, _≤_}
 use native.Mathlib.Omega.{arith}
 use Rattle.records.specs.Record.{Rec, records}
-use Rattle.records.specs.Rows.{row11, workNeeded}
-use Rattle.records.specs.Refusal.{row, fileRow, argumentsRow, networkRow, checkRefusal, commandRow, commandRefusal}
-use Rattle.records.specs.Laws.Clean.{neither, not-empty}
-use Rattle.calls.specs.NeverStuck.{GoesOn, never-stuck}
+use Rattle.rows.specs.Rows.{row11, workNeeded}
+use Rattle.rows.specs.Refusal.{row, fileRow, argumentsRow, networkRow, checkRefusal, commandRow, commandRefusal}
+use Rattle.rows.specs.Laws.Passing.{neither, not-empty}
+use Rattle.commands.specs.NeverStuck.{GoesOn, never-stuck}
 use Rattle.calls.specs.Laws.Store.{Arguments, arguments, installed-whole}
 
 -- a row that does not refuse is not met

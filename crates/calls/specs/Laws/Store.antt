@@ -9,10 +9,10 @@ use lib.Dec.{eqb, ltb}
 use lib.ListN.{length, drop, replicate, length-append, length-replicate}
 use Rattle.planes.specs.Laws.Tests.{or-none}
 use Rattle.records.specs.Record.{Net, mostRecords, storeBytes, records, flat}
-use Rattle.records.specs.Rows.{row1, row2}
-use Rattle.records.specs.Refusal.{Refusal, argumentsRow, checkRefusal}
+use Rattle.rows.specs.Rows.{row1, row2}
+use Rattle.rows.specs.Refusal.{Refusal, argumentsRow, checkRefusal}
 use Rattle.records.specs.Laws.Records.{Whole, records-whole, flat-back}
-use Rattle.records.specs.Laws.Clean.{lowest-two}
+use Rattle.rows.specs.Laws.Passing.{lowest-two}
 use Rattle.verdict.specs.Judgement.{verdict}
 use Rattle.calls.specs.Answer.{CheckAnswer}
 use Rattle.calls.specs.Check.{unless, ofVerdict, checkAnswer}

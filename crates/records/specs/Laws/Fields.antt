@@ -12,7 +12,7 @@ use lib.ListN.{length, getD, take, drop, length-drop}
 use lib.Seq.{length-take-le, getD-take, getD-drop, slice-cons, slice-empty}
 use Rattle.records.specs.Lists.{all}
 use Rattle.records.specs.Record.{Rec, at, kind}
-use Rattle.records.specs.Rows.{zeros, usedGood, unusedGood, actionOf, actionGood, actionsGood, pointGood, matchGood, nodeGood, fieldsGood, commandGood}
+use Rattle.records.specs.Fields.{zeros, usedGood, unusedGood, actionOf, actionGood, actionsGood, pointGood, matchGood, nodeGood, fieldsGood, commandGood}
 use Rattle.records.specs.declared.Widths.{Widths}
 
 -- a byte after the kind byte

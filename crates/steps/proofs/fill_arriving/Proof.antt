@@ -11,9 +11,9 @@ use Rattle.records.specs.Record.{records}
 use Rattle.records.specs.Widths.{states}
 use Rattle.records.specs.Laws.Limits.{limits}
 use Rattle.records.specs.Laws.States.{whole-bytes}
-use Rattle.steps.specs.Sent.{relays}
-use Rattle.steps.specs.Filled.{rowBytes, Added}
-use Rattle.steps.proofs.Filling.{row-more}
+use Rattle.steps.specs.Relayed.{relays}
+use Rattle.actions.specs.Lines.{rowBytes, Added}
+use Rattle.steps.proofs.PlaneOfPairs.{row-more}
 use Rattle.steps.proofs.fill_arriving.Statement.{statement}
 use Rattle.steps.proofs.fill_arriving.Tie as tie
 

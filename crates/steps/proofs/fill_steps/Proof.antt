@@ -10,12 +10,12 @@ use Rattle.records.specs.Record.{records, ofKind}
 use Rattle.records.specs.Widths.{states}
 use Rattle.records.specs.declared.Widths.{Widths}
 use Rattle.steps.specs.Step.{across, next}
-use Rattle.steps.specs.Filled.{rowBytes}
-use Rattle.steps.specs.Sent.{relays}
+use Rattle.actions.specs.Lines.{rowBytes}
+use Rattle.steps.specs.Relayed.{relays}
 use Rattle.steps.specs.Carried.{crosses}
-use Rattle.steps.proofs.Pairs.{pair-first, pair-second}
-use Rattle.steps.proofs.Filling.{room-on, pairs-added}
-use Rattle.steps.proofs.Stepping.{either-step}
+use Rattle.steps.proofs.PairBits.{pair-first, pair-second}
+use Rattle.steps.proofs.PlaneOfPairs.{room-on, pairs-added}
+use Rattle.steps.proofs.NextStates.{either-step}
 use Rattle.steps.proofs.fill_steps.Statement.{statement}
 use Rattle.steps.proofs.fill_steps.Tie as tie
 

@@ -14,7 +14,7 @@ use Prim.Native.Nat.{ℕ}
 use Rattle.planes.specs.Plane.{bit}
 use Rattle.steps.specs.Step.{external}
 use Rattle.steps.specs.Carried.{point}
-use Rattle.steps.proofs.Points.{point-lt}
+use Rattle.steps.proofs.PointBits.{point-lt}
 use Rattle.steps.proofs.is_external.Statement.{statement}
 use Rattle.steps.proofs.is_external.Tie as tie
 

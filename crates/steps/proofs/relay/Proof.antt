@@ -6,14 +6,14 @@ use Prim.Native.Nat.{ℕ, _<_}
 use native.Mathlib.Omega.{arith}
 use lib.ListN.{getD}
 use Rattle.records.specs.Record.{records}
-use Rattle.records.specs.Rows.{actionsGood}
+use Rattle.records.specs.Fields.{actionsGood}
 use Rattle.records.specs.Laws.Fields.{actions-body}
-use Rattle.steps.specs.Choice.{arrival, ofBody}
-use Rattle.steps.proofs.Adding.{added-none}
-use Rattle.steps.proofs.Body.{bodyAt, body-of, body-is, body-length, sent-same}
-use Rattle.steps.proofs.Fields.{few-actions}
-use Rattle.steps.proofs.Parts.{in-store, actions-good}
-use Rattle.steps.proofs.Stepping.{dropped, one-acts}
+use Rattle.actions.specs.ByPlace.{arrival, ofBody}
+use Rattle.actions.specs.Laws.AddedBits.{added-none}
+use Rattle.actions.specs.Laws.Bodies.{bodyAt, body-of, body-is, body-length, sent-same}
+use Rattle.actions.specs.Laws.GoodActions.{few-actions}
+use Rattle.actions.specs.Laws.GoodRecords.{in-store, actions-good}
+use Rattle.steps.proofs.NextStates.{dropped, one-acts}
 use Rattle.steps.proofs.relay.Statement.{statement}
 use Rattle.steps.proofs.relay.Tie as tie
 

@@ -4,8 +4,8 @@ use mathlib.Core.Path.{sym, subst⁻¹, _∙_}
 use Prim.Native.Nat.{ℕ, _^_, _<_}
 use Rattle.records.specs.Record.{records}
 use Rattle.records.specs.Laws.States.{header-lt, switch-lt}
-use Rattle.steps.proofs.Adding.{added-none}
-use Rattle.steps.proofs.Stepping.{relays-arriving, relays-departing}
+use Rattle.actions.specs.Laws.AddedBits.{added-none}
+use Rattle.steps.proofs.NextStates.{relays-arriving, relays-departing}
 use Rattle.steps.proofs.relay_state.Statement.{statement}
 use Rattle.steps.proofs.relay_state.Tie as tie
 

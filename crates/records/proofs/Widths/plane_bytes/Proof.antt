@@ -4,7 +4,7 @@ use Prim.Native.Nat.{ℕ, _≤_, _^_, _*_, _/_}
 use native.Mathlib.Omega.{arith}
 use lib.Pow.{pow-lt}
 use Rattle.records.specs.Widths.{width, states, planeBytes}
-use Rattle.records.proofs.Shift.{square}
+use Rattle.planes.specs.Laws.Shifts.{square}
 use Rattle.records.proofs.Widths.plane_bytes.Statement.{statement}
 use Rattle.records.proofs.Widths.plane_bytes.Tie as tie
 

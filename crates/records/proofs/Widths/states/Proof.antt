@@ -3,7 +3,7 @@ use mathlib.Core.Path.{_≡_, ap, _∙_}
 use Prim.Native.Nat.{ℕ, _≤_, _^_}
 use native.Mathlib.Omega.{arith}
 use Rattle.records.specs.Widths.{width, states}
-use Rattle.records.proofs.Shift.{shl-one}
+use Rattle.planes.specs.Laws.Shifts.{shl-one}
 use Rattle.records.proofs.Widths.states.Statement.{statement}
 use Rattle.records.proofs.Widths.states.Tie as tie
 

@@ -2,7 +2,7 @@ use borrow.Author.Needs.{needs}
 use mathlib.Core.Path.{_≡_, _∙_}
 use mathlib.Core.Bool.{true}
 use native.Mathlib.Omega.{arith}
-use Rattle.records.specs.Rows.{matchGood, commandGood}
+use Rattle.records.specs.Fields.{matchGood, commandGood}
 use Rattle.records.proofs.Calls.{refused, passed}
 use Rattle.records.proofs.Range.{one-of-two}
 use denote.Ref.{now}

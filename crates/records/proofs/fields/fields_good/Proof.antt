@@ -7,7 +7,7 @@ use native.Mathlib.Omega.{arith}
 use lib.Dec.{lit<}
 use lib.ListN.{length}
 use Rattle.records.specs.Record.{Rec, kind}
-use Rattle.records.specs.Rows.{fieldsGood}
+use Rattle.records.specs.Fields.{fieldsGood}
 use Rattle.records.specs.Widths.{withinLimits}
 use Rattle.records.specs.declared.Widths.{Widths}
 use denote.Ref.{now}

@@ -4,7 +4,7 @@ use mathlib.Core.Logic.{⊎-elim}
 use native.Mathlib.Omega.{arith}
 use Rattle.records.specs.Laws.Limits.{limits}
 use Rattle.records.specs.Laws.Fields.{no-node}
-use Rattle.records.specs.Rows.{nodeGood}
+use Rattle.records.specs.Fields.{nodeGood}
 use Rattle.records.proofs.Range.{one-of-two}
 use Rattle.records.proofs.fields.node_good.Statement.{statement}
 use Rattle.records.proofs.fields.node_good.Tie as tie

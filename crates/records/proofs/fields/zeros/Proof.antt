@@ -5,7 +5,7 @@ use Prim.Native.Nat.{ℕ, _≤_, _<_, _-_}
 use native.Mathlib.Numerals.{add-one}
 use native.Mathlib.Omega.{arith}
 use borrow.Author.Tests.{eq-eqb, ne-eqb}
-use Rattle.records.specs.Rows.{zeros}
+use Rattle.records.specs.Fields.{zeros}
 use Rattle.records.specs.Laws.Fields.{zeros-none, zeros-more}
 use Rattle.records.proofs.fields.zeros.Statement.{statement}
 use Rattle.records.proofs.fields.zeros.Tie as tie

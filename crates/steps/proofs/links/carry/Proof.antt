@@ -3,11 +3,11 @@ use Prim.Native.Nat.{_-_, _^_, _≤_}
 use native.Mathlib.Omega.{arith}
 use Rattle.planes.specs.Plane.{planeSize}
 use Rattle.records.specs.Laws.Limits.{limits}
-use Rattle.steps.specs.Filled.{rowBytes, Adds}
+use Rattle.actions.specs.Lines.{rowBytes, Adds}
 use Rattle.steps.specs.Carried.{pairs}
-use Rattle.steps.proofs.Hops.{below}
-use Rattle.steps.proofs.Filling.{room-on}
-use Rattle.steps.proofs.Carrying.{carried-none, carried-more, carried-all}
+use Rattle.steps.proofs.HeaderByHeader.{below}
+use Rattle.steps.proofs.PlaneOfPairs.{room-on}
+use Rattle.steps.proofs.EveryHeader.{carried-none, carried-more, carried-all}
 use Rattle.steps.proofs.links.carry.Statement.{statement}
 use Rattle.steps.proofs.links.carry.Tie as tie
 

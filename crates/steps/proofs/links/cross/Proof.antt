@@ -9,13 +9,13 @@ use Rattle.records.specs.Record.{Net, records, ofKind}
 use Rattle.records.specs.Widths.{states}
 use Rattle.records.specs.Laws.Parts.{part, part-none}
 use Rattle.steps.specs.Step.{across}
-use Rattle.steps.specs.Filled.{rowBytes, Adds}
+use Rattle.actions.specs.Lines.{rowBytes, Adds}
 use Rattle.steps.specs.Carried.{pairs, crosses}
-use Rattle.steps.proofs.Adding.{Toward, toward-more, adds-none, adds-as}
-use Rattle.steps.proofs.Body.{body-length}
-use Rattle.steps.proofs.Crossing.{crosses-none}
-use Rattle.steps.proofs.Filling.{room-on}
-use Rattle.steps.proofs.Linking.{link-in, link-room, link-ends, links-cross}
+use Rattle.actions.specs.Laws.AddedBits.{Toward, toward-more, adds-none, adds-as}
+use Rattle.actions.specs.Laws.Bodies.{body-length}
+use Rattle.steps.proofs.LinkCrossings.{crosses-none}
+use Rattle.steps.proofs.PlaneOfPairs.{room-on}
+use Rattle.steps.proofs.LinksInStore.{link-in, link-room, link-ends, links-cross}
 use Rattle.steps.proofs.links.cross.Statement.{statement}
 use Rattle.steps.proofs.links.cross.Tie as tie
 

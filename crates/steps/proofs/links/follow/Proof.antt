@@ -1,9 +1,9 @@
 use borrow.Author.Needs.{needs}
 use denote.Ref.{now}
 use mathlib.Core.Path.{_∙_}
-use Rattle.steps.specs.Choice.{ofBody}
-use Rattle.steps.proofs.Filling.{room-on}
-use Rattle.steps.proofs.Carrying.{followed}
+use Rattle.actions.specs.ByPlace.{ofBody}
+use Rattle.steps.proofs.PlaneOfPairs.{room-on}
+use Rattle.steps.proofs.EveryHeader.{followed}
 use Rattle.steps.proofs.links.follow.Statement.{statement}
 use Rattle.steps.proofs.links.follow.Tie as tie
 

@@ -9,12 +9,12 @@ use Rattle.records.specs.State.{state}
 use Rattle.records.specs.Widths.{states}
 use Rattle.records.specs.Laws.Limits.{limits}
 use Rattle.records.specs.Laws.States.{state-lt}
-use Rattle.steps.specs.Filled.{rowBytes, Adds}
+use Rattle.actions.specs.Lines.{rowBytes, Adds}
 use Rattle.steps.specs.Carried.{pair}
-use Rattle.steps.proofs.Adding.{adds-one}
-use Rattle.steps.proofs.Pairs.{pair-is, pair-lt, few-pairs}
-use Rattle.steps.proofs.Filling.{pair-in}
-use Rattle.steps.proofs.Points.{point-switch, point-port}
+use Rattle.actions.specs.Laws.AddedBits.{adds-one}
+use Rattle.steps.proofs.PairBits.{pair-is, pair-lt, few-pairs}
+use Rattle.steps.proofs.PlaneOfPairs.{pair-in}
+use Rattle.steps.proofs.PointBits.{point-switch, point-port}
 use Rattle.steps.proofs.links.hop.Statement.{statement}
 use Rattle.steps.proofs.links.hop.Tie as tie
 

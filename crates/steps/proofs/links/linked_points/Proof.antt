@@ -6,9 +6,9 @@ use Prim.Native.Nat.{_+_, _-_, _*_, _≤_}
 use native.Mathlib.Omega.{arith}
 use lib.ListN.{length, getD}
 use Rattle.records.specs.Record.{records}
-use Rattle.records.specs.Rows.{pointGood}
-use Rattle.steps.proofs.Linking.{link-room, link-points}
-use Rattle.steps.proofs.Marking.{Marked, marked-none, marked-more, marked-all}
+use Rattle.records.specs.Fields.{pointGood}
+use Rattle.steps.proofs.LinksInStore.{link-room, link-points}
+use Rattle.steps.proofs.MarkedPoints.{Marked, marked-none, marked-more, marked-all}
 use Rattle.steps.proofs.links.linked_points.Statement.{statement}
 use Rattle.steps.proofs.links.linked_points.Tie as tie
 

@@ -1,6 +1,6 @@
 use native.Mathlib.Omega.{arith}
 use Rattle.records.specs.Laws.Limits.{limits}
-use Rattle.steps.proofs.Points.{point-lt, point-switch, point-port}
+use Rattle.steps.proofs.PointBits.{point-lt, point-switch, point-port}
 use Rattle.steps.proofs.links.mark.Statement.{statement}
 use Rattle.steps.proofs.links.mark.Tie as tie
 

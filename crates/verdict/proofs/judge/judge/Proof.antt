@@ -1,8 +1,8 @@
 -- `verdict::judge::judge` meets its contract.
 use Rattle.records.specs.Laws.Limits.{limits}
 use Rattle.records.specs.Laws.States.{few-states}
-use Rattle.verdict.proofs.Cleans.{stored}
-use Rattle.verdict.proofs.Judging.{enough, most-fits, step-room, search-ready, judged}
+use Rattle.verdict.proofs.CleanStore.{stored}
+use Rattle.verdict.proofs.JudgedWork.{enough, most-fits, step-room, search-ready, judged}
 use native.Mathlib.Omega.{arith}
 use borrow.Author.Needs.{needs}
 use Rattle.verdict.proofs.judge.judge.Statement.{statement}

@@ -2,7 +2,7 @@
 use mathlib.Core.Path.{_∙_}
 use Prim.Native.Nat.{_+_, _-_, _*_}
 use borrow.Author.Needs.{needs}
-use Rattle.verdict.proofs.Searching.{Passed, tested-as, passed-none, passed-more, passed-all, found-lowest, ready, lens, kept-behind}
+use Rattle.verdict.proofs.PolicySearch.{Passed, tested-as, passed-none, passed-more, passed-all, found-lowest, ready, lens, kept-behind}
 use native.Mathlib.Omega.{arith}
 use Rattle.verdict.proofs.judge.search.Statement.{statement}
 use Rattle.verdict.proofs.judge.search.Tie as tie

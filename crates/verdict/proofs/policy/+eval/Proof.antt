@@ -6,7 +6,7 @@ use native.Mathlib.Omega.{arith}
 use borrow.Author.Needs.{needs}
 use borrow.Fn.Kinds.{In}
 use borrow.Fn.PlainCycle.{Measures, is, falls, and}
-use Rattle.verdict.proofs.Evals.{worked-none, worked-then, none-marked, one-marked, two-marked, ask, operand-earlier, makeable, settled}
+use Rattle.verdict.proofs.MarkedNodes.{worked-none, worked-then, none-marked, one-marked, two-marked, ask, operand-earlier, makeable, settled}
 use Rattle.verdict.proofs.policy.eval.Reads as eval
 use Rattle.verdict.proofs.policy.eval.Kinds as eval-kinds
 use Rattle.verdict.proofs.policy.+eval.Lts-eval as eval-lts

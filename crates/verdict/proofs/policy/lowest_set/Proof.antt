@@ -4,7 +4,7 @@ use Prim.Native.Nat.{_*_, _-_, _≤_}
 use Rattle.planes.specs.Plane.{cell}
 use Rattle.planes.specs.Laws.Places.{row-before}
 use Rattle.verdict.specs.Computed.{firstFrom}
-use Rattle.verdict.proofs.Lowest.{sought-first, sought-more, sought-found, sought-none}
+use Rattle.verdict.proofs.LowestState.{sought-first, sought-more, sought-found, sought-none}
 use native.Mathlib.Omega.{arith}
 use Rattle.verdict.proofs.policy.lowest_set.Statement.{statement}
 use Rattle.verdict.proofs.policy.lowest_set.Tie as tie

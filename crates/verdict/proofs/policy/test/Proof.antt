@@ -5,11 +5,11 @@ use lib.ListN.{length}
 use denote.Ref.{now}
 use Rattle.records.specs.Policy.{formula}
 use Rattle.records.specs.Laws.Records.{length-records}
-use Rattle.verdict.specs.Node.{modelAt}
+use Rattle.truth.specs.Node.{modelAt}
 use Rattle.verdict.specs.Policy.{nodesAt, LowestTrue}
-use Rattle.verdict.proofs.Nodes.{plane-before, offset-fits}
-use Rattle.verdict.proofs.Evals.{ask-last}
-use Rattle.verdict.proofs.Lowest.{lowest-true}
+use Rattle.truth.specs.Laws.NodePlanes.{plane-before, offset-fits}
+use Rattle.verdict.proofs.MarkedNodes.{ask-last}
+use Rattle.verdict.proofs.LowestState.{lowest-true}
 use native.Mathlib.Omega.{arith}
 use borrow.Author.Needs.{needs}
 use Rattle.verdict.proofs.policy.test.Statement.{statement}

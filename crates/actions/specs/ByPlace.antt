@@ -1,0 +1,28 @@
+-- Which record acts, by its place.
+use mathlib.Core.Path.{_≡_}
+use mathlib.Core.Bool.{cond}
+use mathlib.Core.List.{List, [], _∷_}
+use Prim.Native.Nat.{ℕ, suc, _<_, _≤_}
+use lib.ListN.{getD}
+use Rattle.records.specs.Record.{Rec, Net, priority}
+use Rattle.records.specs.declared.Widths.{Widths}
+use Rattle.scan.specs.declared.Layout.{Layout}
+use Rattle.actions.specs.Chosen.{Arrival, ruleMatches, chosen}
+
+-- the arrival at a port of a switch, with a header
+abbrev pub arrival : ℕ → ℕ → ℕ → Arrival
+arrival sw p h = record { switch = sw; port = p; header = h }
+
+-- a record by its bytes from byte 1 on, where its kind does not matter
+abbrev pub ofBody : List ℕ → Rec
+ofBody body = 0 ∷ body
+
+-- the rank of a rule for an arrival: 0 where it does not match, else one above its priority
+unfoldable pub rankOf : Widths → Arrival → Rec → ℕ
+rankOf w a r = cond (ruleMatches w a r) (suc (priority r)) 0
+
+-- the one record that acts stands at place i, among the misses and the rules
+pub record ActsAt (net : Net) (l : Layout) (a : Arrival) (i : ℕ) : Type 0 where
+  pub acts : chosen net a ≡ getD net i [] ∷ []
+  pub low : l .misses ≤ i
+  pub high : i < l .nodes

@@ -1,0 +1,8 @@
+-- Laws that are cited, and need not be read to believe a promise.
+pub mod AddedBits
+pub mod Bodies
+pub mod Chosen
+pub mod CopiesInOrder
+pub mod GoodActions
+pub mod GoodRecords
+pub mod SentCopies

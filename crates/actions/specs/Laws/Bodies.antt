@@ -1,0 +1,94 @@
+-- What a rule says is said by its body, bytes 1 to 20 of its record.
+use mathlib.Core.Path.{_≡_, refl, sym, ap, ap₂, _∙_}
+use mathlib.Core.List.{List, [], _∷_, _++_}
+use Prim.Native.Nat.{ℕ, zero, suc, _+_, _-_, _*_, _<_, _≤_}
+use native.Mathlib.Nat.{not-suc-le-zero}
+use native.Mathlib.Omega.{arith}
+use lib.ListN.{length, getD, take, drop, length-drop}
+use lib.Seq.{getD-take, getD-drop, take-take, drop-drop, length-take-le}
+use Rattle.records.specs.Record.{Rec, at, priority, records}
+use Rattle.records.specs.declared.Widths.{Widths}
+use Rattle.records.specs.Laws.Records.{record-at, byte-of}
+use Rattle.actions.specs.Chosen.{Arrival, ruleMatches}
+use Rattle.actions.specs.Actions.{copies, sent}
+use Rattle.actions.specs.ByPlace.{ofBody, rankOf}
+use Rattle.actions.specs.Sent.{sentBy, headerAfter}
+use Rattle.actions.specs.Laws.CopiesInOrder.{copies-cons}
+
+-- n bytes of a store from the second byte of record i
+abbrev pub bodyAt : List ℕ → ℕ → ℕ → List ℕ
+bodyAt s i n = take (i * 24 + 1 + n - (i * 24 + 1)) (drop (i * 24 + 1) s)
+
+after-first : (l : List ℕ) → drop 1 (take 24 l) ≡ take 23 (drop 1 l)
+after-first [] = refl
+after-first (x ∷ xs) = refl
+
+-- bytes 1 to n of two records are the same
+abbrev pub SameTo : ℕ → Rec → Rec → Type 0
+SameTo n r q = (k : ℕ) → 1 ≤ k → k ≤ n → at r k ≡ at q k
+
+module _ (m : ℕ) (s : List ℕ) (i : ℕ) (h : i < m) (n : ℕ) (t : n ≤ 20) where
+  pub body-of : SameTo n (ofBody (bodyAt s i n)) (getD (records m s) i [])
+  body-of zero l u = absurd (not-suc-le-zero l)
+  body-of (suc k) l u =
+      let e : i * 24 + 1 + k ≡ i * 24 + suc k = omega arith in
+      getD-take (i * 24 + 1 + n - (i * 24 + 1)) (drop (i * 24 + 1) s) k 0 (omega arith)
+      ∙ getD-drop (i * 24 + 1) s k 0
+      ∙ ap (λ (j : ℕ). getD s j 0) e
+      ∙ sym (byte-of m s i (suc k) h (omega arith))
+
+  pub body-is : n ≡ 20 → bodyAt s i n ≡ take 20 (drop 1 (getD (records m s) i []))
+  body-is e =
+      let q : i * 24 + 1 + n - (i * 24 + 1) ≡ 20 = omega arith in
+      ap (λ (k : ℕ). take k (drop (i * 24 + 1) s)) q
+      ∙ sym (ap (λ (r : Rec). take 20 (drop 1 r)) (record-at m s i h)
+      ∙ ap (take 20) (after-first (drop (i * 24) s))
+      ∙ take-take 20 23 (drop 1 (drop (i * 24) s)) (omega arith)
+      ∙ ap (take 20) (drop-drop 1 (i * 24) s))
+
+  pub body-length : m * 24 ≤ length s → length (bodyAt s i n) ≡ n
+  body-length g =
+      let e : i * 24 + 1 + n - (i * 24 + 1) ≡ n = omega arith in
+      length-take-le (i * 24 + 1 + n - (i * 24 + 1)) (drop (i * 24 + 1) s) (omega (arith, length-drop (i * 24 + 1) s)) ∙ e
+
+module _ (w : Widths) (r q : Rec) (same : SameTo 20 r q) where
+  pub rank-same : (a : Arrival) → rankOf w a r ≡ rankOf w a q
+  unfolding rankOf ruleMatches priority
+  rank-same a =
+      rw (
+        same 1 (omega arith) (omega arith),
+        same 2 (omega arith) (omega arith),
+        same 3 (omega arith) (omega arith),
+        same 4 (omega arith) (omega arith),
+        same 5 (omega arith) (omega arith),
+        same 6 (omega arith) (omega arith),
+        same 7 (omega arith) (omega arith),
+      )
+
+  module _ (h i : ℕ) (few : i < 4) where
+    sent-by-same : (sw : ℕ) → sentBy w sw r h i ≡ sentBy w sw q h i
+    unfolding sentBy
+    sent-by-same sw = rw (same (9 + 3 * i) (omega arith) (omega arith), same (10 + 3 * i) (omega arith) (omega arith), same (11 + 3 * i) (omega arith) (omega arith))
+
+    header-after-same : headerAfter w r h i ≡ headerAfter w q h i
+    unfolding headerAfter
+    header-after-same = rw (same (9 + 3 * i) (omega arith) (omega arith), same (10 + 3 * i) (omega arith) (omega arith), same (11 + 3 * i) (omega arith) (omega arith))
+
+  copies-same : (a : Arrival) (h i k : ℕ) → i + k ≤ 4 → copies w a r h i k ≡ copies w a q h i k
+  unfolding copies
+  copies-same a h i zero l = refl
+  copies-same a h i (suc k) l =
+      let few : i < 4 = omega arith in
+      copies-cons w a r h i k
+      ∙ ap₂ {C = List ℕ} _++_ (sent-by-same h i few (a .switch))
+      (ap (λ (m : ℕ). copies w a r m (suc i) k) (header-after-same h i few) ∙ copies-same a (headerAfter w q h i) (suc i) k (omega arith))
+      ∙ sym (copies-cons w a q h i k)
+
+  pub sent-same : (a : Arrival) → at q 8 ≤ 4 → sent w a r ≡ sent w a q
+  unfolding sent
+  sent-same a l =
+      ap (copies w a r (a .header) 0) (same 8 (omega arith) (omega arith)) ∙ copies-same a (a .header) 0 (at q 8) (omega arith)
+
+-- a byte of a record by its body
+pub body-byte : (b : List ℕ) (j k : ℕ) → k ≡ suc j → at (ofBody b) k ≡ getD b j 0
+body-byte b j k e = ap (λ (m : ℕ). getD (0 ∷ b) m 0) e

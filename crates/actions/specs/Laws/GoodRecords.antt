@@ -1,0 +1,62 @@
+-- The links, the misses and the rules of a store, by their places.
+use mathlib.Core.Path.{_≡_, sym, _∙_}
+use mathlib.Core.Bool.{true, _&&_}
+use mathlib.Core.List.{List, []}
+use Prim.Native.Nat.{ℕ, _-_, _^_, _<_, _≤_}
+use native.Mathlib.Decide.{decLt}
+use native.Mathlib.Omega.{arith}
+use lib.Dec.{ltb}
+use lib.ListN.{getD}
+use Rattle.planes.specs.Laws.Tests.{and-left, and-right, both}
+use Rattle.records.specs.Record.{Net, at, records}
+use Rattle.records.specs.Fields.{zeros, pointGood, actionsGood, matchGood}
+use Rattle.records.specs.Laws.Fields.{link-fields, miss-fields, rule-fields}
+use Rattle.records.specs.Laws.Records.{length-records}
+use Rattle.records.specs.Laws.Parts.{kind-in}
+use Rattle.scan.specs.declared.Layout.{Layout}
+use Rattle.scan.specs.Stored.{Stored}
+
+module _ (n : ℕ) (l : Layout) (s : List ℕ) (st : Stored n l s) where
+  abbrev net : Net
+  net = records n s
+
+  pub in-store : l .nodes ≤ n
+  in-store = omega (arith, st .laid .within, length-records n s)
+
+  -- the fields of a link, of a rule, and the actions of a record that may act
+  pub link-good : (i : ℕ) → 1 ≤ i → i < l .misses
+      → let r = getD (records n s) i [] in (pointGood (l .widths) (at r 1) (at r 2) ≡ true) × (pointGood (l .widths) (at r 3) (at r 4) ≡ true)
+  link-good i a b =
+      let r = getD net i [] in
+      let q = st .laid in
+      let k = kind-in 2 net 1 (l .misses) i (q .links) (omega (arith, q .switches, q .few-rules, q .within)) a b in
+      let g = sym (link-fields (l .widths) r k) ∙ st .fields i a (omega (arith, q .switches, q .few-rules)) in
+      both (pointGood (l .widths) (at r 1) (at r 2)) (pointGood (l .widths) (at r 3) (at r 4))
+      (and-left (pointGood (l .widths) (at r 1) (at r 2) && pointGood (l .widths) (at r 3) (at r 4)) (zeros 5 24 r) g)
+
+  rule-good : (i : ℕ) → l .rules ≤ i → i < l .nodes → (matchGood (l .widths) (getD net i []) && actionsGood (l .widths) (getD net i [])) ≡ true
+  rule-good i a b =
+      let r = getD net i [] in
+      let q = st .laid in
+      let k = kind-in 4 net (l .rules) (l .nodes) i (q .rules) (q .within) a b in
+      and-left (matchGood (l .widths) r && actionsGood (l .widths) r) (zeros 21 24 r)
+      (sym (rule-fields (l .widths) r k) ∙ st .fields i (omega (arith, q .some-widths, q .switches)) b)
+
+  pub match-good : (i : ℕ) → l .rules ≤ i → i < l .nodes → matchGood (l .widths) (getD (records n s) i []) ≡ true
+  match-good i a b = and-left (matchGood (l .widths) (getD net i [])) (actionsGood (l .widths) (getD net i [])) (rule-good i a b)
+
+  miss-good : (i : ℕ) → l .misses ≤ i → i < l .rules → actionsGood (l .widths) (getD net i []) ≡ true
+  miss-good i a b =
+      let r = getD net i [] in
+      let q = st .laid in
+      let k = kind-in 3 net (l .misses) (l .rules) i (q .misses) (omega (arith, q .few-rules, q .within)) a b in
+      let g = sym (miss-fields (l .widths) r k) ∙ st .fields i (omega (arith, q .some-widths)) (omega (arith, q .few-rules)) in
+      and-right (ltb (at r 1) (2 ^ l .widths .w) && zeros 2 8 r) (actionsGood (l .widths) r)
+      (and-left (ltb (at r 1) (2 ^ l .widths .w) && zeros 2 8 r && actionsGood (l .widths) r) (zeros 21 24 r) g)
+
+  pub actions-good : (i : ℕ) → l .misses ≤ i → i < l .nodes → actionsGood (l .widths) (getD (records n s) i []) ≡ true
+  actions-good i a b = go (decLt i (l .rules))
+    where
+      go : Dec (i < l .rules) → actionsGood (l .widths) (getD net i []) ≡ true
+      go (yes h) = miss-good i a h
+      go (no h) = and-right (matchGood (l .widths) (getD net i [])) (actionsGood (l .widths) (getD net i [])) (rule-good i (omega arith) b)

@@ -1,0 +1,7 @@
+-- The choice of a rule, and what its actions send.
+pub mod Chosen
+pub mod Actions
+pub mod ByPlace
+pub mod Lines
+pub mod Sent
+pub mod Laws

@@ -1,0 +1,110 @@
+-- A command's change of the records, by the number of the record that it changes.
+use borrow.Author.Tests.{eq-eqb, ne-eqb}
+use mathlib.Core.Path.{_≡_, refl, sym, ap, _∙_}
+use mathlib.Core.Bool.{Bool, true, false, cond}
+use mathlib.Core.List.{List, [], _∷_, _++_}
+use Prim.Native.Nat.{ℕ, suc, _+_, _≤_}
+use native.Mathlib.Omega.{arith}
+use lib.ListN.{take, drop, drop-of-length-le}
+use Rattle.records.specs.Record.{Rec, Net, kind, records, sameRule, present}
+use Rattle.records.specs.Search.{recordAt, firstAt}
+use Rattle.rows.specs.Found.{found}
+use Rattle.rows.specs.declared.rules.Found.the-variants.{At, Nothing}
+use Rattle.records.specs.Laws.Records.{length-records}
+use Rattle.rows.specs.Laws.Found.{first-none, found-present, found-absent}
+use Rattle.commands.specs.Apply.{asRule, withActions, changed, inserted, removed, added, applied}
+use Rattle.commands.specs.Effect.{spliced, joined, aboveRules}
+use Rattle.commands.proofs.Found.{first-le, at-first, at-record}
+
+-- a new rule goes before the first record of a higher kind
+pub inserted-at : (c : Rec) (net : Net) → inserted c net ≡ spliced net (firstAt aboveRules net) (firstAt aboveRules net) (asRule c)
+unfolding inserted firstAt
+inserted-at c [] = refl
+inserted-at c (r ∷ rs) = go (aboveRules r) (firstAt aboveRules rs) (inserted-at c rs)
+  where
+    go : (b : Bool) (k : ℕ) → inserted c rs ≡ spliced rs k k (asRule c)
+        → elim b [ true ↦ asRule c ∷ r ∷ rs | false ↦ r ∷ inserted c rs ] ≡ spliced (r ∷ rs) (cond b 0 (suc k)) (cond b 0 (suc k)) (asRule c)
+    go true k e = refl
+    go false k e = ap (λ (l : Net). r ∷ l) e
+
+-- a change that passes over the records that fail a test
+module _ (t : Rec → Bool) (g : Net → Net) (over : (r : Rec) (rs : Net) → t r ≡ false → g (r ∷ rs) ≡ r ∷ g rs) where
+  from-first : (net : Net) → g net ≡ take (firstAt t net) net ++ g (drop (firstAt t net) net)
+  unfolding firstAt
+  from-first [] = refl
+  from-first (r ∷ rs) = go (t r) refl (firstAt t rs) (from-first rs)
+    where
+      go : (b : Bool) → t r ≡ b → (k : ℕ) → g rs ≡ take k rs ++ g (drop k rs)
+          → g (r ∷ rs) ≡ take (cond b 0 (suc k)) (r ∷ rs) ++ g (drop (cond b 0 (suc k)) (r ∷ rs))
+      go true q k e = refl
+      go false q k e = over r rs q ∙ ap (λ (l : Net). r ∷ l) e
+
+-- the effect of a command on the records of a store
+module _ (c : Rec) (s : List ℕ) (n : ℕ) where
+  abbrev net : Net
+  net = records n s
+
+  module _ (g : Net → Net) (over : (r : Rec) (rs : Net) → sameRule c r ≡ false → g (r ∷ rs) ≡ r ∷ g rs) where
+    at-same : (k : ℕ) → At k ≡ found c net → g net ≡ take k net ++ g (recordAt s k ∷ drop (k + 1) net)
+    at-same k e =
+        from-first (sameRule c) g over net ∙ ap (λ (m : ℕ). take m net ++ g (drop m net)) (at-first c s n k e)
+        ∙ ap (λ (l : Net). take k net ++ g l) (at-record c s n k e .1)
+
+    at-none : Nothing ≡ found c net → g [] ≡ [] → g net ≡ joined net n n
+    unfolding present
+    at-none e z =
+        let d : drop n net ≡ [] = drop-of-length-le net {i = n} (omega (arith, length-records n s)) in
+        from-first (sameRule c) g over net
+        ∙ ap (λ (m : ℕ). take m net ++ g (drop m net)) (first-none (sameRule c) s n (sym (found-absent c net e)))
+        ∙ ap (λ (l : Net). take n net ++ l) (ap g d ∙ z ∙ sym d)
+
+  changed-over : (f : Rec → Rec) (r : Rec) (rs : Net) → sameRule c r ≡ false → changed f c (r ∷ rs) ≡ r ∷ changed f c rs
+  unfolding changed
+  changed-over f r rs t = rw (t, changed)
+
+  removed-over : (r : Rec) (rs : Net) → sameRule c r ≡ false → removed c (r ∷ rs) ≡ r ∷ removed c rs
+  unfolding removed
+  removed-over r rs t = rw (t, removed)
+
+  -- modify
+  pub changed-at : (f : Rec → Rec) (k : ℕ) → At k ≡ found c net → changed f c net ≡ spliced net k (k + 1) (f (recordAt s k))
+  unfolding changed
+  changed-at f k e = at-same (changed f c) (changed-over f) k e ∙ rw (at-record c s n k e .0, changed)
+
+  pub changed-none : (f : Rec → Rec) → Nothing ≡ found c net → changed f c net ≡ joined net n n
+  unfolding changed
+  changed-none f e = at-none (changed f c) (changed-over f) e refl
+
+  -- delete
+  pub removed-at : (k : ℕ) → At k ≡ found c net → removed c net ≡ joined net k (k + 1)
+  unfolding removed
+  removed-at k e = at-same (removed c) removed-over k e ∙ rw (at-record c s n k e .0, removed)
+
+  pub removed-none : Nothing ≡ found c net → removed c net ≡ joined net n n
+  unfolding removed
+  removed-none e = at-none (removed c) removed-over e refl
+
+  -- add
+  pub added-at : (k : ℕ) → At k ≡ found c net → added c net ≡ spliced net k (k + 1) (asRule c)
+  unfolding added
+  added-at k e = rw (sym (found-present c net k e), added) (changed-at (λ r. asRule c) k e)
+
+  pub added-new : (k : ℕ) → k ≡ firstAt aboveRules net → Nothing ≡ found c net → added c net ≡ spliced net k k (asRule c)
+  unfolding added
+  added-new k q e = rw (sym (found-absent c net e), added) (inserted-at c net ∙ ap (λ (m : ℕ). spliced net m m (asRule c)) (sym q))
+
+  pub new-below : (k : ℕ) → k ≡ firstAt aboveRules net → k ≤ n
+  new-below k q = omega (arith, first-le aboveRules net, length-records n s)
+
+-- by the kind of the command
+pub applied-add : (c : Rec) (net : Net) → kind c ≡ 6 → applied c net ≡ added c net
+unfolding applied
+applied-add c net e = rw (eq-eqb (kind c) 6 e)
+
+pub applied-modify : (c : Rec) (net : Net) → kind c ≡ 7 → applied c net ≡ changed (withActions c) c net
+unfolding applied
+applied-modify c net e = rw e
+
+pub applied-delete : (c : Rec) (net : Net) → (kind c ≡ 6 → ⊥) → (kind c ≡ 7 → ⊥) → applied c net ≡ removed c net
+unfolding applied
+applied-delete c net d e = rw (ne-eqb (kind c) 6 d, ne-eqb (kind c) 7 e)

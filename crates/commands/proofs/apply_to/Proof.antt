@@ -1,0 +1,63 @@
+use denote.Ref.{now}
+use borrow.Author.Needs.{needs}
+use mathlib.Core.Path.{_≡_, subst}
+use lib.ListN.{length}
+use Rattle.records.specs.Record.{Net, records}
+use Rattle.commands.specs.Apply.{applied}
+use Rattle.commands.specs.Effect.{Room}
+use Rattle.commands.proofs.Change.{applied-add, applied-modify, applied-delete}
+use Rattle.commands.proofs.apply_to.Statement.{statement}
+use Rattle.commands.proofs.apply_to.Tie as tie
+
+abbrev net : tie.Start → Net
+net s = records (s .args .n) (now (s .args .store))
+
+-- room for what the command leaves is room for what its kind does
+room : (s : tie.Start) (m : Net) → applied (now (s .args .given)) (net s) ≡ m
+    → Room (now (s .args .next)) (now (s .args .store)) (s .args .n) (length m) × (length (now (s .args .given)) ≡ 24)
+room s m e = (subst (λ (x : Net). Room (now (s .args .next)) (now (s .args .store)) (s .args .n) (length x)) e (s .pre .0), s .pre .1)
+
+add-requires : tie.Need-add-requires
+add-requires c κs = let s = c .before .before .before .before .before .before in room s _ (applied-add (now (s .args .given)) (net s) (c .before .match .keys1))
+
+modify-requires : tie.Need-modify-requires
+modify-requires c κs = let s = c .before .before .before .before .before .before in room s _ (applied-modify (now (s .args .given)) (net s) (c .before .match .keys2))
+
+delete-requires : tie.Need-delete-requires
+delete-requires c κs =
+    let s = c .before .before .before .before .before .before in
+    let m = c .before .match .rest in
+    room s _ (applied-delete (now (s .args .given)) (net s) (m .0 .1) (m .1))
+
+returns : tie.Need-returns
+returns c =
+    let k = c .before .before .before .before in
+    let s = k .before .before .before .before .before in
+    rw (applied-add (now (s .args .given)) (net s) (k .match .keys1)) (c .before .before .add .ensures)
+
+returns-2 : tie.Need-returns-2
+returns-2 c =
+    let k = c .before .before .before .before in
+    let s = k .before .before .before .before .before in
+    rw (applied-modify (now (s .args .given)) (net s) (k .match .keys2)) (c .before .before .modify .ensures)
+
+returns-3 : tie.Need-returns-3
+returns-3 c =
+    let k = c .before .before .before .before in
+    let s = k .before .before .before .before .before in
+    rw (applied-delete (now (s .args .given)) (net s) (k .match .rest .0 .1) (k .match .rest .1)) (c .before .before .delete .ensures)
+
+pub apply-to-spec : {M : Type 1} → statement M
+apply-to-spec =
+    tie.close
+    (tie.spec
+    (λ c. search needs)
+    add-requires
+    modify-requires
+    delete-requires
+    (λ c. search needs)
+    returns
+    (λ c. search needs)
+    returns-2
+    (λ c. search needs)
+    returns-3)

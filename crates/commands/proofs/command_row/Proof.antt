@@ -1,0 +1,38 @@
+use denote.Ref.{now}
+use borrow.Author.Needs.{needs}
+use mathlib.Core.Bool.{false}
+use mathlib.Core.Path.{_≡_, sym, _∙_}
+use Rattle.records.specs.Record.{Net, records}
+use Rattle.rows.specs.Rows.{row12}
+use Rattle.commands.specs.Laws.Stored.{faultless-length}
+use Rattle.commands.proofs.Rows.{refused-12, refused-13, passed-both}
+use Rattle.commands.proofs.command_row.Statement.{statement}
+use Rattle.commands.proofs.command_row.Tie as tie
+
+abbrev net : tie.Start → Net
+net s = records (s .args .n) (now (s .args .store))
+
+-- past row 12
+faultless : (c : tie.Else1) → row12 (net (c .before .before .before .before)) (now (c .before .before .before .before .args .given)) ≡ false
+faultless c = let s = c .before .before .before .before in sym (c .before .is-faulty .ensures (net s) (s .pre .widths)) ∙ c .if1 .left
+
+returns : tie.Need-returns
+returns c = let s = c .before .before .before .before in refused-12 (net s) (now (s .args .given)) (sym (c .before .is-faulty .ensures (net s) (s .pre .widths)) ∙ c .if1 .taken)
+
+is-full-requires : tie.Need-is-full-requires
+is-full-requires c κs = let s = c .before .before .before .before in (s .pre .stored, faultless-length (net s) (now (s .args .given)) (faultless c), s .pre .rules-are)
+
+returns-2 : tie.Need-returns-2
+returns-2 c =
+    let e = c .before .before in
+    let s = e .before .before .before .before in
+    refused-13 (net s) (now (s .args .given)) (faultless e) (sym (c .before .is-full .ensures) ∙ c .if2 .taken)
+
+returns-3 : tie.Need-returns-3
+returns-3 c =
+    let e = c .before .before in
+    let s = e .before .before .before .before in
+    passed-both (net s) (now (s .args .given)) (faultless e) (sym (c .before .is-full .ensures) ∙ c .if2 .left)
+
+pub command-row-spec : {M : Type 1} → statement M
+command-row-spec = tie.close (tie.spec (λ c κs. search needs) returns is-full-requires returns-2 returns-3)

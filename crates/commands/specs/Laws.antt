@@ -1,0 +1,5 @@
+-- Laws that are cited, and need not be read to believe a promise.
+pub mod Built
+pub mod Going
+pub mod Parts
+pub mod Stored

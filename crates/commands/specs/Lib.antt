@@ -1,0 +1,5 @@
+-- The effect of a command on a network.
+pub mod Apply
+pub mod Effect
+pub mod NeverStuck
+pub mod Laws

@@ -1,0 +1,7 @@
+-- The rows by which a call is refused, and what a network has that rows 3 to 10 pass.
+pub mod Rows
+pub mod Refusal
+pub mod Found
+pub mod Policies
+pub mod Count
+pub mod Laws

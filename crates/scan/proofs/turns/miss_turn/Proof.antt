@@ -1,0 +1,39 @@
+use borrow.Author.Needs.{needs}
+use borrow.Author.Tests.{eq-eqb, ne-eqb}
+use mathlib.Core.Path.{_∙_}
+use native.Mathlib.Omega.{arith}
+use Rattle.scan.specs.Laws.RecordRows.{miss-rows, row-first, row-none}
+use Rattle.scan.specs.Laws.Scan.{seen-miss}
+use Rattle.scan.proofs.turns.miss_turn.Statement.{statement}
+use Rattle.scan.proofs.turns.miss_turn.Tie as tie
+
+form-row-requires : tie.Need-form-row-requires
+form-row-requires c κs =
+    let p = c .before .pre in
+    (p .0, omega (arith, p .1), omega (arith, p .1), p .2)
+
+returns : tie.Need-returns
+returns c before after known =
+    miss-rows before _ after (c .before .before .before .pre .1) ∙ row-first _ _ _ _ (c .before .form-row .ensures .first before known) (c .if1 .taken)
+
+cast-sw : tie.Need-cast-sw
+cast-sw c = omega (arith, c .shared-slice-known2 .given 1)
+
+returns-2 : tie.Need-returns-2
+returns-2 c before after known =
+    miss-rows before _ after (c .before .before .before .before .before .pre .1) ∙ row-none _ _ _ _ (c .before .before .before .form-row .ensures .first before known) (c .before .before .if1 .left)
+    ∙ rw (← (known .misses), ne-eqb _ _ (c .if2 .taken))
+
+add-next : tie.Need-add-next
+add-next c = omega (arith, c .before .shared-slice-known2 .given 1)
+
+returns-3 : tie.Need-returns-3
+returns-3 c before after known =
+    let p = c .before .before .before .before .before .pre in (
+      miss-rows before _ after (p .1) ∙ row-none _ _ _ _ (c .before .before .before .form-row .ensures .first before known) (c .before .before .if1 .left)
+          ∙ rw (← (known .misses), eq-eqb _ _ (c .if2 .left)),
+      seen-miss before _ known _ (c .before .before .before .form-row .ensures .later (c .before .before .if1 .left)) (p .1),
+    )
+
+pub miss-turn-spec : {M : Type 1} → statement M
+miss-turn-spec = tie.close (tie.spec form-row-requires returns (λ c. search needs) cast-sw returns-2 add-next returns-3)

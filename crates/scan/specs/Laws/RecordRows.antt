@@ -1,0 +1,128 @@
+-- Laws of the rows that a record of each kind can meet, in their order.
+use mathlib.Core.Path.{_≡_, refl, sym, ap, _∙_}
+use mathlib.Core.Bool.{Bool, true, false, not, _&&_, _||_, true≢false, and-true, and-false, or-false}
+use mathlib.Core.List.{[], _∷_}
+use mathlib.Core.Logic.{_⊎_, inl, inr}
+use mathlib.Core.Option.{none, some}
+use Prim.Native.Nat.{ℕ, zero, suc, _≤_, _<_}
+use native.Mathlib.Omega.{arith}
+use lib.Dec.{eqb, leb, ltb, eqb·suc-zero}
+use lib.ListN.{length}
+use borrow.Author.Tests.{ne-eqb, lt-ltb, le-ltb}
+use Rattle.records.specs.Record.{Rec, Net, at, kind, ofKind, present}
+use Rattle.records.specs.Widths.{withinLimits, widthsOf}
+use Rattle.rows.specs.Rows.{row3, row4, row5, row6, row7, row8, row9, row10, missesIncomplete}
+use Rattle.records.specs.Fields.{fieldsGood}
+use Rattle.rows.specs.Refusal.{Refusal, orElse, row, recordRow}
+use Rattle.scan.specs.Scan.{SeenOf, rowAt, formRow}
+use Rattle.rows.specs.Policies.{nodeRow}
+use Rattle.scan.specs.declared.turns.Seen.{Seen}
+
+-- refusals in a row
+pub or-else-none : (x : Refusal) → orElse x none ≡ x
+or-else-none none = refl
+or-else-none (some f) = refl
+
+pub or-else-assoc : (x y z : Refusal) → orElse x (orElse y z) ≡ orElse (orElse x y) z
+or-else-assoc none y z = refl
+or-else-assoc (some f) y z = refl
+
+-- a row that is met comes before the others, and no row lets them come
+pub row-first : (k p : ℕ) (f x : Refusal) → rowAt k p ≡ f → (k ≡ 0 → ⊥) → orElse f x ≡ some (k, p)
+row-first zero p f x e h = absurd (h refl)
+row-first (suc k) p f x e h = rw (← e)
+
+pub row-none : (k p : ℕ) (f x : Refusal) → rowAt k p ≡ f → k ≡ 0 → orElse f x ≡ x
+row-none k p f x e h = rw (← e, h)
+
+module _ (before : Net) (r : Rec) (after : Net) where
+  -- rows 3 and 5 first, then those of the kind
+  form-first : (x : Refusal) → orElse (row (row3 before r) 3 (length before)) (orElse (row (row5 before r) 5 (length before)) x) ≡ orElse (formRow before r) x
+  form-first x = or-else-assoc (row (row3 before r) 3 (length before)) (row (row5 before r) 5 (length before)) x
+
+  pub widths-rows : kind r ≡ 1
+      → recordRow before r after ≡ orElse (row (row3 before r) 3 (length before)) (orElse (row (row4 r) 4 (length before)) (row (row5 before r) 5 (length before)))
+  unfolding recordRow row6 row7 row8 row9 row10
+  widths-rows k = rw (k, or-else-none (row (row5 before r) 5 (length before)))
+
+  pub link-rows : kind r ≡ 2 → recordRow before r after ≡ orElse (formRow before r) (row (row6 before r) 6 (length before))
+  unfolding recordRow row4 row7 row8 row9 row10
+  link-rows k = rw (k, or-else-none (row (row6 before r) 6 (length before))) (form-first (row (row6 before r) 6 (length before)))
+
+  pub miss-rows : kind r ≡ 3 → recordRow before r after ≡ orElse (formRow before r) (row (not (eqb (at r 1) (length (ofKind 3 before)))) 7 (length before))
+  unfolding recordRow row4 row6 row7 row8 row9 row10
+  miss-rows k =
+      let x : Refusal = row (not (eqb (at r 1) (length (ofKind 3 before)))) 7 (length before) in
+      rw (k, or-false (not (eqb (at r 1) (length (ofKind 3 before)))), or-else-none x) (form-first x)
+
+  pub rule-rows : kind r ≡ 4
+      → recordRow before r after
+      ≡ orElse (formRow before r)
+      (orElse (row (missesIncomplete before) 7 (length before))
+      (orElse (row (present r before) 8 (length before)) (row (leb 256 (length (ofKind 4 before))) 10 (length before))))
+  unfolding recordRow row4 row6 row7 row8 row9 row10
+  rule-rows k =
+      rw (k, or-false (leb 256 (length (ofKind 4 before))))
+      (form-first
+      (orElse (row (missesIncomplete before) 7 (length before))
+      (orElse (row (present r before) 8 (length before)) (row (leb 256 (length (ofKind 4 before))) 10 (length before)))))
+
+  pub node-rows : kind r ≡ 5
+      → recordRow before r after ≡ orElse (formRow before r) (orElse (row (missesIncomplete before) 7 (length before)) (nodeRow before r after))
+  unfolding recordRow row4 row6 row7 row8 nodeRow
+  node-rows k = rw k (form-first (orElse (row (missesIncomplete before) 7 (length before)) (nodeRow before r after)))
+
+  -- a kind that no record of a network has
+  pub kind-zero : kind r ≡ 0 → recordRow before r after ≡ some (3, length before)
+  unfolding recordRow row3
+  kind-zero k = rw k
+
+  pub kind-above : 5 < kind r → recordRow before r after ≡ some (3, length before)
+  unfolding recordRow row3
+  kind-above h = rw (le-ltb (kind r) 1 (omega arith), lt-ltb 5 (kind r) h)
+
+positive : (n : ℕ) → ltb 0 n ≡ not (eqb n 0)
+positive zero = refl
+positive (suc n) = lt-ltb 0 (suc n) (omega arith) ∙ ap not (sym (eqb·suc-zero n))
+
+first-order : (a e : Bool) → (a ≡ false ⊎ e ≡ false) → (a || (e && false) || (not e && true)) ≡ not e
+first-order true true (inl q) = absurd (true≢false q)
+first-order true true (inr q) = absurd (true≢false q)
+first-order true false h = refl
+first-order false true h = refl
+first-order false false h = refl
+
+or-swap : (a e : Bool) → (a || e || false) ≡ (e || a)
+or-swap true true = refl
+or-swap true false = refl
+or-swap false true = refl
+or-swap false false = refl
+
+module _ (before : Net) (s : Seen) (known : SeenOf before s) (r : Rec) where
+  -- row 3 on the widths record, and on the kinds after it
+  pub widths-order : kind r ≡ 1 → row3 before r ≡ not (eqb (s .last) 0)
+  unfolding row3
+  widths-order k =
+      rw (k, ← (known .last), positive (length before), known .started) (first-order (ltb 1 (s .last)) (eqb (s .last) 0) (go (s .last)))
+    where
+      go : (n : ℕ) → (ltb 1 n ≡ false) ⊎ (eqb n 0 ≡ false)
+      go zero = inl refl
+      go (suc n) = inr (eqb·suc-zero n)
+
+  pub later-order : 2 ≤ kind r → kind r ≤ 5 → row3 before r ≡ (eqb (s .last) 0 || ltb (kind r) (s .last))
+  unfolding row3
+  later-order l h =
+      let a = le-ltb (kind r) 1 (omega arith) in
+      let b = le-ltb 5 (kind r) h in
+      let e = ne-eqb (kind r) 1 (λ q. omega (arith, q, l)) in
+      simp (a, b, e, sym (known .last), known .started, and-true, and-false) (or-swap (ltb (kind r) (s .last)) (eqb (s .last) 0))
+
+  -- row 5 by the widths known
+  pub fields-row : row5 before r ≡ not (fieldsGood (s .widths) r)
+  unfolding row5
+  fields-row = rw (known .widths)
+
+-- row 4 of the widths record
+pub limits-row : (r : Rec) → kind r ≡ 1 → row4 r ≡ not (withinLimits (widthsOf (r ∷ [])))
+unfolding row4
+limits-row r k = rw k

@@ -1,0 +1,56 @@
+-- What the scan over a network's records knows of the records before, and what it answers.
+use mathlib.Core.Path.{_≡_}
+use mathlib.Core.Bool.{true}
+use mathlib.Core.List.{List, [], _∷_, _++_}
+use mathlib.Core.Option.{none, some}
+use Prim.Native.Nat.{ℕ, zero, suc, _-_, _*_, _≤_}
+use lib.Dec.{eqb}
+use lib.ListN.{length, getD}
+use Rattle.records.specs.Record.{Rec, Net, kind, records, ofKind}
+use Rattle.records.specs.Widths.{withinLimits, widthsOf}
+use Rattle.rows.specs.Rows.{row3, row5}
+use Rattle.rows.specs.Refusal.{Refusal, orElse, row, recordRow}
+use Rattle.scan.specs.declared.turns.Seen.{Seen}
+use Rattle.scan.specs.declared.turns.Turn.{Turn}
+use Rattle.scan.specs.declared.turns.Turn.the-variants.{Next, Stop}
+use Rattle.rows.specs.Policies.{PoliciesOf}
+
+-- the widths are within their limits once the widths record was passed
+abbrev pub Limited : Seen → Type 0
+Limited s = (s .last ≡ 0 → ⊥) → withinLimits (s .widths) ≡ true
+
+-- what is known of the records before
+pub record SeenOf (before : Net) (s : Seen) : Type 0 where
+  pub last : s .last ≡ kind (getD before (length before - 1) [])
+  pub started : eqb (length before) 0 ≡ eqb (s .last) 0
+  pub widths : s .widths ≡ widthsOf before
+  pub limits : Limited s
+  pub links : s .links ≡ length (ofKind 2 before)
+  pub misses : s .misses ≡ length (ofKind 3 before)
+  pub rules : s .rules ≡ length (ofKind 4 before)
+  pub policies : PoliciesOf before (s .policies)
+
+-- the refusal of a row at a place; 0 is no row
+abbrev pub rowAt : ℕ → ℕ → Refusal
+rowAt zero place = none
+rowAt (suc k) place = some (suc k, place)
+
+-- rows 3 and 5
+abbrev pub formRow : Net → Rec → Refusal
+formRow before r = orElse (row (row3 before r) 3 (length before)) (row (row5 before r) 5 (length before))
+
+-- which of rows 3 and 5 a record meets; if none, the widths record was passed
+pub record Formed (r : Rec) (s : Seen) (k : ℕ) : Type 0 where
+  pub first : (before : Net) → SeenOf before s → rowAt k (length before) ≡ formRow before r
+  pub later : k ≡ 0 → s .last ≡ 0 → ⊥
+
+-- what a turn answers: the lowest row that the record meets, or what is known after it
+abbrev pub Turned : Net → Rec → Net → Turn → Type 0
+Turned before r after (Stop k) = recordRow before r after ≡ some (k, length before)
+Turned before r after (Next s) = (recordRow before r after ≡ none) × SeenOf (before ++ (r ∷ [])) s
+
+-- what a turn at record r is given, after the first i records of a store
+pub record Ready (store : List ℕ) (i : ℕ) (r : Rec) (s : Seen) : Type 0 where
+  pub stored : i * 24 ≤ length store
+  pub whole : length r ≡ 24
+  pub seen : SeenOf (records i store) s

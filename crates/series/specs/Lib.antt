@@ -1,0 +1,6 @@
+-- What is so after a whole series of commands, and the starred cases of document 01.
+pub mod Series
+pub mod Theorem
+pub mod Sound
+pub mod Starred
+pub mod Laws

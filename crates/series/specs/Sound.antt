@@ -1,0 +1,70 @@
+-- In a series from a network that the check call passed, only rows 11, 12 and 13 ever refuse a command.
+use mathlib.Core.Path.{_≡_, refl, subst⁻¹}
+use mathlib.Core.List.{List, [], _∷_}
+use mathlib.Core.Option.{none, some}
+use Prim.Native.Nat.{ℕ}
+use Rattle.records.specs.Record.{Rec, Net, records}
+use Rattle.rows.specs.Rows.{row11}
+use Rattle.rows.specs.Refusal.{Refusal, orElse, row, fileRow, argumentsRow, networkRow, checkRefusal, commandRow, commandRefusal}
+use Rattle.rows.specs.Laws.Passing.{neither, not-empty}
+use Rattle.verdict.specs.Verdict.{Verdict, holds, violated}
+use Rattle.calls.specs.Answer.{CheckAnswer}
+use Rattle.commands.specs.Apply.{applied}
+use Rattle.calls.specs.Check.{checkAnswer}
+use Rattle.calls.specs.Reference.{Installed, network, judged, step, installed}
+use Rattle.commands.specs.NeverStuck.{GoesOn, never-stuck}
+use Rattle.calls.specs.Laws.Store.{holds-passes, arguments, arguments-pass, installed-whole, stored-long, stored-records}
+
+-- rows 1 to 10 pass what is installed
+pub record Sound (i : Installed) : Type 0 where
+  pub arguments : argumentsRow (i .bytes) (i .count) ≡ none
+  pub file : fileRow [] (network i) ≡ none
+
+-- so it is where the check call does not refuse
+pub sound-start : (store : List ℕ) (n work : ℕ) → checkRefusal store n work ≡ none → Sound (record { count = n; bytes = store })
+unfolding checkRefusal networkRow
+sound-start store n work e =
+    let a = neither (argumentsRow store n) (networkRow (records n store) work) e in
+    record { arguments = a .0; file = neither (fileRow [] (records n store)) (row (row11 (records n store) work) 11 0) (a .1) .0 }
+
+-- as it does not where it says that the network holds
+pub sound-holds : (store : List ℕ) (n work : ℕ) → checkAnswer store n work ≡ CheckAnswer.holds → Sound (record { count = n; bytes = store })
+sound-holds store n work e = sound-start store n work (holds-passes store n work e)
+
+-- so it is after a verdict on what a command would leave
+judged-sound : (i : Installed) (c : Rec) (v : Verdict) → Sound i → commandRow (network i) c ≡ none → Sound (judged i (applied c (network i)) v .after)
+unfolding judged
+judged-sound i c holds s e =
+    let a = arguments (i .bytes) (i .count) (s .arguments) in
+    let g : GoesOn (network i) c = never-stuck (network i) c (installed-whole (i .bytes) (i .count) a) (not-empty (network i) (s .file)) (s .file) e in
+    record {
+      arguments = arguments-pass _ _ (record { some = g .some; few = g .few; long = stored-long (applied c (network i)) (i .bytes) });
+      file = subst⁻¹ (λ (net : Net). fileRow [] net ≡ none) (stored-records (applied c (network i)) (i .bytes) (g .whole)) (g .passes);
+    }
+judged-sound i c (violated p x) s e = s
+
+-- a command that is not refused passes rows 12 and 13
+row-passed : (i : Installed) (c : Rec) (work : ℕ) → commandRefusal (i .bytes) (i .count) work c ≡ none → commandRow (network i) c ≡ none
+unfolding commandRefusal
+row-passed i c work e = neither (checkRefusal (i .bytes) (i .count) work) (commandRow (network i) c) e .1
+
+-- so it is again after one command, whatever the command and its work
+pub step-sound : (i : Installed) (c : Rec) (work : ℕ) → Sound i → Sound (step i c work .after)
+unfolding step
+step-sound i c work s = go (commandRefusal (i .bytes) (i .count) work c) refl
+  where
+    go : (f : Refusal) → commandRefusal (i .bytes) (i .count) work c ≡ f → Sound (step i c work .after)
+    go none q = rw (q, step) (judged-sound i c _ s (row-passed i c work q))
+    go (some f) q = rw (q, step) s
+
+-- and after every series
+pub series-sound : (cs : List (Rec × ℕ)) (i : Installed) → Sound i → Sound (installed i cs)
+unfolding installed
+series-sound [] i s = s
+series-sound (c ∷ cs) i s = series-sound cs (step i (c .0) (c .1) .after) (step-sound i (c .0) (c .1) s)
+
+-- what refuses a command is then row 11, 12 or 13
+pub refused-late : (i : Installed) (c : Rec) (work : ℕ) → Sound i
+    → commandRefusal (i .bytes) (i .count) work c ≡ orElse (row (row11 (network i) work) 11 0) (commandRow (network i) c)
+unfolding commandRefusal checkRefusal networkRow
+refused-late i c work s = rw (s .arguments, s .file)

@@ -1,0 +1,165 @@
+-- The starred cases of document 01, each on network K: one theorem by computation over the definitions, and what each of them means.
+use borrow.Author.Tests.{not-true}
+use mathlib.Core.Path.{_≡_, refl, sym, ap, subst, subst⁻¹, _∙_}
+use mathlib.Core.Bool.{Bool, true, false, not, Bool·beq}
+use mathlib.Core.List.{List, [], _∷_, map, flatMap}
+use mathlib.Core.Logic.{_↔_}
+use Prim.Native.Nat.{ℕ, zero, suc, _<_}
+use lib.Dec.{lit<}
+use lib.ListN.{length, getD}
+use Rattle.planes.specs.Bit.{bitOf}
+use Rattle.planes.specs.Laws.Tests.{not-both}
+use Rattle.closure.specs.Walk.{Walk}
+use Rattle.closure.specs.Computed.{cell, orRow, addRow, round, rounds, tab, grid, closed}
+use Rattle.records.specs.Lists.{keep, any, all, member, sameNumbers, from}
+use Rattle.records.specs.Record.{Net, records, flat, ofKind, priority, sameRule, present, endsAt, linked}
+use Rattle.records.specs.Widths.{states, planeBytes, withinLimits, widthsOf}
+use Rattle.records.specs.State.{state, headerOf, portOf, switchOf, directionOf, ordinary}
+use Rattle.records.specs.Pattern.{ternary, matches, putBits, patternGood}
+use Rattle.records.specs.Policy.{X, Y, R, TC, nodeKind, nodeSays, firstNodes, formula, nodesOf, policyCount, forbidden, longestOf, longest, free}
+use Rattle.rows.specs.Rows.{row1, row2, row3, row4, row5, row6, row7, row8, row9, row10, row11, row12, row13, missesIncomplete, operandsGood, endsPolicy, freeAt, workNeeded}
+use Rattle.records.specs.Fields.{zeros, pointGood, actionOf, actionGood, actionsGood, matchGood, nodeGood, fieldsGood, commandGood}
+use Rattle.rows.specs.Refusal.{recordRow, fileRow, argumentsRow, networkRow, checkRefusal, commandRow, commandRefusal}
+use Rattle.actions.specs.Chosen.{ruleMatches, outranked, best, orMiss, chosen}
+use Rattle.actions.specs.Actions.{reached, copies, sent}
+use Rattle.steps.specs.Step.{across, next, Step, external}
+use Rattle.truth.specs.Truth.{Truth}
+use Rattle.verdict.specs.Verdict.{Verdict, holds, violated, Holds, Lowest, Is}
+use Rattle.truth.specs.Computed.{tableOf, anyBelow, allBelow, truth}
+use Rattle.verdict.specs.Computed.{firstFrom, lowestState, verdictFrom}
+use Rattle.verdict.specs.Judgement.{judgement, verdict, verdict-meant}
+use Rattle.truth.specs.Laws.Tables.{truth-iff, all-iff}
+use Rattle.calls.specs.Answer.{CheckAnswer, CommandAnswer, forwarded, blocked}
+use Rattle.commands.specs.Apply.{asRule, withActions, changed, inserted, removed, added, applied}
+use Rattle.calls.specs.Check.{checkAnswer}
+use Rattle.calls.specs.Reference.{Installed, step, judged, stored}
+use Rattle.records.specs.NetK.{record24, node, A, B, policy0, K, inStore, addAny, addZero, addSet, addDrop, deleteAbsent, addD, deleteD}
+
+-- all that a starred case computes with
+unfoldable pub computing : Unit {0}
+unfolding flatMap bitOf cell orRow addRow round rounds tab grid closed keep any all member sameNumbers from records flat ofKind priority sameRule present endsAt linked states planeBytes withinLimits widthsOf state headerOf portOf switchOf directionOf ordinary ternary matches putBits patternGood nodeKind nodeSays firstNodes formula nodesOf policyCount forbidden longestOf longest free row1 row2 row3 row4 row5 row6 row7 row8 row9 row10 row11 row12 row13 zeros pointGood actionOf actionGood actionsGood matchGood nodeGood fieldsGood missesIncomplete operandsGood endsPolicy freeAt workNeeded commandGood recordRow fileRow argumentsRow networkRow checkRefusal commandRow commandRefusal ruleMatches outranked best orMiss chosen reached copies sent across next external tableOf anyBelow allBelow truth firstFrom lowestState verdictFrom judgement verdict asRule withActions changed inserted removed added applied checkAnswer step judged stored record24 node A B policy0 K inStore addAny addZero addSet addDrop deleteAbsent addD deleteD
+computing = tt
+
+-- the network with the first add's rule and D in the file
+unfoldable pub KD : Net
+KD = applied addD (applied addAny K)
+
+-- a network in its store
+abbrev given : Net → Installed
+given net = record { count = length net; bytes = inStore net }
+
+-- the states below 32 that pass a test
+unfoldable pub those : ℕ → ℕ → (ℕ → Bool) → List ℕ
+those zero i f = []
+those (suc k) i f = elim (f i) [ true ↦ i ∷ those k (suc i) f | false ↦ those k (suc i) f ]
+
+-- what a starred case is about: an answer of the check call, one of the command call, or some states
+pub data Case : Type 0 where
+  checked : CheckAnswer → Case
+  commanded : CommandAnswer → Case
+  listed : List ℕ → Case
+
+-- the ten starred cases, in their order, with 2,048 bytes of work
+starred :
+    checked (checkAnswer (inStore K) 20 2048)
+    ∷ commanded (step (given K) addAny 2048 .answer)
+    ∷ commanded (step (given K) addZero 2048 .answer)
+    ∷ commanded (step (given K) addSet 2048 .answer)
+    ∷ commanded (step (given K) addDrop 2048 .answer)
+    ∷ commanded (step (given K) deleteAbsent 2048 .answer)
+    ∷ checked (checkAnswer (inStore KD) 22 2048)
+    ∷ commanded (step (given KD) deleteD 2048 .answer)
+    ∷ listed (let reaches = truth (tableOf K) (formula policy0 5) in those 32 0 (λ t. reaches 2 t))
+    ∷ listed (let loops = truth (tableOf K) (TC (formula policy0 4) Y Y) in those 32 0 (λ y. loops 0 y))
+    ∷ []
+    ≡ checked CheckAnswer.holds
+    ∷ commanded (blocked 0 3)
+    ∷ commanded (forwarded 21)
+    ∷ commanded (blocked 0 2)
+    ∷ commanded (forwarded 20)
+    ∷ commanded (forwarded 20)
+    ∷ checked CheckAnswer.holds
+    ∷ commanded (blocked 0 3)
+    ∷ listed (10 ∷ 20 ∷ 28 ∷ [])
+    ∷ listed []
+    ∷ []
+unfolding computing KD those
+starred = refl
+
+-- the verdicts behind the first eight cases
+verdicts :
+    map verdict
+    (K ∷ applied addAny K ∷ applied addZero K ∷ applied addSet K ∷ applied addDrop K ∷ applied deleteAbsent K ∷ KD ∷ applied deleteD KD ∷ [])
+    ≡ holds ∷ violated 0 3 ∷ holds ∷ violated 0 2 ∷ holds ∷ holds ∷ holds ∷ violated 0 3 ∷ []
+unfolding computing KD
+verdicts = refl
+
+-- the verdict at a place of that table is the one that is meant
+at-place : (i : ℕ) (net : Net) (v : Verdict)
+    → verdict net ≡ getD (map verdict (K ∷ applied addAny K ∷ applied addZero K ∷ applied addSet K ∷ applied addDrop K ∷ applied deleteAbsent K ∷ KD ∷ applied deleteD KD ∷ [])) i holds
+    → getD (holds ∷ violated 0 3 ∷ holds ∷ violated 0 2 ∷ holds ∷ holds ∷ holds ∷ violated 0 3 ∷ []) i holds ≡ v
+    → Is net v
+at-place i net v e f = subst (Is net) (e ∙ ap (λ (l : List Verdict). getD l i holds) verdicts ∙ f) (verdict-meant net)
+
+K-holds : Holds K
+K-holds = at-place 0 K holds refl refl
+
+first-add : Lowest (applied addAny K) 0 3
+first-add = at-place 1 (applied addAny K) (violated 0 3) refl refl
+
+second-add : Holds (applied addZero K)
+second-add = at-place 2 (applied addZero K) holds refl refl
+
+add-with-set : Lowest (applied addSet K) 0 2
+add-with-set = at-place 3 (applied addSet K) (violated 0 2) refl refl
+
+add-with-A's-match : Holds (applied addDrop K)
+add-with-A's-match = at-place 4 (applied addDrop K) holds refl refl
+
+delete-of-absent : Holds (applied deleteAbsent K)
+delete-of-absent = at-place 5 (applied deleteAbsent K) holds refl refl
+
+with-D : Holds KD
+with-D = at-place 6 KD holds refl refl
+
+delete-D : Lowest (applied deleteD KD) 0 3
+delete-D = at-place 7 (applied deleteD KD) (violated 0 3) refl refl
+
+count-K : states (widthsOf K) ≡ 32
+unfolding computing
+count-K = refl
+
+below-32 : (s : ℕ) → s < 32 → s < states (widthsOf K)
+below-32 s h = subst⁻¹ (λ (n : ℕ). s < n) count-K h
+
+beq-same : (a b : Bool) → Bool·beq a b ≡ true → a ≡ b
+beq-same true true e = refl
+beq-same true false e = sym e
+beq-same false true e = e
+beq-same false false e = refl
+
+-- a test of the closure of K's steps at every state, against a list
+reach-test : allBelow 32 (λ t. Bool·beq (truth (tableOf K) (TC (R X Y) X Y) 2 t) (member t (10 ∷ 20 ∷ 28 ∷ []))) ≡ true
+unfolding computing
+reach-test = refl
+
+-- state 2 reaches 20, 10 and 28 only
+state-2-reaches : (t : ℕ) → t < 32 → Walk (states (widthsOf K)) (Step K) 2 t ↔ member t (10 ∷ 20 ∷ 28 ∷ []) ≡ true
+unfolding Truth
+state-2-reaches t h =
+    let e = truth-iff K (TC (R X Y) X Y) 2 t (below-32 2 (lit< tt)) (below-32 t h) in
+    let same : truth (tableOf K) (TC (R X Y) X Y) 2 t ≡ member t (10 ∷ 20 ∷ 28 ∷ []) =
+    beq-same (truth (tableOf K) (TC (R X Y) X Y) 2 t) (member t (10 ∷ 20 ∷ 28 ∷ []))
+    (all-iff 32 (λ (t : ℕ). Bool·beq (truth (tableOf K) (TC (R X Y) X Y) 2 t) (member t (10 ∷ 20 ∷ 28 ∷ []))) .0 reach-test t h) in
+    (λ p. sym same ∙ e .1 p, λ m. e .0 (same ∙ m))
+
+loop-test : allBelow 32 (λ y. not (truth (tableOf K) (TC (R X Y) Y Y) 0 y)) ≡ true
+unfolding computing
+loop-test = refl
+
+-- TC 4 (Y,Y) is false everywhere: no state of K lies on a loop
+no-loop : (y : ℕ) → y < 32 → Walk (states (widthsOf K)) (Step K) y y → ⊥
+unfolding Truth
+no-loop y h p =
+    not-both (truth-iff K (TC (R X Y) Y Y) 0 y (below-32 0 (lit< tt)) (below-32 y h) .1 p)
+    (not-true (truth (tableOf K) (TC (R X Y) Y Y) 0 y) (all-iff 32 (λ (y : ℕ). not (truth (tableOf K) (TC (R X Y) Y Y) 0 y)) .0 loop-test y h))

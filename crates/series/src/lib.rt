@@ -1,0 +1,1 @@
+// Specifications only: what is so after a whole series of calls.

@@ -1,0 +1,6 @@
+-- The truth of a formula, and the plane of a node.
+pub mod Truth
+pub mod Computed
+pub mod Shapes
+pub mod Node
+pub mod Laws

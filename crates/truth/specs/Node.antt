@@ -1,0 +1,57 @@
+-- What is made of a policy's node: its plane in the work buffer. The step plane comes first, then a scratch plane, then a plane for each node.
+use mathlib.Core.Path.{_≡_}
+use mathlib.Core.Bool.{true}
+use mathlib.Core.List.{List}
+use mathlib.Core.Logic.{_↔_, _⊎_}
+use Prim.Native.Nat.{ℕ, _+_, _*_, _≤_, _<_}
+use lib.ListN.{length, getD}
+use Rattle.planes.specs.Plane.{bit, On, planeSize}
+use Rattle.records.specs.Policy.{Formula, NodeKind, kBIT, kR, kE, kNOT, kAND, kOR, kSOME, kALL, kTC, kNone, nodeKind, nodeSays}
+use Rattle.truth.specs.Truth.{Model, Truth}
+use Rattle.truth.specs.Shapes.{Outside}
+
+-- where the plane of node k stands
+abbrev pub planeAt : ℕ → ℕ → ℕ
+planeAt w k = (k + 2) * planeSize w
+
+-- the number of operands of a node: byte 3, or bytes 3 and 4
+abbrev pub arity : NodeKind → ℕ
+arity kBIT = 0
+arity kR = 0
+arity kE = 0
+arity kNOT = 1
+arity kAND = 2
+arity kOR = 2
+arity kSOME = 1
+arity kALL = 1
+arity kTC = 1
+arity kNone = 0
+
+-- node j is an operand of a node with bytes 3 and 4
+abbrev pub Operand : NodeKind → ℕ → ℕ → ℕ → Type 0
+Operand kind a b j = ((0 < arity kind) × (j ≡ a)) ⊎ ((1 < arity kind) × (j ≡ b))
+
+-- the model that a work buffer and a row of external states give: steps are the first plane
+abbrev pub modelAt : ℕ → List ℕ → List ℕ → Model
+modelAt w ext work = record { count = w * 8; Steps = On work 0 w; External = λ s. bit ext s ≡ true }
+
+-- the plane at base is the truth of a formula
+pub record Shows (m : Model) (w base : ℕ) (work : List ℕ) (f : Formula) : Type 0 where
+  pub at : (x y : ℕ) → x < w * 8 → y < w * 8 → On work base w x y ↔ Truth m f x y
+
+-- there is room for the plane of node k, its operands are earlier nodes, and BIT names a bit of a number
+pub record Makeable (kind a b k w : ℕ) (work : List ℕ) : Type 0 where
+  pub few : k < 32
+  pub small : w ≤ 128
+  pub within : planeAt w k + planeSize w ≤ length work
+  pub earlier : (j : ℕ) → Operand (nodeKind kind) a b j → j < k
+  pub bits : kind ≡ 0 → b < 64
+
+-- the plane of node k is the truth of what the node says, where the planes of its operands are the truth of theirs;
+-- every byte outside of it and of the scratch plane is as before
+pub record NodeMade (kind a b k w : ℕ) (ext before after : List ℕ) : Type 0 where
+  pub len : length after ≡ length before
+  pub shows : (operand : ℕ → Formula)
+      → ((j : ℕ) → Operand (nodeKind kind) a b j → Shows (modelAt w ext before) w (planeAt w j) before (operand j))
+      → Shows (modelAt w ext before) w (planeAt w k) after (nodeSays (nodeKind kind) a b operand)
+  pub rest : (m : ℕ) → Outside w (planeAt w k) m → Outside w (planeSize w) m → getD after m 0 ≡ getD before m 0

@@ -1,0 +1,60 @@
+-- The lowest state whose bit is set, and what it says of a formula.
+use mathlib.Core.Path.{_≡_, sym, ap, subst, _∙_}
+use mathlib.Core.Bool.{Bool, true, false}
+use mathlib.Core.List.{List}
+use mathlib.Core.Option.{none, some}
+use Prim.Native.Nat.{ℕ, suc, _+_, _-_, _*_, _≤_, _<_}
+use native.Mathlib.Omega.{arith}
+use Rattle.planes.specs.Plane.{cell}
+use Rattle.records.specs.Policy.{Formula}
+use Rattle.verdict.specs.declared.policy.Lowest.{Lowest}
+use Rattle.verdict.specs.declared.policy.Lowest.the-variants.{State, None}
+use Rattle.verdict.specs.Computed.{firstFrom}
+use Rattle.verdict.specs.Laws.Search.{First, first-is}
+use Rattle.truth.specs.Node.{modelAt, Shows}
+use Rattle.verdict.specs.Policy.{stateOf, LowestTrue}
+
+-- the first number below n that passes is sought from x on
+module _ (n x : ℕ) (f : ℕ → Bool) where
+  abbrev Sought : Type 0
+  Sought = firstFrom n 0 f ≡ firstFrom (n - x) x f
+
+  one-more : x < n → firstFrom (n - x) x f ≡ firstFrom (suc (n - (x + 1))) x f
+  one-more h = let e : n - x ≡ suc (n - (x + 1)) = omega arith in ap (λ (k : ℕ). firstFrom k x f) e
+
+  tested : (b : Bool) → f x ≡ b
+      → firstFrom (suc (n - (x + 1))) x f ≡ elim b [ true ↦ some x | false ↦ firstFrom (n - (x + 1)) (suc x) f ]
+  unfolding firstFrom
+  tested b t = ap (λ (c : Bool). elim c [ true ↦ some x | false ↦ firstFrom (n - (x + 1)) (suc x) f ]) t
+
+  pub sought-more : x < n → f x ≡ false → Sought → firstFrom n 0 f ≡ firstFrom (n - (x + 1)) (x + 1) f
+  sought-more h t s =
+      let e : suc x ≡ x + 1 = omega arith in
+      s ∙ one-more h ∙ tested false t ∙ ap (λ (i : ℕ). firstFrom (n - (x + 1)) i f) e
+
+  pub sought-found : x < n → f x ≡ true → Sought → some x ≡ firstFrom n 0 f
+  sought-found h t s = sym (s ∙ one-more h ∙ tested true t)
+
+  pub sought-none : n ≤ x → Sought → none ≡ firstFrom n 0 f
+  unfolding firstFrom
+  sought-none h s = let e : n - x ≡ 0 = omega arith in sym (s ∙ ap (λ (k : ℕ). firstFrom k x f) e)
+
+pub sought-first : (n : ℕ) (f : ℕ → Bool) → firstFrom n 0 f ≡ firstFrom (n - 0) 0 f
+sought-first n f = let e : n ≡ n - 0 = omega arith in ap (λ (k : ℕ). firstFrom k 0 f) e
+
+-- of a plane that is the truth of a formula
+module _ (w base : ℕ) (ext model work : List ℕ) (f : Formula) (S : Shows (modelAt w ext model) w base work f) where
+  abbrev column : ℕ → Bool
+  column x = cell work base w x 0
+
+  meant : (r : Lowest) → First column 0 (w * 8) (stateOf r) → LowestTrue (modelAt w ext model) f r
+  meant (State x) t =
+      let h : x < w * 8 = omega (arith, t .1) in (
+        h,
+        S .at x 0 h (omega arith) .0 (t .2),
+        λ z l u. t .3 z (omega arith) l (S .at z 0 (omega arith) (omega arith) .1 u),
+      )
+  meant None t = λ z h u. t z (omega arith) (omega arith) (S .at z 0 h (omega arith) .1 u)
+
+  pub lowest-true : (r : Lowest) → stateOf r ≡ firstFrom (w * 8) 0 column → LowestTrue (modelAt w ext model) f r
+  lowest-true r e = meant r (subst (First column 0 (w * 8)) (sym e) (first-is (w * 8) 0 column))
