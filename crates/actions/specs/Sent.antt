@@ -11,11 +11,11 @@ use Rattle.records.specs.State.{state, ordinary}
 use Rattle.records.specs.Pattern.{matches, putBits}
 use Rattle.records.specs.declared.Widths.{Widths}
 use Rattle.actions.specs.Actions.{reached}
-use Rattle.actions.specs.Lines.{rowBytes, Ready, Added}
+use Rattle.actions.specs.Lines.{lineBytes, LineRoom, Added}
 
--- a copy at a switch with a header has its bit in the row
-pub record Sends (w : Widths) (row sw h : ℕ) (work : List ℕ) : Type 0 where
-  pub ready : Ready w row h work
+-- a copy at a switch with a header has its bit in the line
+pub record Sends (w : Widths) (line sw h : ℕ) (work : List ℕ) : Type 0 where
+  pub ready : LineRoom w line h work
   pub switch : sw < 2 ^ w .w
 
 -- the copies with header h that depart from a switch at some ports
@@ -40,7 +40,7 @@ sentBy w sw r h i = cond (eqb (at r (9 + 3 * i)) 2) [] (departing w sw h (reache
 unfoldable pub headerAfter : Widths → Rec → ℕ → ℕ → ℕ
 headerAfter w r h i = cond (eqb (at r (9 + 3 * i)) 2) (putBits (w .h) (at r (10 + 3 * i)) (at r (11 + 3 * i)) h) h
 
--- action i was run: its copies are added to the row, and the header after it is the result
-pub record Acted (w : Widths) (sw : ℕ) (r : Rec) (h i row : ℕ) (before after : List ℕ) (result : ℕ) : Type 0 where
-  pub copies : Added (sentBy w sw r h i) row (rowBytes w) before after
+-- action i was run: its copies are added to the line, and the header after it is the result
+pub record Acted (w : Widths) (sw : ℕ) (r : Rec) (h i line : ℕ) (before after : List ℕ) (result : ℕ) : Type 0 where
+  pub copies : Added (sentBy w sw r h i) line (lineBytes w) before after
   pub header : result ≡ headerAfter w r h i

@@ -13,17 +13,17 @@ ghost use Rattle.records.specs.Fields.{actionsGood};
 ghost use Rattle.records.specs.Pattern.{patternGood};
 ghost use Rattle.actions.specs.Actions.{reached, sent};
 ghost use Rattle.actions.specs.ByPlace.{arrival, ofBody};
-ghost use Rattle.actions.specs.Lines.{rowBytes, Added};
+ghost use Rattle.actions.specs.Lines.{lineBytes, Added};
 ghost use Rattle.actions.specs.Sent.{Sends, departing, flooded, UsedAction, Acted};
 
 pub mod choice;
 pub mod state;
 
 // Sends a copy to port q, if OUTPUT with stars reaches it.
-fn offer(work: &mut [u8], row: usize, w: Widths, sw: u8, value: u8, care: u8, h: u8, q: u8)
-    requires { ⌜ Sends w row sw h (now work) ⌝ }
+fn offer(work: &mut [u8], line: usize, w: Widths, sw: u8, value: u8, care: u8, h: u8, q: u8)
+    requires { ⌜ Sends w line sw h (now work) ⌝ }
     requires { ⌜ (patternGood (w .p) value care ≡ true) × (q < 2 ^ w .p) ⌝ }
-    ensures { λ _. ⌜ Added (departing w sw h (flooded w value care (q ∷ []))) row (rowBytes w) (now (work .entry)) (now (work .exit)) ⌝ }
+    ensures { λ _. ⌜ Added (departing w sw h (flooded w value care (q ∷ []))) line (lineBytes w) (now (work .entry)) (now (work .exit)) ⌝ }
 {
     if !is_ordinary(w, q) {
         return;
@@ -31,42 +31,42 @@ fn offer(work: &mut [u8], row: usize, w: Widths, sw: u8, value: u8, care: u8, h:
     if q & care != value {
         return;
     }
-    planes::set_at(work, row, number(w, 1, sw, q, h));
+    planes::set_at(work, line, number(w, 1, sw, q, h));
 }
 
 // Sends a copy to each port that OUTPUT with stars reaches.
-fn flood(work: &mut [u8], row: usize, w: Widths, sw: u8, value: u8, care: u8, h: u8)
-    requires { ⌜ Sends w row sw h (now work) ⌝ }
+fn flood(work: &mut [u8], line: usize, w: Widths, sw: u8, value: u8, care: u8, h: u8)
+    requires { ⌜ Sends w line sw h (now work) ⌝ }
     requires { ⌜ patternGood (w .p) value care ≡ true ⌝ }
-    ensures { λ _. ⌜ Added (departing w sw h (flooded w value care (from 0 (2 ^ w .p)))) row (rowBytes w) (now (work .entry)) (now (work .exit)) ⌝ }
+    ensures { λ _. ⌜ Added (departing w sw h (flooded w value care (from 0 (2 ^ w .p)))) line (lineBytes w) (now (work .entry)) (now (work .exit)) ⌝ }
 {
     let end = values(w.p);
     let mut q: u8 = 0;
     while q < end {
-        offer(work, row, w, sw, value, care, h, q);
+        offer(work, line, w, sw, value, care, h, q);
         q += 1;
     }
 }
 
 // Sends a copy to each port that OUTPUT reaches.
-fn output(work: &mut [u8], row: usize, w: Widths, sw: u8, value: u8, care: u8, h: u8)
-    requires { ⌜ Sends w row sw h (now work) ⌝ }
+fn output(work: &mut [u8], line: usize, w: Widths, sw: u8, value: u8, care: u8, h: u8)
+    requires { ⌜ Sends w line sw h (now work) ⌝ }
     requires { ⌜ patternGood (w .p) value care ≡ true ⌝ }
-    ensures { λ _. ⌜ Added (departing w sw h (reached w value care)) row (rowBytes w) (now (work .entry)) (now (work .exit)) ⌝ }
+    ensures { λ _. ⌜ Added (departing w sw h (reached w value care)) line (lineBytes w) (now (work .entry)) (now (work .exit)) ⌝ }
 {
     let all = values(w.p) - 1;
     if care == all {
-        planes::set_at(work, row, number(w, 1, sw, value, h));
+        planes::set_at(work, line, number(w, 1, sw, value, h));
     } else {
-        flood(work, row, w, sw, value, care, h);
+        flood(work, line, w, sw, value, care, h);
     }
 }
 
 // Runs action i of a record by its body, with the header of that moment; the header after it.
-fn act(work: &mut [u8], row: usize, w: Widths, sw: u8, body: &[u8], h: u8, i: usize) -> u8
-    requires { ⌜ Sends w row sw h (now work) ⌝ }
+fn act(work: &mut [u8], line: usize, w: Widths, sw: u8, body: &[u8], h: u8, i: usize) -> u8
+    requires { ⌜ Sends w line sw h (now work) ⌝ }
     requires { ⌜ (length (now body) ≡ 20) × UsedAction w (ofBody (now body)) i ⌝ }
-    ensures { λ r. ⌜ Acted w sw (ofBody (now (body .entry))) h i row (now (work .entry)) (now (work .exit)) r ⌝ }
+    ensures { λ r. ⌜ Acted w sw (ofBody (now (body .entry))) h i line (now (work .entry)) (now (work .exit)) r ⌝ }
 {
     let k = 8 + 3 * i;
     let value = body[k + 1];
@@ -74,22 +74,22 @@ fn act(work: &mut [u8], row: usize, w: Widths, sw: u8, body: &[u8], h: u8, i: us
     if body[k] == 2 {
         return (h & !care) | value;
     }
-    output(work, row, w, sw, value, care, h);
+    output(work, line, w, sw, value, care, h);
     h
 }
 
 // Runs the actions of a record by its body, in order.
-pub fn run(work: &mut [u8], row: usize, w: Widths, sw: u8, p: u8, body: &[u8], h: u8)
-    requires { ⌜ Sends w row sw h (now work) ⌝ }
+pub fn run(work: &mut [u8], line: usize, w: Widths, sw: u8, p: u8, body: &[u8], h: u8)
+    requires { ⌜ Sends w line sw h (now work) ⌝ }
     requires { ⌜ (length (now body) ≡ 20) × (actionsGood w (ofBody (now body)) ≡ true) ⌝ }
-    ensures { λ _. ⌜ Added (sent w (arrival sw p h) (ofBody (now (body .entry)))) row (rowBytes w) (now (work .entry)) (now (work .exit)) ⌝ }
+    ensures { λ _. ⌜ Added (sent w (arrival sw p h) (ofBody (now (body .entry)))) line (lineBytes w) (now (work .entry)) (now (work .exit)) ⌝ }
 {
     let count = body[7] as usize;
     let mut left = count;
     let mut header = h;
     while 0 < left {
         let i = count - left;
-        header = act(work, row, w, sw, body, header, i);
+        header = act(work, line, w, sw, body, header, i);
         left -= 1;
     }
 }

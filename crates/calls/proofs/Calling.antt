@@ -21,16 +21,16 @@ use Rattle.verdict.specs.Judge.{verdictOf, Judgeable, Judges}
 use Rattle.calls.specs.declared.Checked.{Checked}
 use Rattle.calls.specs.Answer.{CheckAnswer, CommandAnswer, forwarded, blocked, checkAnswerOf}
 use Rattle.commands.specs.Apply.{applied}
-use Rattle.commands.specs.Effect.{padded, Room, Made, Known}
+use Rattle.commands.specs.Effect.{padded, BufferRoom, Built, Known}
 use Rattle.calls.specs.Check.{ofVerdict, checkAnswer, cleared, checkWork, checkedAs, CheckPromised}
-use Rattle.calls.specs.Reference.{Installed, Outcome, stored, judged as judgedStep, step, commandWork}
+use Rattle.calls.specs.Reference.{Installed, Outcome, stored, judged as judgedStep, outcomeOf, commandWork}
 use Rattle.commands.specs.NeverStuck.{GoesOn, work-same}
 use Rattle.calls.specs.Command.{Promised, call}
 use Rattle.calls.specs.Laws.Store.{installed-whole}
 use Rattle.commands.specs.Laws.Stored.{command}
 use Rattle.calls.specs.Laws.Refusals.{checks, passed, goes-on}
 use Rattle.calls.proofs.InStore.{stored-filled}
-use Rattle.commands.specs.Laws.Built.{made-records}
+use Rattle.commands.specs.Laws.Built.{built-records}
 
 -- a scan that answers a refusal where none is given
 pub no-refusal : {A : Type 0} {f : ℕ × ℕ} {r : Refusal} → some f ≡ r → r ≡ none → A
@@ -81,7 +81,7 @@ module _ (store : List ℕ) (n work : ℕ) (given : Rec) where
 -- the command call, refused
 pub command-refused : (store : List ℕ) (n : ℕ) (work : List ℕ) (given : Rec) (k p : ℕ) → some (k, p) ≡ commandRefusal store n (length work) given
     → Promised (call store n work given (CommandAnswer.refused k p) store work)
-unfolding step commandWork
+unfolding outcomeOf commandWork
 command-refused store n work given k p e = record { answered = rw (← e) refl; stores = rw (← e) refl; works = rw (← e) refl }
 
 -- what is known of a network that rows 1 to 11 pass
@@ -113,16 +113,16 @@ module _ (store : List ℕ) (n : ℕ) (work : List ℕ) (given : Rec) (e : comma
   pub in-store : (n * 24 ≤ length store) × (storeBytes ≤ length store)
   in-store = let a = passed store n (length work) given e .check .arguments in (omega (arith, a .few, a .long), a .long)
 
-  pub ready : (next : List ℕ) → length next ≡ storeBytes → Room next store n (length result) × (length given ≡ 24)
+  pub ready : (next : List ℕ) → length next ≡ storeBytes → BufferRoom next store n (length result) × (length given ≡ 24)
   ready next h = (
     record { wide = h; stored = in-store .0; fits = goes .few },
     command present given (passed store n (length work) given e .command) .bytes,
   )
 
   -- what was made is the network that the command would leave
-  module _ (count : ℕ) (next : List ℕ) (M : Made result count next) where
+  module _ (count : ℕ) (next : List ℕ) (M : Built result count next) where
     read : records count next ≡ result
-    read = made-records M (goes .whole)
+    read = built-records M (goes .whole)
 
     pub next-long : length next ≡ storeBytes
     unfolding padded
@@ -144,8 +144,8 @@ module _ (store : List ℕ) (n : ℕ) (work : List ℕ) (given : Rec) (e : comma
       omega (arith, same-work, passed store n (length work) given e .check .enough),
     )
 
-    stepped : (v : Verdict) → verdict result ≡ v → step found given (length work) ≡ judgedStep found result v
-    unfolding step
+    stepped : (v : Verdict) → verdict result ≡ v → outcomeOf found given (length work) ≡ judgedStep found result v
+    unfolding outcomeOf
     stepped v q = rw (e, q) refl
 
     module _ (j : Judged) (after : List ℕ) (J : Judges (records count next) work j after) where

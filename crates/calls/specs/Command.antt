@@ -4,7 +4,7 @@ use mathlib.Core.List.{List}
 use Prim.Native.Nat.{ℕ}
 use lib.ListN.{length}
 use Rattle.calls.specs.Answer.{CommandAnswer}
-use Rattle.calls.specs.Reference.{Installed, step, commandWork}
+use Rattle.calls.specs.Reference.{Installed, outcomeOf, commandWork}
 
 -- a command call: what it was lent and given, what it answered, and what it left
 pub record Call : Type 0 where
@@ -22,11 +22,11 @@ call store n work given answer store-after work-after =
     record { store = store; count = n; work = work; given = given; answer = answer; store-after = store-after; work-after = work-after }
 
 -- what was installed at the call
-abbrev pub found : Call → Installed
-found c = record { count = c .count; bytes = c .store }
+abbrev pub startOf : Call → Installed
+startOf c = record { count = c .count; bytes = c .store }
 
--- the promise of the command call: answer, store and work after are those of the reference's step
+-- the promise of the command call: answer, store and work after are the reference's
 pub record Promised (c : Call) : Type 0 where
-  pub answered : c .answer ≡ step (found c) (c .given) (length (c .work)) .answer
-  pub stores : c .store-after ≡ step (found c) (c .given) (length (c .work)) .after .bytes
-  pub works : c .work-after ≡ commandWork (found c) (c .given) (c .work)
+  pub answered : c .answer ≡ outcomeOf (startOf c) (c .given) (length (c .work)) .answer
+  pub stores : c .store-after ≡ outcomeOf (startOf c) (c .given) (length (c .work)) .after .bytes
+  pub works : c .work-after ≡ commandWork (startOf c) (c .given) (c .work)

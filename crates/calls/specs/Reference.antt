@@ -39,8 +39,8 @@ judged i net holds = let bytes = stored net (i .bytes) in record { answer = forw
 judged i net (violated p x) = unchanged i (blocked p x)
 
 -- one command: refused by the first row, or else judged by the whole network that it would leave
-unfoldable pub step : Installed → Rec → ℕ → Outcome
-step i c work =
+unfoldable pub outcomeOf : Installed → Rec → ℕ → Outcome
+outcomeOf i c work =
     let net = applied c (network i) in
     let outcome = judged i net (verdict net) in
     unless (commandRefusal (i .bytes) (i .count) work c) (λ number place. unchanged i (CommandAnswer.refused number place)) outcome
@@ -54,9 +54,9 @@ commandWork i c work =
 -- a series of commands, each with its work buffer's length: the answers
 unfoldable pub answers : Installed → List (Rec × ℕ) → List CommandAnswer
 answers i [] = []
-answers i (c ∷ rest) = let o = step i (c .0) (c .1) in o .answer ∷ answers (o .after) rest
+answers i (c ∷ rest) = let o = outcomeOf i (c .0) (c .1) in o .answer ∷ answers (o .after) rest
 
 -- and what is installed at the end
 unfoldable pub installed : Installed → List (Rec × ℕ) → Installed
 installed i [] = i
-installed i (c ∷ rest) = installed (step i (c .0) (c .1) .after) rest
+installed i (c ∷ rest) = installed (outcomeOf i (c .0) (c .1) .after) rest

@@ -1,5 +1,5 @@
 // The check call and the command call.
-use commands::Row;
+use commands::Admission;
 use scan::Layout;
 use scan::Reading;
 use verdict::judge::Judged;
@@ -73,7 +73,7 @@ fn verdict_on(store: &[u8], n: usize, work: &mut [u8]) -> Judged
 
 // A command that no row refuses, judged by the network that it would leave, which is made in `next` and written back where it holds.
 fn judged_in(
-    next: &mut [u8; 15384],
+    next: &mut [u8; records::STORE_BYTES],
     store: &mut [u8],
     n: usize,
     work: &mut [u8],
@@ -98,7 +98,7 @@ fn judged(store: &mut [u8], n: usize, work: &mut [u8], given: &[u8]) -> Commande
     requires { ⌜ commandRefusal (now store) n (length (now work)) (now given) ≡ none ⌝ }
     ensures { λ r. ⌜ Promised (call (now (store .entry)) n (now (work .entry)) (now (given .entry)) (commandAnswerOf r) (now (store .exit)) (now (work .exit))) ⌝ }
 {
-    let mut next = [0u8; 15384];
+    let mut next = [0u8; records::STORE_BYTES];
     judged_in(&mut next, store, n, work, given)
 }
 
@@ -109,8 +109,8 @@ fn after_check(store: &mut [u8], n: usize, l: Layout, work: &mut [u8], given: &[
 {
     let row = commands::command_row(l.widths, store, n, l.nodes - l.rules, given);
     match row {
-        Row::Refused { number } => Commanded::Refused { number, place: 0 },
-        Row::Passed => judged(store, n, work, given),
+        Admission::Refused { number } => Commanded::Refused { number, place: 0 },
+        Admission::Passed => judged(store, n, work, given),
     }
 }
 

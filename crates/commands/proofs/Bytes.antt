@@ -5,10 +5,10 @@ use Prim.Native.Nat.{ℕ, zero, suc, _+_, _-_, _*_, _≤_}
 use native.Mathlib.Omega.{arith}
 use lib.ListN.{length, take, drop, replicate, length-append, length-drop}
 use lib.Seq.{take-all, take-add, take-at, drop-at, length-take-le}
-use Rattle.planes.specs.Rows.{Cleared, Put}
+use Rattle.planes.specs.Lines.{Cleared, Put}
 use Rattle.records.specs.Record.{Rec, Net, storeBytes, records, flat}
 use Rattle.records.specs.Laws.Records.{length-records, records-split}
-use Rattle.commands.specs.Effect.{padded, filled, spliced, joined, Room}
+use Rattle.commands.specs.Effect.{padded, filled, spliced, joined, BufferRoom}
 use Rattle.commands.proofs.Copy.{put-upto, cleared-upto}
 
 flat-append : (xs ys : Net) → flat (xs ++ ys) ≡ flat xs ++ flat ys
@@ -57,12 +57,12 @@ module _ (s : List ℕ) (n : ℕ) where
 
   -- room for a network is room for the records that it is made of
   pub room-spliced : {next : List ℕ} {net : Net} (i j : ℕ) (r : Rec) → net ≡ spliced (records n s) i j r → i ≤ n
-      → Room next s n (length net) → Room next s n (i + 1 + (n - j))
-  room-spliced {next} i j r e h room = subst (Room next s n) (ap length e ∙ length-spliced i j r h) room
+      → BufferRoom next s n (length net) → BufferRoom next s n (i + 1 + (n - j))
+  room-spliced {next} i j r e h room = subst (BufferRoom next s n) (ap length e ∙ length-spliced i j r h) room
 
   pub room-joined : {next : List ℕ} {net : Net} (i j : ℕ) → net ≡ joined (records n s) i j → i ≤ n
-      → Room next s n (length net) → Room next s n (i + (n - j))
-  room-joined {next} i j e h room = subst (Room next s n) (ap length e ∙ length-joined i j h) room
+      → BufferRoom next s n (length net) → BufferRoom next s n (i + (n - j))
+  room-joined {next} i j e h room = subst (BufferRoom next s n) (ap length e ∙ length-joined i j h) room
 
 -- bytes that are put after those in front, and zeros after them
 pub finished : (b b₁ b₂ part : List ℕ) (at end : ℕ) → length b ≡ storeBytes → end ≡ at + length part → end ≤ storeBytes

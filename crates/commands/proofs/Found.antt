@@ -9,7 +9,7 @@ use lib.ListN.{length, drop, length-drop}
 use Rattle.records.specs.Lists.{any}
 use Rattle.records.specs.Record.{Rec, Net, records, sameRule, present}
 use Rattle.records.specs.Search.{recordAt, recordsAfter, firstAt}
-use Rattle.rows.specs.Found.{found}
+use Rattle.rows.specs.Found.{foundRule}
 use Rattle.rows.specs.declared.rules.Found.the-variants.{At, Nothing}
 use Rattle.records.specs.Laws.Records.{length-records, records-left}
 use Rattle.rows.specs.Laws.Found.{found-present}
@@ -48,21 +48,21 @@ module _ (c : Rec) (s : List ℕ) (n : ℕ) where
   abbrev net : Net
   net = records n s
 
-  pub at-first : (k : ℕ) → At k ≡ found c net → firstAt (sameRule c) net ≡ k
-  unfolding found
+  pub at-first : (k : ℕ) → At k ≡ foundRule c net → firstAt (sameRule c) net ≡ k
+  unfolding foundRule
   at-first k e = at-told (present c net) (firstAt (sameRule c) net) k e
 
-  at-here : (k : ℕ) → At k ≡ found c net → Here (sameRule c) net k
+  at-here : (k : ℕ) → At k ≡ foundRule c net → Here (sameRule c) net k
   unfolding present
   at-here k e =
       subst (Here (sameRule c) net) (at-first k e)
       (first-here (sameRule c) net (sym (found-present c net k e)))
 
   -- the same rule is one of the records
-  pub at-below : (k : ℕ) → At k ≡ found c net → k < n
+  pub at-below : (k : ℕ) → At k ≡ foundRule c net → k < n
   at-below k e = omega (arith, ap length (at-here k e .2), length-drop k net, length-records n s)
 
-  pub at-record : (k : ℕ) → At k ≡ found c net → (sameRule c (recordAt s k) ≡ true) × (drop k net ≡ recordAt s k ∷ drop (k + 1) net)
+  pub at-record : (k : ℕ) → At k ≡ foundRule c net → (sameRule c (recordAt s k) ≡ true) × (drop k net ≡ recordAt s k ∷ drop (k + 1) net)
   at-record k e =
       let h = at-here k e in
       let l = at-below k e in

@@ -1,9 +1,9 @@
 -- The effect of a command on the records of a network: add, modify and delete in strict form.
-use mathlib.Core.Bool.{true, false, cond}
+use mathlib.Core.Bool.{true, false}
 use mathlib.Core.List.{[], _∷_, _++_}
-use lib.Dec.{eqb, ltb}
+use lib.Dec.{ltb}
 use lib.ListN.{take, drop}
-use Rattle.records.specs.Record.{Rec, Net, kind, sameRule, present}
+use Rattle.records.specs.Record.{Rec, Net, kind, CommandKind, kAdd, kModify, kDelete, kNoCommand, commandKind, sameRule, present}
 
 -- the rule of a command, stored as kind 4
 unfoldable pub asRule : Rec → Rec
@@ -32,10 +32,13 @@ removed c (r ∷ rest) = elim (sameRule c r) [ true ↦ rest | false ↦ r ∷ r
 unfoldable pub added : Rec → Net → Net
 added c net = elim (present c net) [ true ↦ changed (λ r. asRule c) c net | false ↦ inserted c net ]
 
--- the network that a command would leave: 6 add, 7 modify, 8 delete; without the same rule, modify and delete change nothing
+-- what a command of each kind leaves; without the same rule, modify and delete change nothing
+abbrev pub appliedAs : CommandKind → Rec → Net → Net
+appliedAs kAdd c net = added c net
+appliedAs kModify c net = changed (withActions c) c net
+appliedAs kDelete c net = removed c net
+appliedAs kNoCommand c net = net
+
+-- the network that a command would leave
 unfoldable pub applied : Rec → Net → Net
-applied c net =
-    let add = added c net in
-    let modify = changed (withActions c) c net in
-    let delete = removed c net in
-    cond (eqb (kind c) 6) add (cond (eqb (kind c) 7) modify delete)
+applied c net = appliedAs (commandKind (kind c)) c net

@@ -10,8 +10,8 @@ use Rattle.records.specs.Record.{Rec, Net, mostRecords, storeBytes, kind, recor
 use Rattle.records.specs.Widths.{withinLimits, widthsOf}
 use Rattle.rows.specs.Refusal.{Refusal}
 use Rattle.records.specs.declared.Widths.{Widths}
-use Rattle.commands.specs.declared.Row.{Row}
-use Rattle.commands.specs.declared.Row.the-variants.{Refused, Passed}
+use Rattle.commands.specs.declared.Admission.{Admission}
+use Rattle.commands.specs.declared.Admission.the-variants.{Refused, Passed}
 
 -- bytes, then zeros to byte 15,384
 unfoldable pub padded : List ℕ → List ℕ
@@ -34,13 +34,13 @@ abbrev pub aboveRules : Rec → Bool
 aboveRules r = ltb 4 (kind r)
 
 -- a buffer of 15,384 bytes for `count` records that are made from the n records of a store
-pub record Room (next store : List ℕ) (n count : ℕ) : Type 0 where
+pub record BufferRoom (next store : List ℕ) (n count : ℕ) : Type 0 where
   pub wide : length next ≡ storeBytes
   pub stored : n * 24 ≤ length store
   pub fits : count ≤ mostRecords
 
 -- the network's records are counted, and stand in the buffer, then zeros
-pub record Made (net : Net) (count : ℕ) (next : List ℕ) : Type 0 where
+pub record Built (net : Net) (count : ℕ) (next : List ℕ) : Type 0 where
   pub count-is : count ≡ length net
   pub bytes-are : next ≡ filled net
 
@@ -52,6 +52,6 @@ pub record Known (w : Widths) (store : List ℕ) (n rules : ℕ) : Type 0 where
   pub rules-are : rules ≡ length (ofKind 4 (records n store))
 
 -- the refusal that each case stands for
-abbrev pub refusalOf : Row → Refusal
-refusalOf (Refused number) = some (number, 0)
-refusalOf Passed = none
+abbrev pub admissionRefusal : Admission → Refusal
+admissionRefusal (Refused number) = some (number, 0)
+admissionRefusal Passed = none

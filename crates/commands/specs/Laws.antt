@@ -1,4 +1,5 @@
 -- Laws that are cited, and need not be read to believe a promise.
+pub mod Applied
 pub mod Built
 pub mod Going
 pub mod Parts

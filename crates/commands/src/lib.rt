@@ -12,10 +12,7 @@ ghost use Rattle.rows.specs.Rows.{row12, row13};
 ghost use Rattle.rows.specs.Refusal.{commandRow};
 ghost use Rattle.records.specs.Search.{firstAt};
 ghost use Rattle.commands.specs.Apply.{asRule, withActions, changed, added, removed, applied};
-ghost use Rattle.commands.specs.Effect.{padded, spliced, joined, aboveRules, Room, Made, Known, refusalOf};
-
-// The bytes of the largest network.
-pub const STORE_BYTES: usize = 15384;
+ghost use Rattle.commands.specs.Effect.{padded, spliced, joined, aboveRules, BufferRoom, Built, Known, admissionRefusal};
 
 // The rule of a command.
 fn as_rule(given: &[u8]) -> [u8; 24]
@@ -63,14 +60,14 @@ fn finish(next: &mut [u8], at: usize, store: &[u8], n: usize, j: usize)
     let e = n * 24;
     planes::put(next, at, &store[b..e]);
     let end = at + (e - b);
-    planes::clear(next, end, STORE_BYTES - end);
+    planes::clear(next, end, records::STORE_BYTES - end);
 }
 
 // Makes next the n records with a rule in place of those from i up to j, and counts them.
 fn splice(next: &mut [u8], store: &[u8], n: usize, rule: &[u8; 24], i: usize, j: usize) -> usize
-    requires { ⌜ Room (now next) (now store) n (i + 1 + (n - j)) ⌝ }
+    requires { ⌜ BufferRoom (now next) (now store) n (i + 1 + (n - j)) ⌝ }
     requires { ⌜ (i ≤ j) × (j ≤ n) ⌝ }
-    ensures { λ r. ⌜ Made (spliced (records n (now (store .entry))) i j (now (rule .entry))) r (now (next .exit)) ⌝ }
+    ensures { λ r. ⌜ Built (spliced (records n (now (store .entry))) i j (now (rule .entry))) r (now (next .exit)) ⌝ }
 {
     let a = i * 24;
     planes::put(next, 0, &store[0..a]);
@@ -81,9 +78,9 @@ fn splice(next: &mut [u8], store: &[u8], n: usize, rule: &[u8; 24], i: usize, j:
 
 // Makes next the n records without those from i up to j, and counts them.
 fn join(next: &mut [u8], store: &[u8], n: usize, i: usize, j: usize) -> usize
-    requires { ⌜ Room (now next) (now store) n (i + (n - j)) ⌝ }
+    requires { ⌜ BufferRoom (now next) (now store) n (i + (n - j)) ⌝ }
     requires { ⌜ (i ≤ j) × (j ≤ n) ⌝ }
-    ensures { λ r. ⌜ Made (joined (records n (now (store .entry))) i j) r (now (next .exit)) ⌝ }
+    ensures { λ r. ⌜ Built (joined (records n (now (store .entry))) i j) r (now (next .exit)) ⌝ }
 {
     let a = i * 24;
     planes::put(next, 0, &store[0..a]);
@@ -93,9 +90,9 @@ fn join(next: &mut [u8], store: &[u8], n: usize, i: usize, j: usize) -> usize
 
 // Add: replaces the same rule in its place, or else goes after the last rule.
 fn add(next: &mut [u8], store: &[u8], n: usize, given: &[u8]) -> usize
-    requires { ⌜ Room (now next) (now store) n (length (added (now given) (records n (now store)))) ⌝ }
+    requires { ⌜ BufferRoom (now next) (now store) n (length (added (now given) (records n (now store)))) ⌝ }
     requires { ⌜ length (now given) ≡ 24 ⌝ }
-    ensures { λ r. ⌜ Made (added (now (given .entry)) (records n (now (store .entry)))) r (now (next .exit)) ⌝ }
+    ensures { λ r. ⌜ Built (added (now (given .entry)) (records n (now (store .entry)))) r (now (next .exit)) ⌝ }
 {
     let rule = as_rule(given);
     let f = rows::rules::find_rule(store, n, given);
@@ -110,9 +107,9 @@ fn add(next: &mut [u8], store: &[u8], n: usize, given: &[u8]) -> usize
 
 // Modify: replaces the action count and actions of the same rule.
 fn modify(next: &mut [u8], store: &[u8], n: usize, given: &[u8]) -> usize
-    requires { ⌜ Room (now next) (now store) n (length (changed (withActions (now given)) (now given) (records n (now store)))) ⌝ }
+    requires { ⌜ BufferRoom (now next) (now store) n (length (changed (withActions (now given)) (now given) (records n (now store)))) ⌝ }
     requires { ⌜ length (now given) ≡ 24 ⌝ }
-    ensures { λ r. ⌜ Made (changed (withActions (now (given .entry))) (now (given .entry)) (records n (now (store .entry)))) r (now (next .exit)) ⌝ }
+    ensures { λ r. ⌜ Built (changed (withActions (now (given .entry))) (now (given .entry)) (records n (now (store .entry)))) r (now (next .exit)) ⌝ }
 {
     let f = rows::rules::find_rule(store, n, given);
     match f {
@@ -128,9 +125,9 @@ fn modify(next: &mut [u8], store: &[u8], n: usize, given: &[u8]) -> usize
 
 // Delete: removes the same rule and closes up.
 fn delete(next: &mut [u8], store: &[u8], n: usize, given: &[u8]) -> usize
-    requires { ⌜ Room (now next) (now store) n (length (removed (now given) (records n (now store)))) ⌝ }
+    requires { ⌜ BufferRoom (now next) (now store) n (length (removed (now given) (records n (now store)))) ⌝ }
     requires { ⌜ length (now given) ≡ 24 ⌝ }
-    ensures { λ r. ⌜ Made (removed (now (given .entry)) (records n (now (store .entry)))) r (now (next .exit)) ⌝ }
+    ensures { λ r. ⌜ Built (removed (now (given .entry)) (records n (now (store .entry)))) r (now (next .exit)) ⌝ }
 {
     let f = rows::rules::find_rule(store, n, given);
     match f {
@@ -141,15 +138,16 @@ fn delete(next: &mut [u8], store: &[u8], n: usize, given: &[u8]) -> usize
 
 // Makes next the network that a command would leave, and counts its records.
 pub fn apply_to(next: &mut [u8], store: &[u8], n: usize, given: &[u8]) -> usize
-    requires { ⌜ Room (now next) (now store) n (length (applied (now given) (records n (now store)))) ⌝ }
+    requires { ⌜ BufferRoom (now next) (now store) n (length (applied (now given) (records n (now store)))) ⌝ }
     requires { ⌜ length (now given) ≡ 24 ⌝ }
-    ensures { λ r. ⌜ Made (applied (now (given .entry)) (records n (now (store .entry)))) r (now (next .exit)) ⌝ }
+    ensures { λ r. ⌜ Built (applied (now (given .entry)) (records n (now (store .entry)))) r (now (next .exit)) ⌝ }
 {
     let kind = given[0];
     match kind {
         6 => add(next, store, n, given),
         7 => modify(next, store, n, given),
-        0..=5 | 8..=255 => delete(next, store, n, given),
+        8 => delete(next, store, n, given),
+        0..=5 | 9..=255 => join(next, store, n, n, n),
     }
 }
 
@@ -161,7 +159,7 @@ pub fn write_back(store: &mut [u8], next: &[u8])
     planes::put(store, 0, next);
 }
 
-// Row 12: not 24 bytes, kind not 6 to 8, or a field fault.
+// Admission 12: not 24 bytes, kind not 6 to 8, or a field fault.
 fn is_faulty(w: Widths, given: &[u8]) -> bool
     requires { ⌜ withinLimits w ≡ true ⌝ }
     ensures { λ r. ⌜ ((net : Net) → w ≡ widthsOf net → r ≡ row12 net (now (given .entry))) ⌝ }
@@ -176,7 +174,7 @@ fn is_faulty(w: Widths, given: &[u8]) -> bool
     }
 }
 
-// Row 13: add of a new rule with 256 present.
+// Admission 13: add of a new rule with 256 present.
 fn is_full(store: &[u8], n: usize, rules: usize, given: &[u8]) -> bool
     requires { ⌜ (n * 24 ≤ length (now store)) × (length (now given) ≡ 24) × (rules ≡ length (ofKind 4 (records n (now store)))) ⌝ }
     ensures { λ r. ⌜ r ≡ row13 (records n (now (store .entry))) (now (given .entry)) ⌝ }
@@ -184,28 +182,28 @@ fn is_full(store: &[u8], n: usize, rules: usize, given: &[u8]) -> bool
     if given[0] != 6 {
         return false;
     }
-    if rules < 256 {
+    if rules < records::MOST_RULES {
         return false;
     }
     !rows::rules::is_present(store, n, given)
 }
 
 // Whether a row refuses a command, and which; its place is 0.
-pub enum Row {
+pub enum Admission {
     Refused { number: usize },
     Passed,
 }
 
 // The first of rows 12 and 13 that refuses a command.
-pub fn command_row(w: Widths, store: &[u8], n: usize, rules: usize, given: &[u8]) -> Row
+pub fn command_row(w: Widths, store: &[u8], n: usize, rules: usize, given: &[u8]) -> Admission
     requires { ⌜ Known w (now store) n rules ⌝ }
-    ensures { λ r. ⌜ refusalOf r ≡ commandRow (records n (now (store .entry))) (now (given .entry)) ⌝ }
+    ensures { λ r. ⌜ admissionRefusal r ≡ commandRow (records n (now (store .entry))) (now (given .entry)) ⌝ }
 {
     if is_faulty(w, given) {
-        return Row::Refused { number: 12 };
+        return Admission::Refused { number: 12 };
     }
     if is_full(store, n, rules, given) {
-        return Row::Refused { number: 13 };
+        return Admission::Refused { number: 13 };
     }
-    Row::Passed
+    Admission::Passed
 }

@@ -1,18 +1,18 @@
 -- The fields of a record, as its kind reads them: ranges, widths, patterns, actions and unnamed bytes.
 use mathlib.Core.Bool.{Bool, true, false, not, _&&_, _||_}
-use mathlib.Core.List.{[], _∷_}
 use Prim.Native.Nat.{ℕ, suc, _+_, _-_, _*_, _^_}
 use lib.Dec.{eqb, leb, ltb}
-use lib.ListN.{getD, take, drop}
+use lib.ListN.{take, drop}
 use Rattle.records.specs.Lists.{all}
-use Rattle.records.specs.Record.{Rec, at, kind}
+use Rattle.records.specs.Record.{Rec, mostPolicies, at, kind, RecordKind, kWidths, kLink, kMiss, kRule, kNode, kNoRecord, recordKind, CommandKind, kAdd, kModify, kDelete, kNoCommand, commandKind}
 use Rattle.records.specs.Widths.{width}
 use Rattle.records.specs.Pattern.{patternGood}
+use Rattle.records.specs.Policy.{NodeKind, kBIT, kR, kE, kNOT, kAND, kOR, kSOME, kALL, kTC, kNone, nodeKind}
 use Rattle.records.specs.declared.Widths.{Widths}
 
--- the bytes from number k up to number m are zero
+-- the bytes from the first up to the last are zero
 unfoldable pub zeros : ℕ → ℕ → Rec → Bool
-zeros k m r = all (eqb 0) (drop k (take m r))
+zeros first last r = all (eqb 0) (drop first (take (suc last) r))
 
 -- a switch within its width, and a port
 unfoldable pub pointGood : Widths → ℕ → ℕ → Bool
@@ -28,13 +28,13 @@ abbrev pub unusedGood : ℕ → ℕ → ℕ → Bool
 unusedGood k value care = eqb k 0 && eqb value 0 && eqb care 0
 
 -- action i of `count` by its three bytes
-unfoldable pub actionOf : Widths → ℕ → ℕ → ℕ → ℕ → ℕ → Bool
-actionOf w k value care count i =
+unfoldable pub actionBytesGood : Widths → ℕ → ℕ → ℕ → ℕ → ℕ → Bool
+actionBytesGood w k value care count i =
     elim (ltb i count) [ true ↦ usedGood w k value care (eqb (suc i) count) | false ↦ unusedGood k value care ]
 
 -- action i of a record that uses `count` of them
 unfoldable pub actionGood : Widths → Rec → ℕ → ℕ → Bool
-actionGood w r count i = actionOf w (at r (9 + 3 * i)) (at r (10 + 3 * i)) (at r (11 + 3 * i)) count i
+actionGood w r count i = actionBytesGood w (at r (9 + 3 * i)) (at r (10 + 3 * i)) (at r (11 + 3 * i)) count i
 
 -- an action count of 1–4 and its actions, bytes 8 to 20
 unfoldable pub actionsGood : Widths → Rec → Bool
@@ -48,29 +48,42 @@ unfoldable pub matchGood : Widths → Rec → Bool
 matchGood w r = ltb (at r 1) (2 ^ w .w) && patternGood (w .p) (at r 4) (at r 5) && patternGood (w .h) (at r 6) (at r 7)
 
 -- byte 3 and byte 4 of a policy node of each kind; an operand may be any byte here
+abbrev pub nodeFields : NodeKind → Widths → ℕ → ℕ → Bool
+nodeFields kBIT w a b = leb a 1 && ltb b (width w)
+nodeFields kR w a b = leb a 1 && leb b 1
+nodeFields kE w a b = leb a 1 && eqb b 0
+nodeFields kNOT w a b = eqb b 0
+nodeFields kAND w a b = true
+nodeFields kOR w a b = true
+nodeFields kSOME w a b = leb b 1
+nodeFields kALL w a b = leb b 1
+nodeFields kTC w a b = leb b 3
+nodeFields kNone w a b = false
+
+-- the fields of a node whose byte 2 is k
 unfoldable pub nodeGood : Widths → ℕ → ℕ → ℕ → Bool
-nodeGood w k a b =
-    let BIT = leb a 1 && ltb b (width w) in
-    let R = leb a 1 && leb b 1 in
-    let E = leb a 1 && eqb b 0 in
-    let NOT = eqb b 0 in
-    let quantifier = leb b 1 in
-    let TC = leb b 3 in
-    getD (BIT ∷ R ∷ E ∷ NOT ∷ true ∷ true ∷ quantifier ∷ quantifier ∷ TC ∷ []) k false
+nodeGood w k a b = nodeFields (nodeKind k) w a b
+
+-- the fields of a record of each kind
+abbrev pub fieldsOf : RecordKind → Widths → Rec → Bool
+fieldsOf kWidths w r = zeros 4 23 r
+fieldsOf kLink w r = pointGood w (at r 1) (at r 2) && pointGood w (at r 3) (at r 4) && zeros 5 23 r
+fieldsOf kMiss w r = ltb (at r 1) (2 ^ w .w) && zeros 2 7 r && actionsGood w r && zeros 21 23 r
+fieldsOf kRule w r = matchGood w r && actionsGood w r && zeros 21 23 r
+fieldsOf kNode w r = leb (at r 1) mostPolicies && nodeGood w (at r 2) (at r 3) (at r 4) && zeros 5 23 r
+fieldsOf kNoRecord w r = false
 
 -- the fields of a record, as its kind reads them
 unfoldable pub fieldsGood : Widths → Rec → Bool
-fieldsGood w r =
-    let widths = zeros 4 24 r in
-    let link = pointGood w (at r 1) (at r 2) && pointGood w (at r 3) (at r 4) && zeros 5 24 r in
-    let miss = ltb (at r 1) (2 ^ w .w) && zeros 2 8 r && actionsGood w r && zeros 21 24 r in
-    let rule = matchGood w r && actionsGood w r && zeros 21 24 r in
-    let node = leb (at r 1) 8 && nodeGood w (at r 2) (at r 3) (at r 4) && zeros 5 24 r in
-    getD (false ∷ widths ∷ link ∷ miss ∷ rule ∷ node ∷ []) (kind r) false
+fieldsGood w r = fieldsOf (recordKind (kind r)) w r
 
--- the fields of a command: as a rule's; delete has bytes 8–20 zero
+-- what follows the match in a command of each kind: as in a rule; delete has bytes 8–20 zero
+abbrev pub commandFields : CommandKind → Widths → Rec → Bool
+commandFields kAdd w c = actionsGood w c && zeros 21 23 c
+commandFields kModify w c = actionsGood w c && zeros 21 23 c
+commandFields kDelete w c = zeros 8 23 c
+commandFields kNoCommand w c = false
+
+-- the fields of a command
 unfoldable pub commandGood : Widths → Rec → Bool
-commandGood w c =
-    let change = actionsGood w c && zeros 21 24 c in
-    let delete = zeros 8 24 c in
-    matchGood w c && getD (change ∷ change ∷ delete ∷ []) (kind c - 6) false
+commandGood w c = matchGood w c && commandFields (commandKind (kind c)) w c

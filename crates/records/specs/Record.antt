@@ -22,6 +22,18 @@ mostRecords = 641
 abbrev pub storeBytes : ℕ
 storeBytes = 15384
 
+-- at most 256 rules
+abbrev pub mostRules : ℕ
+mostRules = 256
+
+-- at most 8 policies
+abbrev pub mostPolicies : ℕ
+mostPolicies = 8
+
+-- of at most 32 nodes each
+abbrev pub mostNodes : ℕ
+mostNodes = 32
+
 -- a byte of a record
 abbrev pub at : Rec → ℕ → ℕ
 at r k = getD r k 0
@@ -29,6 +41,22 @@ at r k = getD r k 0
 -- its kind: 1 widths, 2 link, 3 miss, 4 rule, 5 policy node; 6 add, 7 modify, 8 delete
 abbrev pub kind : Rec → ℕ
 kind r = at r 0
+
+-- the kinds of records that a network has, and none
+pub data RecordKind : Type 0 where
+  kWidths kLink kMiss kRule kNode kNoRecord : RecordKind
+
+-- the kind that a kind byte names: from 1 on
+unfoldable pub recordKind : ℕ → RecordKind
+recordKind k = getD (kNoRecord ∷ kWidths ∷ kLink ∷ kMiss ∷ kRule ∷ kNode ∷ []) k kNoRecord
+
+-- the kinds of commands, and none
+pub data CommandKind : Type 0 where
+  kAdd kModify kDelete kNoCommand : CommandKind
+
+-- the kind that a kind byte names: from 6 on
+unfoldable pub commandKind : ℕ → CommandKind
+commandKind k = getD (kNoCommand ∷ kNoCommand ∷ kNoCommand ∷ kNoCommand ∷ kNoCommand ∷ kNoCommand ∷ kAdd ∷ kModify ∷ kDelete ∷ []) k kNoCommand
 
 -- the first n records of a store
 unfoldable pub records : ℕ → List ℕ → Net

@@ -1,4 +1,5 @@
 // The fields of one record: ranges, widths, patterns and unnamed bytes.
+use crate::MOST_POLICIES;
 use crate::Widths;
 ghost use mathlib.Core.Path.{_≡_};
 ghost use mathlib.Core.Bool.{true};
@@ -13,13 +14,13 @@ ghost use Rattle.records.specs.State.{ordinary};
 ghost use Rattle.records.specs.Pattern.{patternGood};
 ghost use Rattle.records.specs.Fields.{zeros, pointGood, matchGood, actionGood, actionsGood, nodeGood, fieldsGood, commandGood};
 
-// The bytes from number k up to number m are zero.
-pub fn zeros(r: &[u8], k: usize, m: usize) -> bool
-    requires { ⌜ (k ≤ m) × (m ≤ length (now r)) ⌝ }
-    ensures { λ z. ⌜ z ≡ zeros k m (now (r .entry)) ⌝ }
+// The bytes from the first up to the last are zero.
+pub fn zeros(r: &[u8], first: usize, last: usize) -> bool
+    requires { ⌜ (first ≤ last) × (last < length (now r)) ⌝ }
+    ensures { λ z. ⌜ z ≡ zeros first last (now (r .entry)) ⌝ }
 {
-    let mut i = k;
-    while i < m {
+    let mut i = first;
+    while i <= last {
         if r[i] != 0 {
             return false;
         }
@@ -169,7 +170,7 @@ fn link_good(w: Widths, r: &[u8]) -> bool
     if !point_good(w, r[3], r[4]) {
         return false;
     }
-    zeros(r, 5, 24)
+    zeros(r, 5, 23)
 }
 
 // The fields of a miss.
@@ -180,13 +181,13 @@ fn miss_good(w: Widths, r: &[u8]) -> bool
     if !in_width(w.w, r[1]) {
         return false;
     }
-    if !zeros(r, 2, 8) {
+    if !zeros(r, 2, 7) {
         return false;
     }
     if !actions_good(w, &r[1..21]) {
         return false;
     }
-    zeros(r, 21, 24)
+    zeros(r, 21, 23)
 }
 
 // The fields of a rule.
@@ -201,7 +202,7 @@ fn rule_good(w: Widths, r: &[u8]) -> bool
     if !actions_good(w, body) {
         return false;
     }
-    zeros(r, 21, 24)
+    zeros(r, 21, 23)
 }
 
 // The fields of a policy node.
@@ -209,13 +210,13 @@ fn policy_node_good(w: Widths, r: &[u8]) -> bool
     requires { ⌜ (length (now r) ≡ 24) × (withinLimits w ≡ true) × (kind (now r) ≡ 5) ⌝ }
     ensures { λ g. ⌜ g ≡ fieldsGood w (now (r .entry)) ⌝ }
 {
-    if 8 < r[1] {
+    if MOST_POLICIES < r[1] {
         return false;
     }
     if !node_good(w, r[2], r[3], r[4]) {
         return false;
     }
-    zeros(r, 5, 24)
+    zeros(r, 5, 23)
 }
 
 // The fields of a record, as its kind reads them; for the widths record no widths are needed yet.
@@ -225,7 +226,7 @@ pub fn fields_good(w: Widths, r: &[u8]) -> bool
 {
     let k = r[0];
     match k {
-        1 => zeros(r, 4, 24),
+        1 => zeros(r, 4, 23),
         2 => link_good(w, r),
         3 => miss_good(w, r),
         4 => rule_good(w, r),
@@ -261,9 +262,9 @@ pub fn command_good(w: Widths, c: &[u8]) -> bool
             if !actions_good(w, body) {
                 return false;
             }
-            zeros(c, 21, 24)
+            zeros(c, 21, 23)
         }
-        8 => zeros(c, 8, 24),
+        8 => zeros(c, 8, 23),
         0..=5 | 9..=255 => false,
     }
 }

@@ -5,6 +5,21 @@ ghost use Rattle.records.specs.Widths.{width, states, planeBytes, within
 
 pub mod fields;
 
+// The records of the largest network.
+pub const MOST_RECORDS: usize = 641;
+
+// The bytes of the largest network, which every store has.
+pub const STORE_BYTES: usize = 15384;
+
+// The rules that a network has at most.
+pub const MOST_RULES: usize = 256;
+
+// The policies that a network has at most.
+pub const MOST_POLICIES: u8 = 8;
+
+// The nodes that a policy has at most.
+pub const MOST_NODES: usize = 32;
+
 // The widths of a network: of headers, of ports and of switches.
 pub struct Widths {
     pub h: u8,

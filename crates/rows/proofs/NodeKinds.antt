@@ -7,8 +7,12 @@ use lib.Dec.{eqb, ltb, eqb·suc-zero}
 use lib.ListN.{getD, take, drop, replicate, List·getD-eq-default, List·getD-map}
 use Rattle.planes.specs.Bit.{bitOf}
 use Rattle.records.specs.Policy.{Formula, Y, varOf, NodeKind, kBIT, kR, kE, kNOT, kAND, kOR, kSOME, kALL, kTC, kNone, nodeKind, nodeSays, sameVar, free}
-use Rattle.rows.specs.Rows.{operandsGood}
+use Rattle.rows.specs.Rows.{operandsEarlier, operandsGood}
 use Rattle.records.specs.Laws.Lists.{getD-run}
+
+-- the kinds in their order
+abbrev kinds : List NodeKind
+kinds = kBIT ∷ kR ∷ kE ∷ kNOT ∷ kAND ∷ kOR ∷ kSOME ∷ kALL ∷ kTC ∷ []
 
 -- the operands' tests of each kind
 abbrev operandTests : ℕ → ℕ → ℕ → List Bool
@@ -16,12 +20,12 @@ operandTests a b i = true ∷ true ∷ true ∷ ltb a i ∷ (ltb a i && ltb b i)
 
 module _ (a b i : ℕ) where
   pub operands-run : (v : Bool) (m c k : ℕ) → take c (drop m (operandTests a b i)) ≡ replicate c v → m ≤ k → k < m + c → operandsGood k a b i ≡ v
-  unfolding operandsGood
-  operands-run v m c k e h t = getD-run (operandTests a b i) v false m c k e h t
+  unfolding operandsGood nodeKind
+  operands-run v m c k e h t = sym (List·getD-map (λ (K : NodeKind). operandsEarlier K a b i) kinds k kNone) ∙ getD-run (operandTests a b i) v false m c k e h t
 
   pub operands-none : (k : ℕ) → 9 ≤ k → operandsGood k a b i ≡ false
-  unfolding operandsGood
-  operands-none k h = List·getD-eq-default (operandTests a b i) false h
+  unfolding operandsGood nodeKind
+  operands-none k h = rw (List·getD-eq-default kinds kNone h)
 
 y-var : (a : ℕ) → sameVar Y (varOf a) ≡ not (eqb a 0)
 y-var zero = refl
@@ -32,9 +36,6 @@ abbrev freeTests : (ℕ → Bool) → ℕ → ℕ → List Bool
 freeTests f a b =
     not (eqb a 0) ∷ (not (eqb a 0) || not (eqb b 0)) ∷ not (eqb a 0) ∷ f a ∷ (f a || f b) ∷ (f a || f b) ∷ (f a && eqb b 0) ∷ (f a && eqb b 0)
     ∷ (not (eqb (b / 2) 0) || not (eqb (b % 2) 0)) ∷ []
-
-abbrev kinds : List NodeKind
-kinds = kBIT ∷ kR ∷ kE ∷ kNOT ∷ kAND ∷ kOR ∷ kSOME ∷ kALL ∷ kTC ∷ []
 
 module _ (mask a b : ℕ) (operand : ℕ → Formula) (marks : (j : ℕ) → bitOf mask j ≡ free Y (operand j)) where
   abbrev says : NodeKind → Bool

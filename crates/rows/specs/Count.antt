@@ -2,11 +2,11 @@
 use mathlib.Core.Path.{_≡_}
 use mathlib.Core.List.{[], _∷_}
 use mathlib.Core.Option.{none}
-use Prim.Native.Nat.{_≤_}
+use Prim.Native.Nat.{_*_, _≤_}
 use native.Mathlib.Omega.{arith}
 use lib.ListN.{length}
 use Rattle.records.specs.Lists.{keep}
-use Rattle.records.specs.Record.{Net, mostRecords, ofKind}
+use Rattle.records.specs.Record.{Net, mostRecords, mostRules, mostPolicies, mostNodes, ofKind}
 use Rattle.records.specs.Widths.{widthsOf}
 use Rattle.records.specs.Policy.{policyCount, longestOf, longest}
 use Rattle.rows.specs.Refusal.{fileRow}
@@ -27,24 +27,24 @@ misses-bound [] e = omega arith
 misses-bound (r ∷ rest) e = kind-3 r rest e
 
 -- at most 256 rules
-pub rules-bound : (net : Net) → fileRow [] net ≡ none → length (ofKind 4 net) ≤ 256
+pub rules-bound : (net : Net) → fileRow [] net ≡ none → length (ofKind 4 net) ≤ mostRules
 unfolding ofKind keep
 rules-bound [] e = omega arith
 rules-bound (r ∷ rest) e = kind-4 r rest e
 
 -- at most 256 nodes, 32 for each of 8 policies
-pub nodes-bound : (net : Net) → fileRow [] net ≡ none → length (ofKind 5 net) ≤ 256
+pub nodes-bound : (net : Net) → fileRow [] net ≡ none → length (ofKind 5 net) ≤ mostPolicies * mostNodes
 unfolding ofKind keep
 nodes-bound [] e = omega arith
 nodes-bound (r ∷ rest) e = kind-5 r rest e
 
 -- at most 8 policies, the longest of at most 32 nodes
-pub policies-bound : (net : Net) → fileRow [] net ≡ none → policyCount net ≤ 8
+pub policies-bound : (net : Net) → fileRow [] net ≡ none → policyCount net ≤ mostPolicies
 unfolding policyCount
 policies-bound [] e = omega arith
 policies-bound (r ∷ rest) e = few-policies r rest e
 
-pub longest-bound : (net : Net) → fileRow [] net ≡ none → longest net ≤ 32
+pub longest-bound : (net : Net) → fileRow [] net ≡ none → longest net ≤ mostNodes
 unfolding longest longestOf policyCount
 longest-bound [] e = omega arith
 longest-bound (r ∷ rest) e = longest-policy r rest e

@@ -6,5 +6,5 @@ use Rattle.rows.specs.declared.rules.Found.the-variants.{At, Nothing}
 use Rattle.records.specs.Search.{firstAt}
 
 -- the place of the same rule as c among the records
-unfoldable pub found : Rec → Net → Found
-found c net = cond (present c net) (At (firstAt (sameRule c) net)) Nothing
+unfoldable pub foundRule : Rec → Net → Found
+foundRule c net = cond (present c net) (At (firstAt (sameRule c) net)) Nothing

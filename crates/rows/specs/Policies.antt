@@ -44,6 +44,6 @@ unfoldable pub nodeRow : Net → Rec → Net → Refusal
 nodeRow before r after = orElse (row (row9 before r after) 9 (length before)) (row (row10 before r) 10 (length before))
 
 -- what adding a node answers: the lower of rows 9 and 10 that it meets, or what is known of the policies after it
-abbrev pub Added : Net → Rec → Net → Entry → Type 0
-Added before r after (Row k) = nodeRow before r after ≡ some (k, length before)
-Added before r after (Node s) = (nodeRow before r after ≡ none) × PoliciesOf (before ++ (r ∷ [])) s
+abbrev pub NodeAnswered : Net → Rec → Net → Entry → Type 0
+NodeAnswered before r after (Row k) = nodeRow before r after ≡ some (k, length before)
+NodeAnswered before r after (Node s) = (nodeRow before r after ≡ none) × PoliciesOf (before ++ (r ∷ [])) s

@@ -5,10 +5,10 @@ use mathlib.Core.List.{List, [], _∷_, _++_}
 use Prim.Native.Nat.{ℕ, suc, _+_, _-_, _*_, _^_}
 use lib.Dec.{eqb, leb, ltb}
 use lib.ListN.{length, getD}
-use Rattle.records.specs.Record.{Rec, Net, mostRecords, storeBytes, at, kind, ofKind, present, linked}
+use Rattle.records.specs.Record.{Rec, Net, mostRecords, storeBytes, at, kind, ofKind, present, linked, mostRules, mostPolicies, mostNodes}
 use Rattle.records.specs.Widths.{planeBytes, withinLimits, widthsOf}
 use Rattle.records.specs.State.{ordinary}
-use Rattle.records.specs.Policy.{Y, nodesOf, policyCount, formula, longest, free}
+use Rattle.records.specs.Policy.{Y, nodesOf, policyCount, formula, longest, free, NodeKind, kBIT, kR, kE, kNOT, kAND, kOR, kSOME, kALL, kTC, kNone, nodeKind}
 use Rattle.records.specs.Fields.{fieldsGood, commandGood}
 
 -- row 1: n is 0 or above 641
@@ -44,7 +44,7 @@ row6 before r =
     || linked before (at r 1) (at r 2) || linked before (at r 3) (at r 4)
     || (eqb (at r 1) (at r 3) && eqb (at r 2) (at r 4)))
 
--- the records have no miss for some switch
+-- there are fewer misses than switches; row 7 has each miss be that of the next switch, so that some switch then has none
 unfoldable pub missesIncomplete : Net → Bool
 missesIncomplete net = ltb (length (ofKind 3 net)) (2 ^ widthsOf net .w)
 
@@ -56,12 +56,22 @@ row7 before r = (eqb (kind r) 3 && not (eqb (at r 1) (length (ofKind 3 before)))
 unfoldable pub row8 : Net → Rec → Bool
 row8 before r = eqb (kind r) 4 && present r before
 
--- the operands of a node that is number i of its policy are earlier ones
+-- the operands of a node of each kind are earlier ones than number i of its policy
+abbrev pub operandsEarlier : NodeKind → ℕ → ℕ → ℕ → Bool
+operandsEarlier kBIT a b i = true
+operandsEarlier kR a b i = true
+operandsEarlier kE a b i = true
+operandsEarlier kNOT a b i = ltb a i
+operandsEarlier kAND a b i = ltb a i && ltb b i
+operandsEarlier kOR a b i = ltb a i && ltb b i
+operandsEarlier kSOME a b i = ltb a i
+operandsEarlier kALL a b i = ltb a i
+operandsEarlier kTC a b i = ltb a i
+operandsEarlier kNone a b i = false
+
+-- the operands of a node whose byte 2 is k
 unfoldable pub operandsGood : ℕ → ℕ → ℕ → ℕ → Bool
-operandsGood k a b i =
-    let first = ltb a i in
-    let both = first && ltb b i in
-    getD (true ∷ true ∷ true ∷ first ∷ both ∷ both ∷ first ∷ first ∷ first ∷ []) k false
+operandsGood k a b i = operandsEarlier (nodeKind k) a b i
 
 -- the next record is not kind 5 with the same byte 1
 unfoldable pub endsPolicy : Rec → Net → Bool
@@ -83,8 +93,8 @@ row9 before r after =
 -- row 10: 257th rule, ninth policy, 33rd node
 unfoldable pub row10 : Net → Rec → Bool
 row10 before r =
-    (eqb (kind r) 4 && leb 256 (length (ofKind 4 before)))
-    || (eqb (kind r) 5 && (leb 8 (at r 1) || leb 32 (length (nodesOf (at r 1) before))))
+    (eqb (kind r) 4 && leb mostRules (length (ofKind 4 before)))
+    || (eqb (kind r) 5 && (leb mostPolicies (at r 1) || leb mostNodes (length (nodesOf (at r 1) before))))
 
 -- the work that a verdict needs: a plane for each node of the longest policy, and two more
 unfoldable pub workNeeded : Net → ℕ
@@ -100,4 +110,4 @@ row12 net c = not (eqb (length c) 24) || ltb (kind c) 6 || ltb 8 (kind c) || not
 
 -- row 13: add of a new rule with 256 present
 unfoldable pub row13 : Net → Rec → Bool
-row13 net c = eqb (kind c) 6 && not (present c net) && leb 256 (length (ofKind 4 net))
+row13 net c = eqb (kind c) 6 && not (present c net) && leb mostRules (length (ofKind 4 net))

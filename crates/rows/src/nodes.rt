@@ -6,11 +6,11 @@ ghost use Prim.Native.Nat.{ℕ, _*_, _^_, _≤_, _<_, max};
 ghost use lib.Bits.{bitOr};
 ghost use lib.ListN.{length};
 ghost use Rattle.planes.specs.Bit.{bitOf};
-ghost use Rattle.records.specs.Record.{Rec, Net, at, kind, records};
+ghost use Rattle.records.specs.Record.{Rec, Net, mostNodes, at, kind, records};
 ghost use Rattle.records.specs.Policy.{Formula, Y, nodeKind, nodeSays, free};
 ghost use Rattle.rows.specs.Rows.{operandsGood, endsPolicy, freeAt};
 ghost use Rattle.records.specs.Search.{recordsAfter};
-ghost use Rattle.rows.specs.Policies.{PoliciesOf, follows, Entered, Added};
+ghost use Rattle.rows.specs.Policies.{PoliciesOf, follows, Entered, NodeAnswered};
 
 // What is known of the policies of the records before: how many there are, the nodes of the last one, those of them in which
 // Y is free as bits, and the nodes of the longest.
@@ -40,7 +40,7 @@ impl Policies {
 
     // With one node more of the policy that was entered; y says whether Y is free in it.
     fn with_node(self, y: bool) -> Policies
-        requires { ⌜ self .nodes < 32 ⌝ }
+        requires { ⌜ self .nodes < mostNodes ⌝ }
         ensures { λ r. ⌜ ((before : Net) (x : Rec) → kind x ≡ 5 → Entered before (at x 1) self → y ≡ freeAt before x → PoliciesOf (before ++ (x ∷ [])) r) ⌝ }
     {
         let nodes = self.nodes;
@@ -187,7 +187,7 @@ fn ends_with(store: &[u8], n: usize, i: usize, r: &[u8], y: bool) -> bool
 // The policies with the node r, number i of n records, or the lower of rows 9 and 10 that it meets.
 pub fn add_node(store: &[u8], n: usize, i: usize, r: &[u8], known: Policies) -> Entry
     requires { ⌜ (n * 24 ≤ length (now store)) × (i < n) × (length (now r) ≡ 24) × (kind (now r) ≡ 5) ⌝ }
-    ensures { λ e. ⌜ ((before : Net) → PoliciesOf before known → Added before (now (r .entry)) (recordsAfter n (now (store .entry)) i) e) ⌝ }
+    ensures { λ e. ⌜ ((before : Net) → PoliciesOf before known → NodeAnswered before (now (r .entry)) (recordsAfter n (now (store .entry)) i) e) ⌝ }
 {
     let p = r[1];
     let k = r[2];
@@ -205,10 +205,10 @@ pub fn add_node(store: &[u8], n: usize, i: usize, r: &[u8], known: Policies) -> 
     if ends_with(store, n, i, r, y) {
         return Entry::Row(9);
     }
-    if 8 <= p {
+    if records::MOST_POLICIES <= p {
         return Entry::Row(10);
     }
-    if 32 <= nodes {
+    if records::MOST_NODES <= nodes {
         return Entry::Row(10);
     }
     Entry::Node(here.with_node(y))

@@ -5,7 +5,7 @@ use mathlib.Core.List.{[]}
 use mathlib.Core.Option.{none, some}
 use Prim.Native.Nat.{ℕ, _+_, _-_, _*_, _^_, _≤_, _<_}
 use lib.ListN.{length, take, drop}
-use Rattle.records.specs.Record.{Net, ofKind}
+use Rattle.records.specs.Record.{Net, mostRules, mostPolicies, mostNodes, ofKind}
 use Rattle.records.specs.Widths.{withinLimits, widthsOf}
 use Rattle.records.specs.Policy.{policyCount, longest}
 use Rattle.rows.specs.Refusal.{Refusal, fileRow}
@@ -24,21 +24,21 @@ pub record LayoutOf (net : Net) (l : Layout) : Type 0 where
   pub nodes : ofKind 5 net ≡ drop (l .nodes) net
   pub some-widths : 1 ≤ l .misses
   pub switches : l .rules ≡ l .misses + 2 ^ l .widths .w
-  pub few-rules : (l .rules ≤ l .nodes) × (l .nodes ≤ l .rules + 256)
+  pub few-rules : (l .rules ≤ l .nodes) × (l .nodes ≤ l .rules + mostRules)
   pub within : l .nodes ≤ length net
   pub policies : l .policies ≡ policyCount net
-  pub few-policies : l .policies ≤ 8
+  pub few-policies : l .policies ≤ mostPolicies
   pub longest : l .longest ≡ longest net
-  pub few-nodes : l .longest ≤ 32
+  pub few-nodes : l .longest ≤ mostNodes
 
 -- the number and the place of a refusal; none where the network is clean
-abbrev pub refusalOf : Reading → Refusal
-refusalOf (Clean l) = none
-refusalOf (Refused number place) = some (number, place)
+abbrev pub readingRefusal : Reading → Refusal
+readingRefusal (Clean l) = none
+readingRefusal (Refused number place) = some (number, place)
 
 -- reading a network answers the refusal given, or where its parts stand
 pub record Read (net : Net) (refusal : Refusal) (r : Reading) : Type 0 where
-  pub answer : refusalOf r ≡ refusal
+  pub answer : readingRefusal r ≡ refusal
   pub layout : (l : Layout) → r ≡ Clean l → LayoutOf net l
 
 -- the layout by the number of records of each kind
@@ -52,7 +52,7 @@ pub record Counted (net : Net) (l : Layout) : Type 0 where
 
 -- what the end of the records answers: row 7, or the layout by numbers
 pub record Ended (net : Net) (r : Reading) : Type 0 where
-  pub answer : refusalOf r ≡ fileRow net []
+  pub answer : readingRefusal r ≡ fileRow net []
   pub layout : (l : Layout) → r ≡ Clean l → Counted net l
 
 -- the numbers of a scan over n records of a store are small

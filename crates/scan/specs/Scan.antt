@@ -50,7 +50,7 @@ Turned before r after (Stop k) = recordRow before r after ≡ some (k, length be
 Turned before r after (Next s) = (recordRow before r after ≡ none) × SeenOf (before ++ (r ∷ [])) s
 
 -- what a turn at record r is given, after the first i records of a store
-pub record Ready (store : List ℕ) (i : ℕ) (r : Rec) (s : Seen) : Type 0 where
+pub record BeforeTurn (store : List ℕ) (i : ℕ) (r : Rec) (s : Seen) : Type 0 where
   pub stored : i * 24 ≤ length store
   pub whole : length r ≡ 24
   pub seen : SeenOf (records i store) s

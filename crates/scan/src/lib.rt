@@ -2,14 +2,13 @@
 ghost use mathlib.Core.Path.{_≡_};
 ghost use mathlib.Core.Bool.{true};
 ghost use mathlib.Core.List.{[]};
-ghost use Prim.Native.Nat.{_*_, _≤_};
+ghost use Prim.Native.Nat.{_+_, _*_, _≤_};
 ghost use lib.ListN.{length};
-ghost use Rattle.records.specs.Record.{Net, records};
-ghost use Rattle.records.specs.Widths.{withinLimits};
-ghost use Rattle.rows.specs.Rows.{workNeeded};
+ghost use Rattle.records.specs.Record.{Net, mostNodes, records};
+ghost use Rattle.records.specs.Widths.{planeBytes, withinLimits};
 ghost use Rattle.rows.specs.Refusal.{fileRow, checkRefusal};
 ghost use Rattle.scan.specs.Scan.{SeenOf};
-ghost use Rattle.scan.specs.Layout.{LayoutOf, Bounded, Ended, Read};
+ghost use Rattle.scan.specs.Layout.{Bounded, Ended, Read};
 use records::Widths;
 use rows::nodes::Policies;
 use turns::Seen;
@@ -101,10 +100,10 @@ pub fn scan(store: &[u8], n: usize) -> Reading
     end(s, n)
 }
 
-// The work that a verdict needs.
+// The work that a verdict needs: a plane for each node of the longest policy, and two more.
 pub fn work_needed(l: Layout) -> usize
-    requires { ⌜ (withinLimits (l .widths) ≡ true) × (l .longest ≤ 32) ⌝ }
-    ensures { λ r. ⌜ ((net : Net) → LayoutOf net l → r ≡ workNeeded net) ⌝ }
+    requires { ⌜ (withinLimits (l .widths) ≡ true) × (l .longest ≤ mostNodes) ⌝ }
+    ensures { λ r. ⌜ r ≡ (l .longest + 2) * planeBytes (l .widths) ⌝ }
 {
     let widths = l.widths;
     (l.longest + 2) * widths.plane_bytes()
@@ -120,13 +119,13 @@ pub fn check_rows(store: &[u8], n: usize, work: usize) -> Reading
             place: 0,
         };
     }
-    if 641 < n {
+    if records::MOST_RECORDS < n {
         return Reading::Refused {
             number: 1,
             place: 0,
         };
     }
-    if store.len() < 15384 {
+    if store.len() < records::STORE_BYTES {
         return Reading::Refused {
             number: 2,
             place: 0,

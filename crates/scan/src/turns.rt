@@ -5,7 +5,7 @@ ghost use lib.Dec.{ltb};
 ghost use lib.ListN.{length};
 ghost use Rattle.records.specs.Record.{Net, kind, records};
 ghost use Rattle.records.specs.Search.{recordAt, recordsAfter};
-ghost use Rattle.scan.specs.Scan.{SeenOf, Limited, Formed, Turned, Ready};
+ghost use Rattle.scan.specs.Scan.{SeenOf, Limited, Formed, Turned, BeforeTurn};
 use records::Widths;
 use records::fields;
 use rows::links;
@@ -83,7 +83,7 @@ pub fn incomplete(misses: usize, w: u8) -> bool
 
 // A link, after the first i records.
 fn link_turn(store: &[u8], i: usize, r: &[u8], s: Seen) -> Turn
-    requires { ⌜ Ready (now store) i (now r) s × (kind (now r) ≡ 2) ⌝ }
+    requires { ⌜ BeforeTurn (now store) i (now r) s × (kind (now r) ≡ 2) ⌝ }
     ensures { λ t. ⌜ ((after : Net) → Turned (records i (now (store .entry))) (now (r .entry)) after t) ⌝ }
 {
     let row = form_row(r, s);
@@ -122,7 +122,7 @@ fn miss_turn(r: &[u8], s: Seen) -> Turn
 
 // A rule, after the first i records.
 fn rule_turn(store: &[u8], i: usize, r: &[u8], s: Seen) -> Turn
-    requires { ⌜ Ready (now store) i (now r) s × (kind (now r) ≡ 4) ⌝ }
+    requires { ⌜ BeforeTurn (now store) i (now r) s × (kind (now r) ≡ 4) ⌝ }
     ensures { λ t. ⌜ ((after : Net) → Turned (records i (now (store .entry))) (now (r .entry)) after t) ⌝ }
 {
     let row = form_row(r, s);
@@ -137,7 +137,7 @@ fn rule_turn(store: &[u8], i: usize, r: &[u8], s: Seen) -> Turn
     if rules::is_present(store, i, r) {
         return Turn::Stop(8);
     }
-    if 256 <= rules {
+    if records::MOST_RULES <= rules {
         return Turn::Stop(10);
     }
     let mut next = s;
@@ -148,7 +148,7 @@ fn rule_turn(store: &[u8], i: usize, r: &[u8], s: Seen) -> Turn
 
 // A policy node, number i of n records.
 fn node_turn(store: &[u8], n: usize, i: usize, r: &[u8], s: Seen) -> Turn
-    requires { ⌜ Ready (now store) i (now r) s × (kind (now r) ≡ 5) ⌝ }
+    requires { ⌜ BeforeTurn (now store) i (now r) s × (kind (now r) ≡ 5) ⌝ }
     requires { ⌜ (n * 24 ≤ length (now store)) × (i < n) ⌝ }
     ensures { λ t. ⌜ Turned (records i (now (store .entry))) (now (r .entry)) (recordsAfter n (now (store .entry)) i) t ⌝ }
 {

@@ -9,7 +9,7 @@ use Rattle.calls.specs.Answer.{CheckAnswer, CommandAnswer, forwarded, blocked}
 use Rattle.commands.specs.Apply.{applied}
 use Rattle.calls.specs.Check.{checkAnswer}
 use Rattle.calls.specs.Reference.{Installed, network, answers, installed}
-use Rattle.calls.specs.Command.{Call, found, Promised}
+use Rattle.calls.specs.Command.{Call, startOf, Promised}
 
 -- the count last answered as forwarded
 abbrev pub countAfter : ℕ → CommandAnswer → ℕ
@@ -22,7 +22,7 @@ pub data Series : Installed → List Call → Installed → Type 0 where
   end : {i : Installed} → Series i [] i
   next : {cs : List Call} {i : Installed} (c : Call) → Promised c
       → Series (record { count = countAfter (c .count) (c .answer); bytes = c .store-after }) cs i
-      → Series (found c) (c ∷ cs) i
+      → Series (startOf c) (c ∷ cs) i
 
 -- the check call said that it holds, with some length of work
 abbrev pub SaidToHold : Installed → Type 0
@@ -45,7 +45,7 @@ forwardedApplied (c ∷ cs) net = forwardedApplied cs (ifForwarded (c .answer) (
 
 -- the network that a call's command would leave
 abbrev pub left : Call → Net
-left c = applied (c .given) (network (found c))
+left c = applied (c .given) (network (startOf c))
 
 -- the call was refused by no row
 abbrev pub NotRefused : Call → Type 0

@@ -11,7 +11,7 @@ use Rattle.verdict.specs.Verdict.{Verdict, holds, violated}
 use Rattle.calls.specs.Answer.{CheckAnswer}
 use Rattle.commands.specs.Apply.{applied}
 use Rattle.calls.specs.Check.{checkAnswer}
-use Rattle.calls.specs.Reference.{Installed, network, judged, step, installed}
+use Rattle.calls.specs.Reference.{Installed, network, judged, outcomeOf, installed}
 use Rattle.commands.specs.NeverStuck.{GoesOn, never-stuck}
 use Rattle.calls.specs.Laws.Store.{holds-passes, arguments, arguments-pass, installed-whole, stored-long, stored-records}
 
@@ -49,19 +49,19 @@ unfolding commandRefusal
 row-passed i c work e = neither (checkRefusal (i .bytes) (i .count) work) (commandRow (network i) c) e .1
 
 -- so it is again after one command, whatever the command and its work
-pub step-sound : (i : Installed) (c : Rec) (work : ℕ) → Sound i → Sound (step i c work .after)
-unfolding step
-step-sound i c work s = go (commandRefusal (i .bytes) (i .count) work c) refl
+pub outcome-sound : (i : Installed) (c : Rec) (work : ℕ) → Sound i → Sound (outcomeOf i c work .after)
+unfolding outcomeOf
+outcome-sound i c work s = go (commandRefusal (i .bytes) (i .count) work c) refl
   where
-    go : (f : Refusal) → commandRefusal (i .bytes) (i .count) work c ≡ f → Sound (step i c work .after)
-    go none q = rw (q, step) (judged-sound i c _ s (row-passed i c work q))
-    go (some f) q = rw (q, step) s
+    go : (f : Refusal) → commandRefusal (i .bytes) (i .count) work c ≡ f → Sound (outcomeOf i c work .after)
+    go none q = rw (q, outcomeOf) (judged-sound i c _ s (row-passed i c work q))
+    go (some f) q = rw (q, outcomeOf) s
 
 -- and after every series
 pub series-sound : (cs : List (Rec × ℕ)) (i : Installed) → Sound i → Sound (installed i cs)
 unfolding installed
 series-sound [] i s = s
-series-sound (c ∷ cs) i s = series-sound cs (step i (c .0) (c .1) .after) (step-sound i (c .0) (c .1) s)
+series-sound (c ∷ cs) i s = series-sound cs (outcomeOf i (c .0) (c .1) .after) (outcome-sound i (c .0) (c .1) s)
 
 -- what refuses a command is then row 11, 12 or 13
 pub refused-late : (i : Installed) (c : Rec) (work : ℕ) → Sound i

@@ -10,15 +10,15 @@ use lib.ListN.{length, getD}
 use Rattle.planes.specs.Bit.{bitOf}
 use Rattle.planes.specs.Laws.Tests.{not-both}
 use Rattle.closure.specs.Walk.{Walk}
-use Rattle.closure.specs.Computed.{cell, orRow, addRow, round, rounds, tab, grid, closed}
+use Rattle.closure.specs.Computed.{gridTest, orLine, addLine, round, rounds, tab, grid, closed}
 use Rattle.records.specs.Lists.{keep, any, all, member, sameNumbers, from}
-use Rattle.records.specs.Record.{Net, records, flat, ofKind, priority, sameRule, present, endsAt, linked}
+use Rattle.records.specs.Record.{Net, recordKind, commandKind, records, flat, ofKind, priority, sameRule, present, endsAt, linked}
 use Rattle.records.specs.Widths.{states, planeBytes, withinLimits, widthsOf}
 use Rattle.records.specs.State.{state, headerOf, portOf, switchOf, directionOf, ordinary}
 use Rattle.records.specs.Pattern.{ternary, matches, putBits, patternGood}
 use Rattle.records.specs.Policy.{X, Y, R, TC, nodeKind, nodeSays, firstNodes, formula, nodesOf, policyCount, forbidden, longestOf, longest, free}
 use Rattle.rows.specs.Rows.{row1, row2, row3, row4, row5, row6, row7, row8, row9, row10, row11, row12, row13, missesIncomplete, operandsGood, endsPolicy, freeAt, workNeeded}
-use Rattle.records.specs.Fields.{zeros, pointGood, actionOf, actionGood, actionsGood, matchGood, nodeGood, fieldsGood, commandGood}
+use Rattle.records.specs.Fields.{zeros, pointGood, actionBytesGood, actionGood, actionsGood, matchGood, nodeGood, fieldsGood, commandGood}
 use Rattle.rows.specs.Refusal.{recordRow, fileRow, argumentsRow, networkRow, checkRefusal, commandRow, commandRefusal}
 use Rattle.actions.specs.Chosen.{ruleMatches, outranked, best, orMiss, chosen}
 use Rattle.actions.specs.Actions.{reached, copies, sent}
@@ -32,12 +32,12 @@ use Rattle.truth.specs.Laws.Tables.{truth-iff, all-iff}
 use Rattle.calls.specs.Answer.{CheckAnswer, CommandAnswer, forwarded, blocked}
 use Rattle.commands.specs.Apply.{asRule, withActions, changed, inserted, removed, added, applied}
 use Rattle.calls.specs.Check.{checkAnswer}
-use Rattle.calls.specs.Reference.{Installed, step, judged, stored}
+use Rattle.calls.specs.Reference.{Installed, outcomeOf, judged, stored}
 use Rattle.records.specs.NetK.{record24, node, A, B, policy0, K, inStore, addAny, addZero, addSet, addDrop, deleteAbsent, addD, deleteD}
 
 -- all that a starred case computes with
 unfoldable pub computing : Unit {0}
-unfolding flatMap bitOf cell orRow addRow round rounds tab grid closed keep any all member sameNumbers from records flat ofKind priority sameRule present endsAt linked states planeBytes withinLimits widthsOf state headerOf portOf switchOf directionOf ordinary ternary matches putBits patternGood nodeKind nodeSays firstNodes formula nodesOf policyCount forbidden longestOf longest free row1 row2 row3 row4 row5 row6 row7 row8 row9 row10 row11 row12 row13 zeros pointGood actionOf actionGood actionsGood matchGood nodeGood fieldsGood missesIncomplete operandsGood endsPolicy freeAt workNeeded commandGood recordRow fileRow argumentsRow networkRow checkRefusal commandRow commandRefusal ruleMatches outranked best orMiss chosen reached copies sent across next external tableOf anyBelow allBelow truth firstFrom lowestState verdictFrom judgement verdict asRule withActions changed inserted removed added applied checkAnswer step judged stored record24 node A B policy0 K inStore addAny addZero addSet addDrop deleteAbsent addD deleteD
+unfolding flatMap bitOf gridTest orLine addLine round rounds tab grid closed keep any all member sameNumbers from recordKind commandKind records flat ofKind priority sameRule present endsAt linked states planeBytes withinLimits widthsOf state headerOf portOf switchOf directionOf ordinary ternary matches putBits patternGood nodeKind nodeSays firstNodes formula nodesOf policyCount forbidden longestOf longest free row1 row2 row3 row4 row5 row6 row7 row8 row9 row10 row11 row12 row13 zeros pointGood actionBytesGood actionGood actionsGood matchGood nodeGood fieldsGood missesIncomplete operandsGood endsPolicy freeAt workNeeded commandGood recordRow fileRow argumentsRow networkRow checkRefusal commandRow commandRefusal ruleMatches outranked best orMiss chosen reached copies sent across next external tableOf anyBelow allBelow truth firstFrom lowestState verdictFrom judgement verdict asRule withActions changed inserted removed added applied checkAnswer outcomeOf judged stored record24 node A B policy0 K inStore addAny addZero addSet addDrop deleteAbsent addD deleteD
 computing = tt
 
 -- the network with the first add's rule and D in the file
@@ -62,13 +62,13 @@ pub data Case : Type 0 where
 -- the ten starred cases, in their order, with 2,048 bytes of work
 starred :
     checked (checkAnswer (inStore K) 20 2048)
-    ∷ commanded (step (given K) addAny 2048 .answer)
-    ∷ commanded (step (given K) addZero 2048 .answer)
-    ∷ commanded (step (given K) addSet 2048 .answer)
-    ∷ commanded (step (given K) addDrop 2048 .answer)
-    ∷ commanded (step (given K) deleteAbsent 2048 .answer)
+    ∷ commanded (outcomeOf (given K) addAny 2048 .answer)
+    ∷ commanded (outcomeOf (given K) addZero 2048 .answer)
+    ∷ commanded (outcomeOf (given K) addSet 2048 .answer)
+    ∷ commanded (outcomeOf (given K) addDrop 2048 .answer)
+    ∷ commanded (outcomeOf (given K) deleteAbsent 2048 .answer)
     ∷ checked (checkAnswer (inStore KD) 22 2048)
-    ∷ commanded (step (given KD) deleteD 2048 .answer)
+    ∷ commanded (outcomeOf (given KD) deleteD 2048 .answer)
     ∷ listed (let reaches = truth (tableOf K) (formula policy0 5) in those 32 0 (λ t. reaches 2 t))
     ∷ listed (let loops = truth (tableOf K) (TC (formula policy0 4) Y Y) in those 32 0 (λ y. loops 0 y))
     ∷ []

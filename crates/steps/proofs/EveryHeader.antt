@@ -12,7 +12,7 @@ use Rattle.records.specs.State.{state}
 use Rattle.records.specs.Widths.{states, withinLimits}
 use Rattle.records.specs.declared.Widths.{Widths}
 use Rattle.steps.specs.Step.{across}
-use Rattle.actions.specs.Lines.{rowBytes, Adds}
+use Rattle.actions.specs.Lines.{lineBytes, Adds}
 use Rattle.steps.specs.Carried.{oneWay, pair, pairs, crosses}
 use Rattle.actions.specs.Laws.AddedBits.{adds-none, adds-as, adds-both}
 use Rattle.steps.proofs.HeaderByHeader.{below, hops-none, hops-more, hops-all}
@@ -21,12 +21,12 @@ use Rattle.steps.proofs.PlaneOfPairs.{plane-pairs}
 
 module _ (w : Widths) (limits : withinLimits w ≡ true) (base : ℕ) where
   abbrev size : ℕ
-  size = planeSize (rowBytes w)
+  size = planeSize (lineBytes w)
 
   -- one way
   module _ (a b c d : ℕ) (from : pointGood w a b ≡ true) (to : pointGood w c d ≡ true) where
     abbrev pub Carried : ℕ → List ℕ → List ℕ → Type 0
-    Carried h x y = Adds (pairs w (below w a b c d h)) base (planeSize (rowBytes w)) x y
+    Carried h x y = Adds (pairs w (below w a b c d h)) base (planeSize (lineBytes w)) x y
 
     is-pair : (n : ℕ) → n < size * 8 → n < states w * states w
     is-pair n h = omega (arith, plane-pairs w limits base)

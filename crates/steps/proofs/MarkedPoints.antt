@@ -6,8 +6,8 @@ use Prim.Native.Nat.{ℕ, _+_, _*_, _^_, _<_, _≤_}
 use lib.Dec.{eqb}
 use lib.ListN.{getD, replicate}
 use Rattle.planes.specs.Plane.{bit}
-use Rattle.planes.specs.Rows.{BitSet}
-use Rattle.planes.specs.Laws.Rows.{no-bit}
+use Rattle.planes.specs.Lines.{BitSet}
+use Rattle.planes.specs.Laws.Lines.{no-bit}
 use Rattle.records.specs.Lists.{any}
 use Rattle.records.specs.Record.{Net, records, endsAt, linked}
 use Rattle.records.specs.Laws.Parts.{part, part-none}

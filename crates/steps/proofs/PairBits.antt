@@ -7,7 +7,7 @@ use native.Mathlib.Nat.{div-lt-iff-lt-mul, mul-le-mul-left}
 use native.Mathlib.Omega.{arith}
 use lib.Dec.{eqb}
 use lib.Pow.{pow-pos, split, high, low}
-use Rattle.planes.specs.Laws.Places.{row-before}
+use Rattle.planes.specs.Laws.Places.{line-before}
 use Rattle.planes.specs.Laws.Tests.{same-test, and-both, both}
 use Rattle.records.specs.Widths.{width, states, withinLimits}
 use Rattle.records.specs.Laws.States.{few-states}
@@ -32,7 +32,7 @@ module _ (w : Widths) where
   pair-is s t x y n e f g = rw (e, f, g) refl
 
   pub pair-lt : (s t : ℕ) → s < states w → t < states w → pair w s t < states w * states w
-  pair-lt s t hs ht = omega (arith, row-before s (states w) (states w) hs)
+  pair-lt s t hs ht = omega (arith, line-before s (states w) (states w) hs)
 
   pub few-pairs : withinLimits w ≡ true → states w * states w ≤ 1048576
   few-pairs e = let l = few-states w e in omega (arith, mul-le-mul-left (states w) l)

@@ -1,4 +1,4 @@
--- A plane that is filled row by row, and to which pairs are added.
+-- A plane that is filled line by line, and to which pairs are added.
 use mathlib.Core.Path.{_≡_, sym, ap, ap₂, _∙_}
 use mathlib.Core.Bool.{Bool, true, _||_, or-false}
 use mathlib.Core.List.{List}
@@ -6,33 +6,33 @@ use Prim.Native.Nat.{ℕ, _+_, _*_, _<_}
 use native.Mathlib.Omega.{arith}
 use lib.ListN.{length}
 use Rattle.planes.specs.Plane.{bit, planeSize}
-use Rattle.planes.specs.Rows.{Cleared, Made}
-use Rattle.planes.specs.Laws.Places.{row-before}
-use Rattle.planes.specs.Laws.Rows.{cleared-bit}
+use Rattle.planes.specs.Lines.{Cleared, Made}
+use Rattle.planes.specs.Laws.Places.{line-before}
+use Rattle.planes.specs.Laws.Lines.{cleared-bit}
 use Rattle.planes.specs.Laws.Planes.{made-more}
 use Rattle.records.specs.Lists.{member}
 use Rattle.records.specs.Widths.{states, withinLimits}
 use Rattle.records.specs.Laws.States.{whole-bytes}
 use Rattle.records.specs.declared.Widths.{Widths}
-use Rattle.actions.specs.Lines.{rowBytes, Adds, Added}
-use Rattle.steps.specs.Filled.{Room}
+use Rattle.actions.specs.Lines.{lineBytes, Adds, Added}
+use Rattle.steps.specs.Filled.{PlaneRoom}
 use Rattle.steps.specs.Carried.{pair}
 
--- one more row, which was cleared
-pub row-more : (f : ℕ → List ℕ) (base w s : ℕ) (a b c d : List ℕ) → Made (λ x t. member t (f x)) w base s a b → Cleared (base + s * w) w b c → Added (f s) (base + s * w) w c d
+-- one more line, which was cleared
+pub line-more : (f : ℕ → List ℕ) (base w s : ℕ) (a b c d : List ℕ) → Made (λ x t. member t (f x)) w base s a b → Cleared (base + s * w) w b c → Added (f s) (base + s * w) w c d
     → Made (λ x t. member t (f x)) w base (s + 1) a d
-row-more f base w s a b c d M C A =
+line-more f base w s a b c d M C A =
     made-more (λ x t. member t (f x)) w base s a b d M (A .len ∙ C .len) (λ n h. A .under n h ∙ C .under n h) (λ n h. A .over n h ∙ C .over n h)
     (λ t h. A .bits t h ∙ ap (λ (x : Bool). member t (f s) || x) (cleared-bit (base + s * w) w b c C t h) ∙ or-false (member t (f s)))
 
 -- a plane has room in a buffer that is as long
-pub room-on : (w : Widths) (base : ℕ) (a b : List ℕ) → length b ≡ length a → Room w base a → Room w base b
+pub room-on : (w : Widths) (base : ℕ) (a b : List ℕ) → length b ≡ length a → PlaneRoom w base a → PlaneRoom w base b
 room-on w base a b e R = record { limits = R .limits; room = omega (arith, R .room) }
 
 -- pairs that are added to the plane
 module _ (w : Widths) (limits : withinLimits w ≡ true) (base : ℕ) where
   abbrev rb : ℕ
-  rb = rowBytes w
+  rb = lineBytes w
 
   place : (s t : ℕ) → (base + s * rb) * 8 + t ≡ base * 8 + pair w s t
   place s t =
@@ -43,7 +43,7 @@ module _ (w : Widths) (limits : withinLimits w ≡ true) (base : ℕ) where
   pair-in s t hs ht =
       let q : states w ≡ rb * 8 = whole-bytes w limits in
       let e : s * states w ≡ s * (rb * 8) = ap (λ (k : ℕ). s * k) q in
-      omega (arith, row-before s (rb * 8) rb (omega arith))
+      omega (arith, line-before s (rb * 8) rb (omega arith))
 
   pub plane-pairs : planeSize rb * 8 ≡ states w * states w
   plane-pairs =

@@ -14,13 +14,13 @@ ghost use mathlib.Core.Bool.{true};
 ghost use Prim.Native.Nat.{_+_, _≤_};
 ghost use lib.ListN.{length};
 ghost use Rattle.planes.specs.Plane.{planeSize};
-ghost use Rattle.planes.specs.Rows.{Made};
+ghost use Rattle.planes.specs.Lines.{Made};
 ghost use Rattle.records.specs.Lists.{member};
 ghost use Rattle.records.specs.Record.{Net, records};
 ghost use Rattle.records.specs.Widths.{states, withinLimits, widthsOf};
 ghost use Rattle.steps.specs.Step.{external};
 ghost use Rattle.actions.specs.ByPlace.{arrival};
-ghost use Rattle.actions.specs.Lines.{rowBytes, Added};
+ghost use Rattle.actions.specs.Lines.{lineBytes, Added};
 ghost use Rattle.steps.specs.Filled.{Filled};
 ghost use Rattle.actions.specs.Sent.{Sends};
 ghost use Rattle.steps.specs.Relayed.{relayed, relays};
@@ -30,10 +30,10 @@ ghost use Rattle.scan.specs.Stored.{Stored};
 pub mod links;
 
 // Adds what an arrival steps to.
-fn relay(work: &mut [u8], row: usize, store: &[u8], n: usize, l: Layout, sw: u8, p: u8, h: u8)
-    requires { ⌜ Sends (l .widths) row sw h (now work) ⌝ }
+fn relay(work: &mut [u8], line: usize, store: &[u8], n: usize, l: Layout, sw: u8, p: u8, h: u8)
+    requires { ⌜ Sends (l .widths) line sw h (now work) ⌝ }
     requires { ⌜ Stored n l (now store) ⌝ }
-    ensures { λ _. ⌜ Added (relayed (records n (now (store .entry))) (l .widths) (arrival sw p h)) row (rowBytes (l .widths)) (now (work .entry)) (now (work .exit)) ⌝ }
+    ensures { λ _. ⌜ Added (relayed (records n (now (store .entry))) (l .widths) (arrival sw p h)) line (lineBytes (l .widths)) (now (work .entry)) (now (work .exit)) ⌝ }
 {
     if p == 0 {
         return;
@@ -42,14 +42,14 @@ fn relay(work: &mut [u8], row: usize, store: &[u8], n: usize, l: Layout, sw: u8,
     let i = choose(store, n, l, sw, p, h);
     let a = i * 24 + 1;
     let e = a + 20;
-    run(work, row, w, sw, p, &store[a..e], h);
+    run(work, line, w, sw, p, &store[a..e], h);
 }
 
 // Adds the states that s steps to, if it arrives.
-fn relay_state(work: &mut [u8], row: usize, store: &[u8], n: usize, l: Layout, s: usize)
-    requires { ⌜ row + rowBytes (l .widths) ≤ length (now work) ⌝ }
+fn relay_state(work: &mut [u8], line: usize, store: &[u8], n: usize, l: Layout, s: usize)
+    requires { ⌜ line + lineBytes (l .widths) ≤ length (now work) ⌝ }
     requires { ⌜ Stored n l (now store) ⌝ }
-    ensures { λ _. ⌜ Added (relays (records n (now (store .entry))) (l .widths) s) row (rowBytes (l .widths)) (now (work .entry)) (now (work .exit)) ⌝ }
+    ensures { λ _. ⌜ Added (relays (records n (now (store .entry))) (l .widths) s) line (lineBytes (l .widths)) (now (work .entry)) (now (work .exit)) ⌝ }
 {
     let w = l.widths;
     if direction(w, s) != 0 {
@@ -57,7 +57,7 @@ fn relay_state(work: &mut [u8], row: usize, store: &[u8], n: usize, l: Layout, s
     }
     relay(
         work,
-        row,
+        line,
         store,
         n,
         l,
@@ -69,25 +69,25 @@ fn relay_state(work: &mut [u8], row: usize, store: &[u8], n: usize, l: Layout, s
 
 // Fills the plane at byte base with the steps of arriving states.
 fn fill_arriving(work: &mut [u8], base: usize, store: &[u8], n: usize, l: Layout)
-    requires { ⌜ base + planeSize (rowBytes (l .widths)) ≤ length (now work) ⌝ }
+    requires { ⌜ base + planeSize (lineBytes (l .widths)) ≤ length (now work) ⌝ }
     requires { ⌜ Stored n l (now store) ⌝ }
-    ensures { λ _. ⌜ Made (λ s t. member t (relays (records n (now (store .entry))) (l .widths) s)) (rowBytes (l .widths)) base (states (l .widths)) (now (work .entry)) (now (work .exit)) ⌝ }
+    ensures { λ _. ⌜ Made (λ s t. member t (relays (records n (now (store .entry))) (l .widths) s)) (lineBytes (l .widths)) base (states (l .widths)) (now (work .entry)) (now (work .exit)) ⌝ }
 {
     let w = l.widths;
     let states = w.states();
     let bytes = states / 8;
     let mut s: usize = 0;
     while s < states {
-        let row = base + s * bytes;
-        planes::clear(work, row, bytes);
-        relay_state(work, row, store, n, l, s);
+        let line = base + s * bytes;
+        planes::clear(work, line, bytes);
+        relay_state(work, line, store, n, l, s);
         s += 1;
     }
 }
 
 // Fills the plane at byte base with the step relation of the network in the store.
 pub fn fill_steps(work: &mut [u8], base: usize, store: &[u8], n: usize, l: Layout)
-    requires { ⌜ base + planeSize (rowBytes (l .widths)) ≤ length (now work) ⌝ }
+    requires { ⌜ base + planeSize (lineBytes (l .widths)) ≤ length (now work) ⌝ }
     requires { ⌜ Stored n l (now store) ⌝ }
     ensures { λ _. ⌜ Filled (records n (now (store .entry))) base (now (work .entry)) (now (work .exit)) ⌝ }
 {

@@ -11,23 +11,23 @@ ghost use Prim.Native.Nat.{_^_, _<_};
 ghost use lib.Dec.{eqb};
 ghost use lib.ListN.{length};
 ghost use Rattle.planes.specs.Plane.{planeSize};
-ghost use Rattle.planes.specs.Rows.{BitSet};
+ghost use Rattle.planes.specs.Lines.{BitSet};
 ghost use Rattle.records.specs.Record.{records, ofKind};
 ghost use Rattle.records.specs.Fields.{pointGood};
 ghost use Rattle.records.specs.State.{state};
 ghost use Rattle.records.specs.Widths.{withinLimits};
 ghost use Rattle.steps.specs.Step.{across};
 ghost use Rattle.actions.specs.ByPlace.{ofBody};
-ghost use Rattle.actions.specs.Lines.{rowBytes, Adds};
-ghost use Rattle.steps.specs.Filled.{Room};
+ghost use Rattle.actions.specs.Lines.{lineBytes, Adds};
+ghost use Rattle.steps.specs.Filled.{PlaneRoom};
 ghost use Rattle.steps.specs.Carried.{oneWay, Ends, pair, pairs, crosses, point, LinkedPoints};
 ghost use Rattle.scan.specs.Stored.{Stored};
 
 // Carries a frame with header h from the point (a, b) to the point (c, d).
 fn hop(work: &mut [u8], base: usize, w: Widths, a: u8, b: u8, c: u8, d: u8, h: u8)
-    requires { ⌜ Room w base (now work) ⌝ }
+    requires { ⌜ PlaneRoom w base (now work) ⌝ }
     requires { ⌜ (pointGood w a b ≡ true) × (pointGood w c d ≡ true) × (h < 2 ^ w .h) ⌝ }
-    ensures { λ _. ⌜ Adds (λ n. eqb n (pair w (state w 1 a b h) (state w 0 c d h))) base (planeSize (rowBytes w)) (now (work .entry)) (now (work .exit)) ⌝ }
+    ensures { λ _. ⌜ Adds (λ n. eqb n (pair w (state w 1 a b h) (state w 0 c d h))) base (planeSize (lineBytes w)) (now (work .entry)) (now (work .exit)) ⌝ }
 {
     let departs = number(w, 1, a, b, h);
     let arrives = number(w, 0, c, d, h);
@@ -36,9 +36,9 @@ fn hop(work: &mut [u8], base: usize, w: Widths, a: u8, b: u8, c: u8, d: u8, h: u
 
 // Carries the frames of every header from the point (a, b) to the point (c, d).
 fn carry(work: &mut [u8], base: usize, w: Widths, a: u8, b: u8, c: u8, d: u8)
-    requires { ⌜ Room w base (now work) ⌝ }
+    requires { ⌜ PlaneRoom w base (now work) ⌝ }
     requires { ⌜ (pointGood w a b ≡ true) × (pointGood w c d ≡ true) ⌝ }
-    ensures { λ _. ⌜ Adds (pairs w (crosses w (oneWay a b c d))) base (planeSize (rowBytes w)) (now (work .entry)) (now (work .exit)) ⌝ }
+    ensures { λ _. ⌜ Adds (pairs w (crosses w (oneWay a b c d))) base (planeSize (lineBytes w)) (now (work .entry)) (now (work .exit)) ⌝ }
 {
     let end = values(w.h);
     let mut h: u8 = 0;
@@ -50,9 +50,9 @@ fn carry(work: &mut [u8], base: usize, w: Widths, a: u8, b: u8, c: u8, d: u8)
 
 // Carries frames over a link, both ways.
 fn follow(work: &mut [u8], base: usize, w: Widths, link: &[u8])
-    requires { ⌜ Room w base (now work) ⌝ }
+    requires { ⌜ PlaneRoom w base (now work) ⌝ }
     requires { ⌜ (length (now link) ≡ 4) × Ends w (ofBody (now link)) ⌝ }
-    ensures { λ _. ⌜ Adds (pairs w (crosses w (λ sw p. across sw p (ofBody (now (link .entry)) ∷ [])))) base (planeSize (rowBytes w)) (now (work .entry)) (now (work .exit)) ⌝ }
+    ensures { λ _. ⌜ Adds (pairs w (crosses w (λ sw p. across sw p (ofBody (now (link .entry)) ∷ [])))) base (planeSize (lineBytes w)) (now (work .entry)) (now (work .exit)) ⌝ }
 {
     let a = link[0];
     let b = link[1];
@@ -64,9 +64,9 @@ fn follow(work: &mut [u8], base: usize, w: Widths, link: &[u8])
 
 // Carries frames over every link.
 pub fn cross(work: &mut [u8], base: usize, store: &[u8], n: usize, l: Layout)
-    requires { ⌜ Room (l .widths) base (now work) ⌝ }
+    requires { ⌜ PlaneRoom (l .widths) base (now work) ⌝ }
     requires { ⌜ Stored n l (now store) ⌝ }
-    ensures { λ _. ⌜ Adds (pairs (l .widths) (crosses (l .widths) (λ sw p. across sw p (ofKind 2 (records n (now (store .entry))))))) base (planeSize (rowBytes (l .widths))) (now (work .entry)) (now (work .exit)) ⌝ }
+    ensures { λ _. ⌜ Adds (pairs (l .widths) (crosses (l .widths) (λ sw p. across sw p (ofKind 2 (records n (now (store .entry))))))) base (planeSize (lineBytes (l .widths))) (now (work .entry)) (now (work .exit)) ⌝ }
 {
     let w = l.widths;
     let mut i: usize = 1;

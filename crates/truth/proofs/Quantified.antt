@@ -1,4 +1,4 @@
--- For all, and for some, over the bits of a byte and of a row.
+-- For all, and for some, over the bits of a byte and of a line.
 use mathlib.Core.Path.{_≡_, refl, sym, ap, ap₂, _∙_}
 use mathlib.Core.Bool.{Bool, true, false, not, _&&_, _||_}
 use mathlib.Core.List.{List}
@@ -129,7 +129,7 @@ module _ (o : Op) (h : Quantifies o) where
   units-over (suc n) g e =
       over-suc n g ∙ ap₂ (opBool o) (units-over n g (λ i l. e i (omega arith))) (e n (omega arith)) ∙ unit-unit o h
 
-  -- a row that is tested byte by byte
+  -- a line that is tested byte by byte
   pub bytes-none : (r : List ℕ) → over o 8 (bitOf (unitByte o)) ≡ over o 0 (bit r)
   bytes-none r = units-over 8 (bitOf (unitByte o)) (λ i l. full-bit (unit o) i l) ∙ sym (over-none (bit r))
 

@@ -9,7 +9,7 @@ use Rattle.records.specs.Record.{Net}
 use Rattle.records.specs.Widths.{states, widthsOf}
 use Rattle.records.specs.Policy.{Formula, absent, BIT, R, E, NOT, AND, OR, SOME, ALL, TC}
 use Rattle.steps.specs.Step.{next, external}
-use Rattle.closure.specs.Computed.{Grid, cell, tab, closed}
+use Rattle.closure.specs.Computed.{Grid, gridTest, tab, closed}
 use Rattle.truth.specs.Truth.{value, withX, withY}
 
 -- a model, tabulated
@@ -42,7 +42,7 @@ allBelow (suc k) f = elim (f k) [ true ↦ allBelow k f | false ↦ false ]
 unfoldable pub truth : Table → Formula → ℕ → ℕ → Bool
 truth t absent = λ x y. false
 truth t (BIT v i) = λ x y. bitOf (value v x y) i
-truth t (R u v) = λ x y. cell (t .steps) (value u x y) (value v x y)
+truth t (R u v) = λ x y. gridTest (t .steps) (value u x y) (value v x y)
 truth t (E v) = λ x y. getD (t .externals) (value v x y) false
 truth t (NOT f) = let a = truth t f in λ x y. not (a x y)
 truth t (AND f g) =
@@ -55,4 +55,4 @@ truth t (OR f g) =
     λ x y. elim (a x y) [ true ↦ true | false ↦ b x y ]
 truth t (SOME f v) = let a = truth t f in λ x y. anyBelow (t .count) (λ z. a (withX v z x) (withY v z y))
 truth t (ALL f v) = let a = truth t f in λ x y. allBelow (t .count) (λ z. a (withX v z x) (withY v z y))
-truth t (TC f u v) = let c = closed (t .count) (truth t f) in λ x y. cell c (value u x y) (value v x y)
+truth t (TC f u v) = let c = closed (t .count) (truth t f) in λ x y. gridTest c (value u x y) (value v x y)

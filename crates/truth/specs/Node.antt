@@ -12,7 +12,7 @@ use Rattle.truth.specs.Shapes.{Outside}
 
 -- where the plane of node k stands
 abbrev pub planeAt : ℕ → ℕ → ℕ
-planeAt w k = (k + 2) * planeSize w
+planeAt pitch k = (k + 2) * planeSize pitch
 
 -- the number of operands of a node: byte 3, or bytes 3 and 4
 abbrev pub arity : NodeKind → ℕ
@@ -31,27 +31,27 @@ arity kNone = 0
 abbrev pub Operand : NodeKind → ℕ → ℕ → ℕ → Type 0
 Operand kind a b j = ((0 < arity kind) × (j ≡ a)) ⊎ ((1 < arity kind) × (j ≡ b))
 
--- the model that a work buffer and a row of external states give: steps are the first plane
+-- the model that a work buffer and a line of external states give: steps are the first plane
 abbrev pub modelAt : ℕ → List ℕ → List ℕ → Model
-modelAt w ext work = record { count = w * 8; Steps = On work 0 w; External = λ s. bit ext s ≡ true }
+modelAt pitch ext work = record { count = pitch * 8; Steps = On work 0 pitch; External = λ s. bit ext s ≡ true }
 
 -- the plane at base is the truth of a formula
-pub record Shows (m : Model) (w base : ℕ) (work : List ℕ) (f : Formula) : Type 0 where
-  pub at : (x y : ℕ) → x < w * 8 → y < w * 8 → On work base w x y ↔ Truth m f x y
+pub record Shows (m : Model) (pitch base : ℕ) (work : List ℕ) (f : Formula) : Type 0 where
+  pub at : (x y : ℕ) → x < pitch * 8 → y < pitch * 8 → On work base pitch x y ↔ Truth m f x y
 
 -- there is room for the plane of node k, its operands are earlier nodes, and BIT names a bit of a number
-pub record Makeable (kind a b k w : ℕ) (work : List ℕ) : Type 0 where
+pub record Makeable (kind a b k pitch : ℕ) (work : List ℕ) : Type 0 where
   pub few : k < 32
-  pub small : w ≤ 128
-  pub within : planeAt w k + planeSize w ≤ length work
+  pub small : pitch ≤ 128
+  pub within : planeAt pitch k + planeSize pitch ≤ length work
   pub earlier : (j : ℕ) → Operand (nodeKind kind) a b j → j < k
   pub bits : kind ≡ 0 → b < 64
 
 -- the plane of node k is the truth of what the node says, where the planes of its operands are the truth of theirs;
 -- every byte outside of it and of the scratch plane is as before
-pub record NodeMade (kind a b k w : ℕ) (ext before after : List ℕ) : Type 0 where
+pub record NodeMade (kind a b k pitch : ℕ) (ext before after : List ℕ) : Type 0 where
   pub len : length after ≡ length before
   pub shows : (operand : ℕ → Formula)
-      → ((j : ℕ) → Operand (nodeKind kind) a b j → Shows (modelAt w ext before) w (planeAt w j) before (operand j))
-      → Shows (modelAt w ext before) w (planeAt w k) after (nodeSays (nodeKind kind) a b operand)
-  pub rest : (m : ℕ) → Outside w (planeAt w k) m → Outside w (planeSize w) m → getD after m 0 ≡ getD before m 0
+      → ((j : ℕ) → Operand (nodeKind kind) a b j → Shows (modelAt pitch ext before) pitch (planeAt pitch j) before (operand j))
+      → Shows (modelAt pitch ext before) pitch (planeAt pitch k) after (nodeSays (nodeKind kind) a b operand)
+  pub rest : (m : ℕ) → Outside pitch (planeAt pitch k) m → Outside pitch (planeSize pitch) m → getD after m 0 ≡ getD before m 0

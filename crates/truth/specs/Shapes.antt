@@ -1,4 +1,4 @@
--- What the functions on rows and planes leave. A row of 128 bytes tests each state below 1024; a plane of w * 8 states has w * 8 rows of w bytes.
+-- What the functions on lines and planes leave. A line of 128 bytes tests each state below 1024; a plane of pitch * 8 states has pitch * 8 lines of pitch bytes.
 use mathlib.Core.Path.{_≡_}
 use mathlib.Core.Bool.{Bool, true, false, not, _&&_, _||_}
 use mathlib.Core.List.{List}
@@ -60,13 +60,13 @@ abbrev pub weightIf : Bool → ℕ → ℕ
 weightIf true i = 2 ^ i
 weightIf false i = 0
 
--- the first n bits of a row are the tests f
-pub record Row (f : ℕ → Bool) (n : ℕ) (row : List ℕ) : Type 0 where
-  pub is : (y : ℕ) → y < n → bit row y ≡ f y
+-- the first n bits of a line are the tests f
+pub record Line (f : ℕ → Bool) (n : ℕ) (line : List ℕ) : Type 0 where
+  pub is : (y : ℕ) → y < n → bit line y ≡ f y
 
--- the first n bytes of a row are those of p and q, by an operation
-pub record Joined (o : Op) (p q row : List ℕ) (n : ℕ) : Type 0 where
-  pub is : (j : ℕ) → j < n → getD row j 0 ≡ opByte o (getD p j 0) (getD q j 0)
+-- the first n bytes of a line are those of p and q, by an operation
+pub record Joined (o : Op) (p q line : List ℕ) (n : ℕ) : Type 0 where
+  pub is : (j : ℕ) → j < n → getD line j 0 ≡ opByte o (getD p j 0) (getD q j 0)
 
 -- bit z is set where t is true; every other bit is as before
 pub record Pushed (z : ℕ) (t : Bool) (before after : List ℕ) : Type 0 where
@@ -74,20 +74,20 @@ pub record Pushed (z : ℕ) (t : Bool) (before after : List ℕ) : Type 0 where
   pub others : (m : ℕ) → (m ≡ z → ⊥) → bit after m ≡ bit before m
 
 -- there is a plane at byte base
-pub record Plane (bytes : List ℕ) (w base : ℕ) : Type 0 where
-  pub small : w ≤ 128
-  pub within : base + planeSize w ≤ length bytes
+pub record Plane (bytes : List ℕ) (pitch base : ℕ) : Type 0 where
+  pub small : pitch ≤ 128
+  pub within : base + planeSize pitch ≤ length bytes
 
 -- there is a plane at byte a, and it shares no byte with the one at base
-pub record Source (bytes : List ℕ) (w base a : ℕ) : Type 0 where
-  pub within : a + planeSize w ≤ length bytes
-  pub apart : (a + planeSize w ≤ base) ⊎ (base + planeSize w ≤ a)
+pub record Source (bytes : List ℕ) (pitch base a : ℕ) : Type 0 where
+  pub within : a + planeSize pitch ≤ length bytes
+  pub apart : (a + planeSize pitch ≤ base) ⊎ (base + planeSize pitch ≤ a)
 
--- the plane of a shape: two planes combined, the row of a variable, a plane with x and y exchanged
+-- the plane of a shape: two planes combined, the line of a variable, a plane with x and y exchanged
 abbrev pub shaped : Shape → List ℕ → List ℕ → ℕ → ℕ → ℕ → Bool
-shaped (Combined o a b) r bytes w x y = opBool o (cell bytes a w x y) (cell bytes b w x y)
-shaped (Filled v) r bytes w x y = bit r (value (varOf v) x y)
-shaped (Exchanged a) r bytes w x y = cell bytes a w y x
+shaped (Combined o a b) r bytes pitch x y = opBool o (cell bytes a pitch x y) (cell bytes b pitch x y)
+shaped (Filled v) r bytes pitch x y = bit r (value (varOf v) x y)
+shaped (Exchanged a) r bytes pitch x y = cell bytes a pitch y x
 
 -- each plane that a shape reads is as P says
 abbrev pub Reads : (ℕ → Type 0) → Shape → Type 0
@@ -97,18 +97,18 @@ Reads P (Exchanged a) = P a
 
 -- the plane at a with the variable v running over every state
 abbrev pub ranged : Op → Var → List ℕ → ℕ → ℕ → ℕ → ℕ → Bool
-ranged o v bytes a w x y = over o (w * 8) (λ z. cell bytes a w (withX v z x) (withY v z y))
+ranged o v bytes a pitch x y = over o (pitch * 8) (λ z. cell bytes a pitch (withX v z x) (withY v z y))
 
 -- the plane at a with the variables (u, v) for (X, Y)
 abbrev pub arranged : Var → Var → List ℕ → ℕ → ℕ → ℕ → ℕ → Bool
-arranged u v bytes a w x y = cell bytes a w (value u x y) (value v x y)
+arranged u v bytes a pitch x y = cell bytes a pitch (value u x y) (value v x y)
 
 -- a byte lies outside of the plane at base
 abbrev pub Outside : ℕ → ℕ → ℕ → Type 0
-Outside w base m = (m < base) ⊎ (base + planeSize w ≤ m)
+Outside pitch base m = (m < base) ⊎ (base + planeSize pitch ≤ m)
 
 -- the plane at base is the closure of the one at a before, arranged; every byte outside of it and of the plane at scratch is as before
-pub record Reaches (u v : Var) (w a scratch base : ℕ) (before after : List ℕ) : Type 0 where
+pub record Reaches (u v : Var) (pitch a scratch base : ℕ) (before after : List ℕ) : Type 0 where
   pub len : length after ≡ length before
-  pub here : (x y : ℕ) → x < w * 8 → y < w * 8 → On after base w x y ↔ Walk (w * 8) (On before a w) (value u x y) (value v x y)
-  pub rest : (m : ℕ) → Outside w base m → Outside w scratch m → getD after m 0 ≡ getD before m 0
+  pub here : (x y : ℕ) → x < pitch * 8 → y < pitch * 8 → On after base pitch x y ↔ Walk (pitch * 8) (On before a pitch) (value u x y) (value v x y)
+  pub rest : (m : ℕ) → Outside pitch base m → Outside pitch scratch m → getD after m 0 ≡ getD before m 0

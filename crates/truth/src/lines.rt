@@ -1,4 +1,4 @@
-// Rows of 128 bytes: a row tests each state below 1024.
+// Lines of 128 bytes: a line tests each state below 1024.
 ghost use mathlib.Core.Path.{_≡_};
 ghost use Prim.Native.Nat.{_*_, _/_, _≤_, _<_};
 ghost use lib.ListN.{length};
@@ -6,7 +6,7 @@ ghost use Rattle.planes.specs.Bit.{bitOf};
 ghost use Rattle.planes.specs.Plane.{bit};
 ghost use Rattle.records.specs.Policy.{varOf};
 ghost use Rattle.truth.specs.Truth.{value};
-ghost use Rattle.truth.specs.Shapes.{opByte, unitByte, over, Quantifies, weightIf, fullByte, Row, Joined, Pushed};
+ghost use Rattle.truth.specs.Shapes.{opByte, unitByte, over, Quantifies, weightIf, fullByte, Line, Joined, Pushed};
 
 // An operation on tests.
 pub enum Op {
@@ -26,7 +26,7 @@ pub fn byte_op(o: Op, a: u8, b: u8) -> u8
     }
 }
 
-// The operation on two rows.
+// The operation on two lines.
 pub fn join(o: Op, p: &[u8; 128], q: &[u8; 128]) -> [u8; 128]
     ensures { λ r. ⌜ Joined o (now (p .entry)) (now (q .entry)) r 128 ⌝ }
 {
@@ -46,10 +46,10 @@ fn full(t: bool) -> u8
     if t { 255 } else { 0 }
 }
 
-// Row x of the plane that tests the variable v as r does.
+// Line x of the plane that tests the variable v as r does.
 pub fn spread(r: [u8; 128], v: u8, x: usize) -> [u8; 128]
     requires { ⌜ x < 1024 ⌝ }
-    ensures { λ e. ⌜ Row (λ y. bit r (value (varOf v) x y)) 1024 e ⌝ }
+    ensures { λ e. ⌜ Line (λ y. bit r (value (varOf v) x y)) 1024 e ⌝ }
 {
     if v == 0 {
         let b = full(planes::get_bit(&r, x));
@@ -75,7 +75,7 @@ fn or_bit(r: &mut [u8], z: usize, t: bool)
     r[z / 8] = r[z / 8] | weight_if(t, z % 8);
 }
 
-// The same, of a row.
+// The same, of a line.
 pub fn push(r: &mut [u8; 128], z: usize, t: bool)
     requires { ⌜ z < 1024 ⌝ }
     ensures { λ _. ⌜ Pushed z t (now (r .entry)) (now (r .exit)) ⌝ }
@@ -86,7 +86,7 @@ pub fn push(r: &mut [u8; 128], z: usize, t: bool)
 // Bit i of each of the first s states.
 pub fn bits(i: usize, s: usize) -> [u8; 128]
     requires { ⌜ (i < 64) × (s ≤ 1024) ⌝ }
-    ensures { λ r. ⌜ Row (λ z. bitOf z i) s r ⌝ }
+    ensures { λ r. ⌜ Line (λ z. bitOf z i) s r ⌝ }
 {
     let mut r = [0u8; 128];
     let mut z: usize = 0;
@@ -120,15 +120,15 @@ fn byte_over(o: Op, b: u8) -> bool
     }
 }
 
-// All bits of the first w bytes of a row, or some.
-pub fn row_over(o: Op, r: &[u8; 128], w: usize) -> bool
-    requires { ⌜ w ≤ 128 ⌝ }
+// All bits of the first pitch bytes of a line, or some.
+pub fn line_over(o: Op, r: &[u8; 128], pitch: usize) -> bool
+    requires { ⌜ pitch ≤ 128 ⌝ }
     requires { ⌜ Quantifies o ⌝ }
-    ensures { λ t. ⌜ t ≡ over o (w * 8) (bit (now (r .entry))) ⌝ }
+    ensures { λ t. ⌜ t ≡ over o (pitch * 8) (bit (now (r .entry))) ⌝ }
 {
     let mut b = units(o);
     let mut j: usize = 0;
-    while j < w {
+    while j < pitch {
         b = byte_op(o, b, r[j]);
         j += 1;
     }

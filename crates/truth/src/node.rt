@@ -26,25 +26,25 @@ pub fn operands(kind: u8) -> u8
     }
 }
 
-// Makes the plane of node k; a and b are bytes 3 and 4 of its record, ext the row of external states.
-pub fn make(work: &mut [u8], ext: [u8; 128], kind: u8, a: u8, b: u8, k: usize, w: usize)
-    requires { ⌜ Makeable kind a b k w (now work) ⌝ }
-    ensures { λ _. ⌜ NodeMade kind a b k w ext (now (work .entry)) (now (work .exit)) ⌝ }
+// Makes the plane of node k; a and b are bytes 3 and 4 of its record, ext the line of external states.
+pub fn make(work: &mut [u8], ext: [u8; 128], kind: u8, a: u8, b: u8, k: usize, pitch: usize)
+    requires { ⌜ Makeable kind a b k pitch (now work) ⌝ }
+    ensures { λ _. ⌜ NodeMade kind a b k pitch ext (now (work .entry)) (now (work .exit)) ⌝ }
 {
-    let size = w * 8 * w;
+    let size = pitch * 8 * pitch;
     let base = (k + 2) * size;
     let first = (a as usize + 2) * size;
     let second = (b as usize + 2) * size;
     match kind {
-        0 => shapes::bit_plane(work, a, b as usize, base, w),
-        1 => shapes::arrange(work, 0, a, b, base, w),
-        2 => shapes::fill(work, ext, a, base, w),
-        3 => shapes::combine(work, Op::Not, first, first, base, w),
-        4 => shapes::combine(work, Op::And, first, second, base, w),
-        5 => shapes::combine(work, Op::Or, first, second, base, w),
-        6 => shapes::range(work, Op::Or, first, b, base, w),
-        7 => shapes::range(work, Op::And, first, b, base, w),
-        8 => shapes::reach(work, first, b / 2, b % 2, size, base, w),
+        0 => shapes::bit_plane(work, a, b as usize, base, pitch),
+        1 => shapes::arrange(work, 0, a, b, base, pitch),
+        2 => shapes::fill(work, ext, a, base, pitch),
+        3 => shapes::combine(work, Op::Not, first, first, base, pitch),
+        4 => shapes::combine(work, Op::And, first, second, base, pitch),
+        5 => shapes::combine(work, Op::Or, first, second, base, pitch),
+        6 => shapes::range(work, Op::Or, first, b, base, pitch),
+        7 => shapes::range(work, Op::And, first, b, base, pitch),
+        8 => shapes::reach(work, first, b / 2, b % 2, size, base, pitch),
         9..=255 => planes::clear(work, base, size),
     }
 }

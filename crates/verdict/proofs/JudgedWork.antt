@@ -10,7 +10,7 @@ use lib.ListN.{length, getD, drop, replicate, length-append, length-drop, length
 use lib.Pow.{pow-add, pow-mono}
 use lib.Seq.{ext-getD, getD-append-add, getD-drop}
 use Rattle.planes.specs.Plane.{planeSize}
-use Rattle.planes.specs.Rows.{Cleared}
+use Rattle.planes.specs.Lines.{Cleared}
 use Rattle.records.specs.Record.{Net, records}
 use Rattle.records.specs.Widths.{width, states, planeBytes, withinLimits, widthsOf}
 use Rattle.records.specs.Policy.{longest}
@@ -20,16 +20,16 @@ use Rattle.scan.specs.declared.Layout.{Layout}
 use Rattle.records.specs.Laws.Limits.{limits}
 use Rattle.records.specs.Laws.States.{whole-bytes, few-states}
 use Rattle.steps.specs.Step.{Step, external}
-use Rattle.actions.specs.Lines.{rowBytes}
+use Rattle.actions.specs.Lines.{lineBytes}
 use Rattle.steps.specs.Filled.{Filled}
 use Rattle.verdict.specs.declared.judge.Judged.{Judged}
-use Rattle.truth.specs.Shapes.{Row}
+use Rattle.truth.specs.Shapes.{Line}
 use Rattle.truth.specs.Node.{planeAt}
-use Rattle.verdict.specs.Judge.{verdictOf, Clean, Testable, Searched, Judgeable, Judges}
+use Rattle.verdict.specs.Judge.{verdictOf, CleanStore, Testable, Searched, Judgeable, Judges}
 use Rattle.verdict.specs.Judgement.{verdict, verdict-meant, only}
 
 -- a plane has a row for each state
-pub plane-bytes : (w : Widths) → withinLimits w ≡ true → planeBytes w ≡ planeSize (rowBytes w)
+pub plane-bytes : (w : Widths) → withinLimits w ≡ true → planeBytes w ≡ planeSize (lineBytes w)
 unfolding planeBytes states
 plane-bytes w e =
     let n = width w in
@@ -41,7 +41,7 @@ plane-bytes w e =
     omega (arith, p)
 
 -- the work that a network needs is that of its planes
-pub needed : (net : Net) → withinLimits (widthsOf net) ≡ true → workNeeded net ≡ planeAt (rowBytes (widthsOf net)) (longest net)
+pub needed : (net : Net) → withinLimits (widthsOf net) ≡ true → workNeeded net ≡ planeAt (lineBytes (widthsOf net)) (longest net)
 unfolding workNeeded
 needed net e = ap (λ (n : ℕ). (longest net + 2) * n) (plane-bytes (widthsOf net) e)
 
@@ -66,15 +66,15 @@ module _ (end : ℕ) (l : Layout) (store : List ℕ) where
   abbrev own : Widths
   own = widthsOf net
 
-  module _ (C : Clean end l store) where
+  module _ (C : CleanStore end l store) where
     within : withinLimits own ≡ true
     within = subst (λ (w : Widths). withinLimits w ≡ true) (C .laid .widths) (C .laid .limits)
 
-    bits : rowBytes own * 8 ≡ states own
+    bits : lineBytes own * 8 ≡ states own
     bits = sym (whole-bytes own within)
 
-    pub testable : (ext a b : List ℕ) → workNeeded net ≤ length a → Row (external net) (states own) ext → Filled net 0 a b
-        → Testable end l (rowBytes own) store ext b
+    pub testable : (ext a b : List ℕ) → workNeeded net ≤ length a → Line (external net) (states own) ext → Filled net 0 a b
+        → Testable end l (lineBytes own) store ext b
     unfolding Step
     testable ext a b h R F = record {
       clean = C;
@@ -96,7 +96,7 @@ module _ (end : ℕ) (l : Layout) (store : List ℕ) where
     zeros = length-replicate k 0
 
     -- what is needed is cleared, and the rest stayed
-    module _ (r : Judged) (a b c d : List ℕ) (h : k ≤ length a) (F : Filled net 0 a b) (S : Searched net (rowBytes own) b r c) (K : Cleared 0 k c d) where
+    module _ (r : Judged) (a b c d : List ℕ) (h : k ≤ length a) (F : Filled net 0 a b) (S : Searched net (lineBytes own) b r c) (K : Cleared 0 k c d) where
       size : length d ≡ length (replicate k 0 ++ drop k a)
       size =
           let e = K .len ∙ S .len ∙ F .len in
@@ -111,7 +111,7 @@ module _ (end : ℕ) (l : Layout) (store : List ℕ) where
           let n = needed net within in
           K .over i (omega arith)
           ∙ S .behind i (omega (arith, n))
-          ∙ F .over i (omega (arith, n, first-plane (rowBytes own) (longest net), ap (λ (m : ℕ). m * rowBytes own) bits))
+          ∙ F .over i (omega (arith, n, first-plane (lineBytes own) (longest net), ap (λ (m : ℕ). m * lineBytes own) bits))
           ∙ sym (behind-zeros k i a (omega arith))
 
       pub left : d ≡ replicate k 0 ++ drop k a
@@ -144,19 +144,19 @@ module _ (end : ℕ) (l : Layout) (store work : List ℕ) (J : Judgeable end l s
       let h = mul-le-mul-left (l .longest + 2) (a-byte (l .widths) (J .clean .laid .limits)) in
       omega (arith, mul-one (l .longest + 2), enough (planeBytes (l .widths)) refl)
 
-  pub step-room : planeSize (rowBytes (l .widths)) ≤ length work
+  pub step-room : planeSize (lineBytes (l .widths)) ≤ length work
   step-room =
       let e = plane-bytes (l .widths) (J .clean .laid .limits) in
-      omega (arith, enough (planeSize (rowBytes (l .widths))) (sym e), first-plane (rowBytes (l .widths)) (l .longest))
+      omega (arith, enough (planeSize (lineBytes (l .widths))) (sym e), first-plane (lineBytes (l .widths)) (l .longest))
 
   module _ (n : ℕ) (e : n ≡ states (l .widths)) where
-    row-is : n / 8 ≡ rowBytes (widthsOf network)
-    row-is = ap (λ (m : ℕ). m / 8) e ∙ ap rowBytes widths-are
+    row-is : n / 8 ≡ lineBytes (widthsOf network)
+    row-is = ap (λ (m : ℕ). m / 8) e ∙ ap lineBytes widths-are
 
-    pub search-ready : (ext b : List ℕ) → Row (external network) n ext → Filled network 0 work b → Testable end l (n / 8) store ext b
+    pub search-ready : (ext b : List ℕ) → Line (external network) n ext → Filled network 0 work b → Testable end l (n / 8) store ext b
     search-ready ext b R F =
         subst (λ (m : ℕ). Testable end l m store ext b) (sym row-is)
-        (testable end l store (J .clean) ext work b (J .room) (subst (λ (m : ℕ). Row (external network) m ext) (e ∙ ap states widths-are) R) F)
+        (testable end l store (J .clean) ext work b (J .room) (subst (λ (m : ℕ). Line (external network) m ext) (e ∙ ap states widths-are) R) F)
 
     pub judged : (k pb : ℕ) (r : Judged) (b c d : List ℕ) → k ≡ (l .longest + 2) * pb → pb ≡ planeBytes (l .widths) → Filled network 0 work b
         → Searched network (n / 8) b r c → Cleared 0 k c d → Judges network work r d

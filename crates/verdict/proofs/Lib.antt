@@ -1,5 +1,5 @@
 -- Laws that several proofs of this crate use.
-pub mod CleanStore
+pub mod PassedRecords
 pub mod JudgedWork
 pub mod LowestState
 pub mod MarkedNodes

@@ -7,8 +7,8 @@ use Prim.Native.Nat.{ℕ, suc, _+_, _-_, _*_, _≤_, _<_}
 use native.Mathlib.Omega.{arith}
 use Rattle.planes.specs.Plane.{cell}
 use Rattle.records.specs.Policy.{Formula}
-use Rattle.verdict.specs.declared.policy.Lowest.{Lowest}
-use Rattle.verdict.specs.declared.policy.Lowest.the-variants.{State, None}
+use Rattle.verdict.specs.declared.policy.Offender.{Offender}
+use Rattle.verdict.specs.declared.policy.Offender.the-variants.{State, None}
 use Rattle.verdict.specs.Computed.{firstFrom}
 use Rattle.verdict.specs.Laws.Search.{First, first-is}
 use Rattle.truth.specs.Node.{modelAt, Shows}
@@ -43,18 +43,18 @@ pub sought-first : (n : ℕ) (f : ℕ → Bool) → firstFrom n 0 f ≡ firstFro
 sought-first n f = let e : n ≡ n - 0 = omega arith in ap (λ (k : ℕ). firstFrom k 0 f) e
 
 -- of a plane that is the truth of a formula
-module _ (w base : ℕ) (ext model work : List ℕ) (f : Formula) (S : Shows (modelAt w ext model) w base work f) where
+module _ (pitch base : ℕ) (ext model work : List ℕ) (f : Formula) (S : Shows (modelAt pitch ext model) pitch base work f) where
   abbrev column : ℕ → Bool
-  column x = cell work base w x 0
+  column x = cell work base pitch x 0
 
-  meant : (r : Lowest) → First column 0 (w * 8) (stateOf r) → LowestTrue (modelAt w ext model) f r
+  meant : (r : Offender) → First column 0 (pitch * 8) (stateOf r) → LowestTrue (modelAt pitch ext model) f r
   meant (State x) t =
-      let h : x < w * 8 = omega (arith, t .1) in (
+      let h : x < pitch * 8 = omega (arith, t .1) in (
         h,
         S .at x 0 h (omega arith) .0 (t .2),
         λ z l u. t .3 z (omega arith) l (S .at z 0 (omega arith) (omega arith) .1 u),
       )
   meant None t = λ z h u. t z (omega arith) (omega arith) (S .at z 0 h (omega arith) .1 u)
 
-  pub lowest-true : (r : Lowest) → stateOf r ≡ firstFrom (w * 8) 0 column → LowestTrue (modelAt w ext model) f r
-  lowest-true r e = meant r (subst (First column 0 (w * 8)) (sym e) (first-is (w * 8) 0 column))
+  pub lowest-true : (r : Offender) → stateOf r ≡ firstFrom (pitch * 8) 0 column → LowestTrue (modelAt pitch ext model) f r
+  lowest-true r e = meant r (subst (First column 0 (pitch * 8)) (sym e) (first-is (pitch * 8) 0 column))

@@ -1,5 +1,5 @@
 -- What rows 5 and 9 say of a policy node: its operands are earlier nodes, and BIT names a bit of a state.
-use mathlib.Core.Path.{_≡_, subst}
+use mathlib.Core.Path.{_≡_, sym, subst, _∙_}
 use mathlib.Core.Bool.{true, _&&_, false≢true}
 use mathlib.Core.Logic.{_⊎_, ⊎-elim}
 use Prim.Native.Nat.{ℕ, zero, suc, _<_}
@@ -7,11 +7,12 @@ use native.Mathlib.Omega.{arith}
 use borrow.Author.Tests.{ltb-true}
 use lib.Dec.{leb, ltb}
 use Rattle.planes.specs.Laws.Tests.{and-left, and-right}
-use Rattle.records.specs.Record.{Rec, at, kind}
+use Rattle.records.specs.Record.{Rec, mostPolicies, at, kind}
 use Rattle.records.specs.Widths.{width}
 use Rattle.records.specs.Policy.{nodeKind}
 use Rattle.rows.specs.Rows.{operandsGood}
 use Rattle.records.specs.Fields.{nodeGood, fieldsGood, zeros}
+use Rattle.records.specs.Laws.Fields.{node-fields}
 use Rattle.records.specs.declared.Widths.{Widths}
 use Rattle.truth.specs.Node.{Operand}
 
@@ -48,13 +49,12 @@ earlier-operand k a b i g j o = go k g o
 
 -- a BIT node names a bit of a state
 bit-good : (w : Widths) (a b : ℕ) → nodeGood w 0 a b ≡ true → b < width w
-unfolding nodeGood
+unfolding nodeGood nodeKind
 bit-good w a b g = ltb-true b (width w) (and-right (leb a 1) (ltb b (width w)) g)
 
 pub bit-field : (w : Widths) (r : Rec) → kind r ≡ 5 → fieldsGood w r ≡ true → at r 2 ≡ 0 → at r 4 < width w
-unfolding fieldsGood
 bit-field w r e h z =
     let n = nodeGood w (at r 2) (at r 3) (at r 4) in
-    let g : (leb (at r 1) 8 && n && zeros 5 24 r) ≡ true = rw e at h in
-    let t : n ≡ true = and-right (leb (at r 1) 8) n (and-left (leb (at r 1) 8 && n) (zeros 5 24 r) g) in
+    let g : (leb (at r 1) mostPolicies && n && zeros 5 23 r) ≡ true = sym (node-fields w r e) ∙ h in
+    let t : n ≡ true = and-right (leb (at r 1) mostPolicies) n (and-left (leb (at r 1) mostPolicies && n) (zeros 5 23 r) g) in
     bit-good w (at r 3) (at r 4) (subst (λ (k : ℕ). nodeGood w k (at r 3) (at r 4) ≡ true) z t)

@@ -19,9 +19,9 @@ use Rattle.records.specs.Laws.Records.{length-records, record-at, byte-of}
 use Rattle.records.specs.Laws.Lists.{keep-slice}
 use Rattle.records.specs.Laws.Limits.{limits}
 use Rattle.records.specs.Laws.Policies.{count-more, count-follows}
-use Rattle.verdict.specs.Policy.{nodesAt, OperandOf, Sound}
-use Rattle.verdict.specs.Judge.{policyAt, NodeRows, Clean, Run}
-use Rattle.verdict.proofs.CleanStore as clean
+use Rattle.verdict.specs.Policy.{nodesAt, OperandOf, SoundNodes}
+use Rattle.verdict.specs.Judge.{policyAt, NodeRows, CleanStore, Run}
+use Rattle.verdict.proofs.PassedRecords as clean
 use Rattle.verdict.proofs.NodeFields.{earlier-operand, bit-field}
 
 -- policies are counted by their highest number
@@ -66,7 +66,7 @@ slice-records n store a b h l =
         ∙ ap (take 24) (sym (drop-drop (i * 24) (a * 24) store))
         ∙ sym (record-at (b - a) (drop (a * 24) store) i k)
 
-module _ (end : ℕ) (l : Layout) (store : List ℕ) (C : Clean end l store) where
+module _ (end : ℕ) (l : Layout) (store : List ℕ) (C : CleanStore end l store) where
   abbrev net : Net
   net = records (end) store
 
@@ -216,7 +216,7 @@ module _ (end : ℕ) (l : Layout) (store : List ℕ) (C : Clean end l store) whe
         ∙ getD-drop start (take stop net) i []
         ∙ getD-take stop net (start + i) [] (omega arith)
 
-    pub sound-nodes : Sound (nodesAt store start (stop - start))
+    pub sound-nodes : SoundNodes (nodesAt store start (stop - start))
     sound-nodes = record {
       earlier = λ i h j o.
           let k : i < stop - start = omega (arith, many) in

@@ -13,16 +13,16 @@ use Rattle.records.specs.Widths.{states, widthsOf}
 use Rattle.records.specs.Policy.{formula, nodesOf, policyCount, forbidden, longest}
 use Rattle.scan.specs.declared.Layout.{Layout}
 use Rattle.records.specs.Laws.Records.{length-records}
-use Rattle.verdict.specs.declared.policy.Lowest.{Lowest as Answer}
-use Rattle.verdict.specs.declared.policy.Lowest.the-variants.{State, None}
+use Rattle.verdict.specs.declared.policy.Offender.{Offender}
+use Rattle.verdict.specs.declared.policy.Offender.the-variants.{State, None}
 use Rattle.truth.specs.Truth.{Truth, modelOf}
 use Rattle.verdict.specs.Verdict.{Breaks, Holds, Lowest}
 use Rattle.truth.specs.Node.{planeAt, modelAt}
-use Rattle.verdict.specs.Policy.{nodesAt, Ready, Tested}
-use Rattle.verdict.specs.Judge.{policyAt, Clean, Run, Testable}
+use Rattle.verdict.specs.Policy.{nodesAt, PolicyReady, Tested}
+use Rattle.verdict.specs.Judge.{policyAt, CleanStore, Run, Testable}
 use Rattle.verdict.specs.Laws.Same.{same-truth}
 use Rattle.verdict.proofs.MarkedNodes.{same-model}
-use Rattle.verdict.proofs.CleanStore.{up-to}
+use Rattle.verdict.proofs.PassedRecords.{up-to}
 use Rattle.verdict.proofs.PolicyRuns.{counted-end, counted-first, first-named, counted-stop, next-named, nodes-are, few-nodes, a-policy, sound-nodes, at-most-longest}
 
 -- the policies below p, whose nodes stand before record start, are not broken; the buffer keeps its steps and what lies behind its planes
@@ -37,8 +37,8 @@ pub record Passed (store : List ℕ) (first end bytes start p : ℕ) (before aft
   pub behind : (m : ℕ) → planeAt bytes (longest (records end store)) ≤ m → getD after m 0 ≡ getD before m 0
 
 -- the answer of a test, in other words
-pub tested-as : {nodes : Net} {w : ℕ} {ext b c : List ℕ} {r s : Answer} → r ≡ s → Tested nodes w ext b r c → Tested nodes w ext b s c
-tested-as {nodes} {w} {ext} {b} {c} e D = subst (λ (r : Answer). Tested nodes w ext b r c) e D
+pub tested-as : {nodes : Net} {w : ℕ} {ext b c : List ℕ} {r s : Offender} → r ≡ s → Tested nodes w ext b r c → Tested nodes w ext b s c
+tested-as {nodes} {w} {ext} {b} {c} e D = subst (λ (r : Offender). Tested nodes w ext b r c) e D
 
 -- the plane of a node is not behind that of a later one
 plane-mono : (w j k : ℕ) → j ≤ k → planeAt w j ≤ planeAt w k
@@ -48,7 +48,7 @@ module _ (end : ℕ) (l : Layout) (bytes : ℕ) (store ext work : List ℕ) (T :
   abbrev net : Net
   net = records (end) store
 
-  C : Clean end l store
+  C : CleanStore end l store
   C = T .clean
 
   pub passed-none : Passed store (l .nodes) (end) bytes (l .nodes) 0 work work
@@ -81,7 +81,7 @@ module _ (end : ℕ) (l : Layout) (bytes : ℕ) (store ext work : List ℕ) (T :
         plane-mono bytes (length nodes) (longest net)
         (omega (arith, ap length are, at-most-longest net p (a-policy end l store C start stop p R (P .from) (P .count) (P .fresh h))))
 
-    pub ready : Ready store start (stop - start) bytes b
+    pub ready : PolicyReady store start (stop - start) bytes b
     ready = record {
       stored = omega (arith, stored, R .some, R .upTo);
       sound = sound-nodes end l store C start stop p R (P .from) (P .count) (P .fresh h);

@@ -32,7 +32,7 @@ pub record NodeRows (before : Net) (r : Rec) : Type 0 where
   pub few : length (nodesOf (at r 1) before) < 32
 
 -- a store holds `end` records that no row refuses, and they stand as the layout says
-pub record Clean (end : ℕ) (l : Layout) (store : List ℕ) : Type 0 where
+pub record CleanStore (end : ℕ) (l : Layout) (store : List ℕ) : Type 0 where
   pub room : end * 24 ≤ length store
   pub laid : LayoutOf (records end store) l
   pub passes : fileRow [] (records end store) ≡ none
@@ -50,7 +50,7 @@ pub record Run (store : List ℕ) (start end stop : ℕ) : Type 0 where
 
 -- the policies of a clean network are tested over its step plane, whose rows have so many bytes, and its row of external states
 pub record Testable (end : ℕ) (l : Layout) (bytes : ℕ) (store ext work : List ℕ) : Type 0 where
-  pub clean : Clean end l store
+  pub clean : CleanStore end l store
   pub small : bytes ≤ 128
   pub room : planeAt bytes (longest (records end store)) ≤ length work
   pub model : SameModel (modelAt bytes ext work) (modelOf (records end store))
@@ -63,7 +63,7 @@ pub record Searched (net : Net) (bytes : ℕ) (before : List ℕ) (r : Judged) (
 
 -- a clean network, and a work buffer that is long enough
 pub record Judgeable (end : ℕ) (l : Layout) (store work : List ℕ) : Type 0 where
-  pub clean : Clean end l store
+  pub clean : CleanStore end l store
   pub room : workNeeded (records end store) ≤ length work
 
 -- the answer is the verdict on the network; the work that it needed is zero, and the rest as before

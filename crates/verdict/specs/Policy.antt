@@ -12,8 +12,8 @@ use Rattle.records.specs.Policy.{Formula, nodeKind, formula}
 use Rattle.truth.specs.Truth.{Model, Truth}
 use Rattle.truth.specs.Node.{planeAt, arity, Operand, modelAt, Shows}
 use Rattle.truth.specs.declared.node.Node.{Node}
-use Rattle.verdict.specs.declared.policy.Lowest.{Lowest}
-use Rattle.verdict.specs.declared.policy.Lowest.the-variants.{State, None}
+use Rattle.verdict.specs.declared.policy.Offender.{Offender}
+use Rattle.verdict.specs.declared.policy.Offender.the-variants.{State, None}
 
 -- the nodes of a policy
 abbrev pub nodesAt : List ℕ → ℕ → ℕ → Net
@@ -31,55 +31,55 @@ pub record NodeAt (store : List ℕ) (i : ℕ) (n : Node) : Type 0 where
   pub operands : n .arity ≡ arity (nodeKind (n .kind))
 
 -- operands are earlier nodes, and BIT names a bit of a number
-pub record Sound (nodes : Net) : Type 0 where
+pub record SoundNodes (nodes : Net) : Type 0 where
   pub earlier : (i : ℕ) → i < length nodes → (j : ℕ) → OperandOf (getD nodes i []) j → j < i
   pub bits : (i : ℕ) → i < length nodes → at (getD nodes i []) 2 ≡ 0 → at (getD nodes i []) 4 < 64
 
 -- the plane of each marked node is the truth of its formula, in the model that a buffer gives
 abbrev pub Held : Net → ℕ → List ℕ → List ℕ → ℕ → List ℕ → Type 0
-Held nodes w ext model marks work =
-    (j : ℕ) → j < length nodes → bitOf marks j ≡ true → Shows (modelAt w ext model) w (planeAt w j) work (formula nodes j)
+Held nodes pitch ext model marks work =
+    (j : ℕ) → j < length nodes → bitOf marks j ≡ true → Shows (modelAt pitch ext model) pitch (planeAt pitch j) work (formula nodes j)
 
 -- a policy of sound nodes stands in a store, and a work buffer has room for their planes
-pub record Ready (store : List ℕ) (start count w : ℕ) (work : List ℕ) : Type 0 where
+pub record PolicyReady (store : List ℕ) (start count pitch : ℕ) (work : List ℕ) : Type 0 where
   pub stored : (start + count) * 24 ≤ length store
-  pub sound : Sound (nodesAt store start count)
+  pub sound : SoundNodes (nodesAt store start count)
   pub few : count ≤ 32
-  pub small : w ≤ 128
-  pub room : planeAt w count ≤ length work
+  pub small : pitch ≤ 128
+  pub room : planeAt pitch count ≤ length work
 
 -- node k is asked for, where the marked nodes are held
-pub record Asked (store : List ℕ) (start count : ℕ) (ext work : List ℕ) (w k marks : ℕ) : Type 0 where
-  pub ready : Ready store start count w work
+pub record Asked (store : List ℕ) (start count : ℕ) (ext work : List ℕ) (pitch k marks : ℕ) : Type 0 where
+  pub ready : PolicyReady store start count pitch work
   pub inside : k < count
-  pub held : Held (nodesAt store start count) w ext work marks work
+  pub held : Held (nodesAt store start count) pitch ext work marks work
 
 -- the marks stay, and all that are marked are held; the step plane and every byte behind the nodes' planes are as before
-pub record Worked (nodes : Net) (w : ℕ) (ext : List ℕ) (marks : ℕ) (before : List ℕ) (marks′ : ℕ) (after : List ℕ) : Type 0 where
+pub record Worked (nodes : Net) (pitch : ℕ) (ext : List ℕ) (marks : ℕ) (before : List ℕ) (marks′ : ℕ) (after : List ℕ) : Type 0 where
   pub len : length after ≡ length before
   pub kept : (j : ℕ) → bitOf marks j ≡ true → bitOf marks′ j ≡ true
-  pub held : Held nodes w ext before marks′ after
-  pub steps : (m : ℕ) → m < planeSize w → getD after m 0 ≡ getD before m 0
-  pub behind : (m : ℕ) → planeAt w (length nodes) ≤ m → getD after m 0 ≡ getD before m 0
+  pub held : Held nodes pitch ext before marks′ after
+  pub steps : (m : ℕ) → m < planeSize pitch → getD after m 0 ≡ getD before m 0
+  pub behind : (m : ℕ) → planeAt pitch (length nodes) ≤ m → getD after m 0 ≡ getD before m 0
 
 -- and node k is marked
-pub record Given (nodes : Net) (w : ℕ) (ext : List ℕ) (k marks : ℕ) (before : List ℕ) (marks′ : ℕ) (after : List ℕ) : Type 0 where
-  pub worked : Worked nodes w ext marks before marks′ after
+pub record Given (nodes : Net) (pitch : ℕ) (ext : List ℕ) (k marks : ℕ) (before : List ℕ) (marks′ : ℕ) (after : List ℕ) : Type 0 where
+  pub worked : Worked nodes pitch ext marks before marks′ after
   pub marked : bitOf marks′ k ≡ true
 
 -- the state that an answer names
-abbrev pub stateOf : Lowest → Option ℕ
+abbrev pub stateOf : Offender → Option ℕ
 stateOf (State x) = some x
 stateOf None = none
 
 -- the lowest state with which, as X, a formula is true in a model, or none
-abbrev pub LowestTrue : Model → Formula → Lowest → Type 0
+abbrev pub LowestTrue : Model → Formula → Offender → Type 0
 LowestTrue m f (State x) = (x < m .count) × Truth m f x 0 × ((z : ℕ) → z < x → Truth m f z 0 → ⊥)
 LowestTrue m f None = (z : ℕ) → z < m .count → Truth m f z 0 → ⊥
 
 -- the lowest state that breaks a policy, whose last node is the forbidden condition
-pub record Tested (nodes : Net) (w : ℕ) (ext before : List ℕ) (r : Lowest) (after : List ℕ) : Type 0 where
+pub record Tested (nodes : Net) (pitch : ℕ) (ext before : List ℕ) (r : Offender) (after : List ℕ) : Type 0 where
   pub len : length after ≡ length before
-  pub lowest : LowestTrue (modelAt w ext before) (formula nodes (length nodes - 1)) r
-  pub steps : (m : ℕ) → m < planeSize w → getD after m 0 ≡ getD before m 0
-  pub behind : (m : ℕ) → planeAt w (length nodes) ≤ m → getD after m 0 ≡ getD before m 0
+  pub lowest : LowestTrue (modelAt pitch ext before) (formula nodes (length nodes - 1)) r
+  pub steps : (m : ℕ) → m < planeSize pitch → getD after m 0 ≡ getD before m 0
+  pub behind : (m : ℕ) → planeAt pitch (length nodes) ≤ m → getD after m 0 ≡ getD before m 0

@@ -5,10 +5,10 @@ ghost use lib.ListN.{length};
 ghost use Rattle.records.specs.Record.{records};
 ghost use Rattle.scan.specs.Stored.{Stored};
 ghost use Rattle.steps.specs.Step.{external};
-ghost use Rattle.truth.specs.Shapes.{Row};
+ghost use Rattle.truth.specs.Shapes.{Line};
 ghost use Rattle.verdict.specs.Judge.{Run, Testable, Searched, Judgeable, Judges};
 use crate::policy;
-use crate::policy::Lowest;
+use crate::policy::Offender;
 use scan::Layout;
 use truth::lines;
 
@@ -50,7 +50,7 @@ fn search(
     while start < end {
         let stop = policy_end(store, start, end);
         let found = policy::test(store, start, stop - start, ext, work, bytes);
-        if let Lowest::State(x) = found {
+        if let Offender::State(x) = found {
             return Judged::Violated {
                 policy: p,
                 state: x,
@@ -66,7 +66,7 @@ fn search(
 fn externals(store: &[u8], end: usize, l: Layout, s: usize) -> [u8; 128]
     requires { ⌜ Stored end l (now store) ⌝ }
     requires { ⌜ s ≤ 1024 ⌝ }
-    ensures { λ r. ⌜ Row (external (records end (now (store .entry)))) s r ⌝ }
+    ensures { λ r. ⌜ Line (external (records end (now (store .entry)))) s r ⌝ }
 {
     let w = l.widths;
     let points = steps::links::linked_points(store, end, l);

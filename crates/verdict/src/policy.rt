@@ -5,7 +5,7 @@ ghost use lib.Bits.{bitOr};
 ghost use lib.ListN.{length};
 ghost use Rattle.planes.specs.Bit.{bitOf};
 ghost use Rattle.truth.specs.Node.{Makeable, NodeMade};
-ghost use Rattle.verdict.specs.Policy.{nodesAt, NodeAt, Ready, Asked, Given, stateOf, Tested};
+ghost use Rattle.verdict.specs.Policy.{nodesAt, NodeAt, PolicyReady, Asked, Given, stateOf, Tested};
 ghost use Rattle.planes.specs.Plane.{cell};
 ghost use Rattle.verdict.specs.Computed.{firstFrom};
 ghost use Rattle.truth.specs.Shapes.{Plane};
@@ -13,7 +13,7 @@ use truth::node;
 use truth::node::Node;
 
 // The lowest state of some kind, or none.
-pub enum Lowest {
+pub enum Offender {
     State(usize),
     None,
 }
@@ -49,12 +49,12 @@ fn node_at(store: &[u8], i: usize) -> Node
 }
 
 // Makes the plane of node k, and marks it.
-fn settle(work: &mut [u8], ext: [u8; 128], n: Node, w: usize, k: usize, marks: u32) -> u32
-    requires { ⌜ Makeable (n .kind) (n .a) (n .b) k w (now work) ⌝ }
-    ensures { λ _. ⌜ NodeMade (n .kind) (n .a) (n .b) k w ext (now (work .entry)) (now (work .exit)) ⌝ }
+fn settle(work: &mut [u8], ext: [u8; 128], n: Node, pitch: usize, k: usize, marks: u32) -> u32
+    requires { ⌜ Makeable (n .kind) (n .a) (n .b) k pitch (now work) ⌝ }
+    ensures { λ _. ⌜ NodeMade (n .kind) (n .a) (n .b) k pitch ext (now (work .entry)) (now (work .exit)) ⌝ }
     ensures { λ r. ⌜ r ≡ bitOr marks (2 ^ k) ⌝ }
 {
-    node::make(work, ext, n.kind, n.a, n.b, k, w);
+    node::make(work, ext, n.kind, n.a, n.b, k, pitch);
     marks | mark(k)
 }
 
@@ -65,12 +65,12 @@ fn eval(
     count: usize,
     ext: [u8; 128],
     work: &mut [u8],
-    w: usize,
+    pitch: usize,
     k: usize,
     marks: u32,
 ) -> u32
-    requires { ⌜ Asked (now store) start count ext (now work) w k marks ⌝ }
-    ensures { λ r. ⌜ Given (nodesAt (now (store .entry)) start count) w ext k marks (now (work .entry)) r (now (work .exit)) ⌝ }
+    requires { ⌜ Asked (now store) start count ext (now work) pitch k marks ⌝ }
+    ensures { λ r. ⌜ Given (nodesAt (now (store .entry)) start count) pitch ext k marks (now (work .entry)) r (now (work .exit)) ⌝ }
 {
     if is_marked(marks, k) {
         return marks;
@@ -78,32 +78,32 @@ fn eval(
     let n = node_at(store, start + k);
     let arity = n.arity;
     match arity {
-        0 => settle(work, ext, n, w, k, marks),
+        0 => settle(work, ext, n, pitch, k, marks),
         1 => {
-            let first = eval(store, start, count, ext, work, w, n.a as usize, marks);
-            settle(work, ext, n, w, k, first)
+            let first = eval(store, start, count, ext, work, pitch, n.a as usize, marks);
+            settle(work, ext, n, pitch, k, first)
         }
         2..=255 => {
-            let first = eval(store, start, count, ext, work, w, n.a as usize, marks);
-            let second = eval(store, start, count, ext, work, w, n.b as usize, first);
-            settle(work, ext, n, w, k, second)
+            let first = eval(store, start, count, ext, work, pitch, n.a as usize, marks);
+            let second = eval(store, start, count, ext, work, pitch, n.b as usize, first);
+            settle(work, ext, n, pitch, k, second)
         }
     }
 }
 
 // The lowest state x for which bit (x, 0) of the plane at base is set.
-fn lowest_set(work: &[u8], base: usize, w: usize) -> Lowest
-    requires { ⌜ Plane (now work) w base ⌝ }
-    ensures { λ r. ⌜ stateOf r ≡ firstFrom (w * 8) 0 (λ x. cell (now (work .entry)) base w x 0) ⌝ }
+fn lowest_set(work: &[u8], base: usize, pitch: usize) -> Offender
+    requires { ⌜ Plane (now work) pitch base ⌝ }
+    ensures { λ r. ⌜ stateOf r ≡ firstFrom (pitch * 8) 0 (λ x. cell (now (work .entry)) base pitch x 0) ⌝ }
 {
     let mut x: usize = 0;
-    while x < w * 8 {
-        if planes::get_at(work, base + x * w, 0) {
-            return Lowest::State(x);
+    while x < pitch * 8 {
+        if planes::get_at(work, base + x * pitch, 0) {
+            return Offender::State(x);
         }
         x += 1;
     }
-    Lowest::None
+    Offender::None
 }
 
 // The lowest state that breaks the policy of the count nodes from record start on.
@@ -113,13 +113,13 @@ pub fn test(
     count: usize,
     ext: [u8; 128],
     work: &mut [u8],
-    w: usize,
-) -> Lowest
-    requires { ⌜ Ready (now store) start count w (now work) ⌝ }
+    pitch: usize,
+) -> Offender
+    requires { ⌜ PolicyReady (now store) start count pitch (now work) ⌝ }
     requires { ⌜ 0 < count ⌝ }
-    ensures { λ r. ⌜ Tested (nodesAt (now (store .entry)) start count) w ext (now (work .entry)) r (now (work .exit)) ⌝ }
+    ensures { λ r. ⌜ Tested (nodesAt (now (store .entry)) start count) pitch ext (now (work .entry)) r (now (work .exit)) ⌝ }
 {
     let last = count - 1;
-    eval(store, start, count, ext, work, w, last, 0);
-    lowest_set(work, (last + 2) * (w * 8 * w), w)
+    eval(store, start, count, ext, work, pitch, last, 0);
+    lowest_set(work, (last + 2) * (pitch * 8 * pitch), pitch)
 }

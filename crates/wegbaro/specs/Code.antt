@@ -5,7 +5,7 @@ use Prim.Native.Nat.{ℕ, _+_, _*_}
 use lib.ListN.{length}
 use Rattle.calls.specs.Answer.{CheckAnswer, CommandAnswer}
 use Rattle.calls.specs.Check.{checkAnswer, checkWork}
-use Rattle.calls.specs.Reference.{step, commandWork}
+use Rattle.calls.specs.Reference.{outcomeOf, commandWork}
 
 -- a case with its two numbers
 abbrev pub coded : ℕ → ℕ → ℕ → ℕ
@@ -30,6 +30,6 @@ pub record CheckCoded (store : List ℕ) (n : ℕ) (work : List ℕ) (code : ℕ
 
 -- the promise of the command call, its answer coded
 pub record CommandCoded (store : List ℕ) (n : ℕ) (work given : List ℕ) (code : ℕ) (store-after work-after : List ℕ) : Type 0 where
-  pub answered : code ≡ commandCode (step (record { count = n; bytes = store }) given (length work) .answer)
-  pub stores : store-after ≡ step (record { count = n; bytes = store }) given (length work) .after .bytes
+  pub answered : code ≡ commandCode (outcomeOf (record { count = n; bytes = store }) given (length work) .answer)
+  pub stores : store-after ≡ outcomeOf (record { count = n; bytes = store }) given (length work) .after .bytes
   pub works : work-after ≡ commandWork (record { count = n; bytes = store }) given work

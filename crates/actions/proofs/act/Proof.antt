@@ -13,7 +13,7 @@ use Rattle.records.specs.Laws.Limits.{limits}
 use Rattle.records.specs.Laws.Patterns.{put-mask}
 use Rattle.actions.specs.ByPlace.{ofBody}
 use Rattle.actions.specs.Actions.{reached}
-use Rattle.actions.specs.Lines.{rowBytes, Added}
+use Rattle.actions.specs.Lines.{lineBytes, Added}
 use Rattle.actions.specs.Sent.{departing}
 use Rattle.actions.specs.Laws.CopiesInOrder.{set-sends, set-header, output-sends, output-header}
 use Rattle.actions.specs.Laws.AddedBits.{added-none}
@@ -70,7 +70,7 @@ returns-2 c =
     record {
       copies =
           rw (output-sends (a .w) (a .sw) r (a .h) (a .i) n)
-          (subst₂ (λ (v x : ℕ). Added (departing (a .w) (a .sw) (a .h) (reached (a .w) v x)) (a .row) (rowBytes (a .w)) (now (a .work)) (o .output .last .0))
+          (subst₂ (λ (v x : ℕ). Added (departing (a .w) (a .sw) (a .h) (reached (a .w) v x)) (a .line) (lineBytes (a .w)) (now (a .work)) (o .output .last .0))
           (sym (value-is b (a .i))) (sym (care-is b (a .i))) (o .output .ensures));
       header = sym (output-header (a .w) (a .sw) r (a .h) (a .i) n);
     }

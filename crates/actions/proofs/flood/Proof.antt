@@ -5,7 +5,7 @@ use native.Mathlib.Omega.{arith}
 use lib.ListN.{length}
 use Rattle.records.specs.Lists.{keep, from}
 use Rattle.records.specs.Laws.Limits.{limits}
-use Rattle.actions.specs.Lines.{rowBytes, Added}
+use Rattle.actions.specs.Lines.{lineBytes, Added}
 use Rattle.actions.specs.Sent.{departing, flooded}
 use Rattle.actions.specs.Laws.AddedBits.{TowardList, list-more, added-none}
 use Rattle.actions.specs.Laws.SentCopies.{sends-on, ports-left}
@@ -14,18 +14,18 @@ use Rattle.actions.proofs.flood.Tie as tie
 
 -- the ports from q on are left
 abbrev Inv-loop : tie.InvT-loop
-Inv-loop work₀ row w sw value care h end q₀ work q =
+Inv-loop work₀ line w sw value care h end q₀ work q =
     (end ≡ 2 ^ w .p) × (q ≤ end) × (length work ≡ length work₀)
-    × TowardList row (rowBytes w) (departing w sw h (flooded w value care (from 0 (2 ^ w .p)))) (departing w sw h (flooded w value care (from q (end - q)))) work₀ work
+    × TowardList line (lineBytes w) (departing w sw h (flooded w value care (from 0 (2 ^ w .p)))) (departing w sw h (flooded w value care (from q (end - q)))) work₀ work
 
 abbrev μ-loop : tie.MeasureT-loop
-μ-loop work₀ row w sw value care h end q₀ work q = end - q
+μ-loop work₀ line w sw value care h end q₀ work q = end - q
 
 loop-holds : tie.Need-loop-holds Inv-loop μ-loop
 loop-holds c =
     let a = c .before .before .args in
     let e : c .values .result - 0 ≡ 2 ^ a .w .p = omega (arith, c .values .ensures) in
-    (c .values .ensures, omega arith, refl, λ d R. subst (λ (k : ℕ). Added (departing (a .w) (a .sw) (a .h) (flooded (a .w) (a .value) (a .care) (from 0 k))) (a .row) (rowBytes (a .w)) (now (a .work)) d) e R)
+    (c .values .ensures, omega arith, refl, λ d R. subst (λ (k : ℕ). Added (departing (a .w) (a .sw) (a .h) (flooded (a .w) (a .value) (a .care) (from 0 k))) (a .line) (lineBytes (a .w)) (now (a .work)) d) e R)
 
 values-requires : tie.Need-values-requires Inv-loop μ-loop
 values-requires c κs = omega (arith, limits (c .before .args .w) (c .before .pre .0 .ready .limits) .high-p)
@@ -34,7 +34,7 @@ offer-requires : tie.Need-offer-requires Inv-loop μ-loop
 offer-requires c κs =
     let s = c .before .before .before .before .before in
     let o = c .before .before .loop in
-    (sends-on (s .args .w) (s .args .row) (s .args .sw) (s .args .h) (s .args .h) (now (s .args .work)) (o .work) (o .inv .2) (s .pre .0 .ready .header) (s .pre .0), (s .pre .1, omega arith))
+    (sends-on (s .args .w) (s .args .line) (s .args .sw) (s .args .h) (s .args .h) (now (s .args .work)) (o .work) (o .inv .2) (s .pre .0 .ready .header) (s .pre .0), (s .pre .1, omega arith))
 
 add-q : tie.Need-add-q Inv-loop μ-loop
 add-q c = omega (arith, c .before .before .before .before .before .before .values .ok)
@@ -48,7 +48,7 @@ loop-again c =
       o .inv .0,
       omega arith,
       A .len ∙ o .inv .2,
-      list-more (a .row) (rowBytes (a .w)) _ _ _ _ _ _ _
+      list-more (a .line) (lineBytes (a .w)) _ _ _ _ _ _ _
           (ports-left (a .w) (a .sw) (a .value) (a .care) (a .h) (o .q) e (c .before .before .before .before .loop-test .taken)) (o .inv .3) A,
     )
 

@@ -36,7 +36,7 @@ set-at-requires c κs =
     let s = c .before .before .before .before .before .before in
     let a = s .args in
     let S = s .pre .0 in
-    has-byte (a .w) (S .ready .limits) (a .row) 1 (a .sw) (a .q) (a .h) (c .number .result) (omega arith) (S .switch) (s .pre .1 .1) (S .ready .header) (c .number .ensures)
+    has-byte (a .w) (S .ready .limits) (a .line) 1 (a .sw) (a .q) (a .h) (c .number .result) (omega arith) (S .switch) (s .pre .1 .1) (S .ready .header) (c .number .ensures)
     (now (a .work)) (S .ready .room)
 
 returns-3 : tie.Need-returns-3
@@ -48,7 +48,7 @@ returns-3 c =
     let o : ordinary (a .w) (a .q) ≡ true = sym (n .before .before .before .before .is-ordinary .ensures) ∙ not-false _ (n .before .before .before .if1 .left) in
     let m : matches (a .w .p) (a .value) (a .care) (a .q) ≡ true = matches-mask (a .w .p) (a .value) (a .care) (s .pre .1 .0) (a .q) ∙ eq-eqb _ _ (n .before .before .if2 .left) in
     rw (port-reached (a .w) (a .sw) (a .value) (a .care) (a .h) (a .q) (ap₂ _&&_ o m))
-    (state-added (a .w) (S .ready .limits) (a .row) 1 (a .sw) (a .q) (a .h) (n .number .result) (omega arith) (S .switch) (s .pre .1 .1) (S .ready .header) (n .number .ensures)
+    (state-added (a .w) (S .ready .limits) (a .line) 1 (a .sw) (a .q) (a .h) (n .number .result) (omega arith) (S .switch) (s .pre .1 .1) (S .ready .header) (n .number .ensures)
     (now (a .work)) (c .before .before .set-at .last .0) (c .before .before .set-at .ensures))
 
 pub offer-spec : {M : Type 1} → statement M

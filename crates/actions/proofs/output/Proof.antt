@@ -23,7 +23,7 @@ set-at-requires c κs =
     let s = c .before .before .before .before .before in
     let a = s .args in
     let S = s .pre .0 in
-    has-byte (a .w) (S .ready .limits) (a .row) _ (a .sw) (a .value) (a .h) (c .number .result) (omega arith) (S .switch)
+    has-byte (a .w) (S .ready .limits) (a .line) _ (a .sw) (a .value) (a .h) (c .number .result) (omega arith) (S .switch)
     (value-lt (a .w .p) (a .value) (a .care) (s .pre .1)) (S .ready .header) (c .number .ensures) (now (a .work)) (S .ready .room)
 
 returns : tie.Need-returns
@@ -36,7 +36,7 @@ returns c =
     let S = s .pre .0 in
     let e : a .care ≡ 2 ^ a .w .p - 1 = n .before .before .if1 .taken ∙ ap (λ (k : ℕ). k - 1) (p .values .ensures) in
     rw (reached-one (a .w) (a .value) (a .care) e)
-    (state-added (a .w) (S .ready .limits) (a .row) _ (a .sw) (a .value) (a .h) (n .number .result) (omega arith) (S .switch)
+    (state-added (a .w) (S .ready .limits) (a .line) _ (a .sw) (a .value) (a .h) (n .number .result) (omega arith) (S .switch)
     (value-lt (a .w .p) (a .value) (a .care) (s .pre .1)) (S .ready .header) (n .number .ensures)
     (now (a .work)) (c .before .before .set-at .last .0) (c .before .before .set-at .ensures))
 

@@ -7,7 +7,7 @@ use native.Mathlib.Omega.{arith}
 use lib.ListN.{length, getD}
 use Rattle.actions.specs.Actions.{sent, copies}
 use Rattle.actions.specs.ByPlace.{arrival, ofBody}
-use Rattle.actions.specs.Lines.{rowBytes, Added}
+use Rattle.actions.specs.Lines.{lineBytes, Added}
 use Rattle.actions.specs.Sent.{sentBy}
 use Rattle.actions.specs.Laws.CopiesInOrder.{copies-left, header-after-lt}
 use Rattle.actions.specs.Laws.AddedBits.{TowardList, list-more, added-none}
@@ -18,12 +18,12 @@ use Rattle.actions.proofs.run.Tie as tie
 
 -- the last actions are left
 abbrev Inv-loop : tie.InvT-loop
-Inv-loop work₀ row w sw p body h count left₀ header₀ work left header =
+Inv-loop work₀ line w sw p body h count left₀ header₀ work left header =
     (left ≤ count) × (header < 2 ^ w .h) × (length work ≡ length work₀)
-    × TowardList row (rowBytes w) (sent w (arrival sw p h) (ofBody body)) (copies w (arrival sw p h) (ofBody body) header (count - left) left) work₀ work
+    × TowardList line (lineBytes w) (sent w (arrival sw p h) (ofBody body)) (copies w (arrival sw p h) (ofBody body) header (count - left) left) work₀ work
 
 abbrev μ-loop : tie.MeasureT-loop
-μ-loop work₀ row w sw p body h count left₀ header₀ work left header = left
+μ-loop work₀ line w sw p body h count left₀ header₀ work left header = left
 
 cast-count : tie.Need-cast-count Inv-loop μ-loop
 cast-count c = omega (arith, c .shared-slice-known2 .given 7)
@@ -39,7 +39,7 @@ loop-holds c =
       omega arith,
       s .pre .0 .ready .header,
       refl,
-      λ d R. subst (λ (k : ℕ). Added (copies (a .w) (arrival (a .sw) (a .p) (a .h)) (ofBody b) (a .h) k n) (a .row) (rowBytes (a .w)) (now (a .work)) d) e R,
+      λ d R. subst (λ (k : ℕ). Added (copies (a .w) (arrival (a .sw) (a .p) (a .h)) (ofBody b) (a .h) k n) (a .line) (lineBytes (a .w)) (now (a .work)) d) e R,
     )
 
 act-requires : tie.Need-act-requires Inv-loop μ-loop
@@ -47,7 +47,7 @@ act-requires c κs =
     let s = c .before .before .before .before .before .before in
     let a = s .args in
     let o = c .before .before .loop in (
-      sends-on (a .w) (a .row) (a .sw) (a .h) (o .header) (now (a .work)) (o .work) (o .inv .2) (o .inv .1) (s .pre .0),
+      sends-on (a .w) (a .line) (a .sw) (a .h) (o .header) (now (a .work)) (o .work) (o .inv .2) (o .inv .1) (s .pre .0),
       (s .pre .1 .0, used-action (a .w) (ofBody (now (a .body))) (s .pre .1 .1) _ (omega arith)),
     )
 
@@ -63,7 +63,7 @@ loop-again c =
       omega arith,
       subst⁻¹ (λ (k : ℕ). k < 2 ^ a .w .h) (A .header) (header-after-lt (a .w) (a .sw) r (o .header) _ (o .inv .1)),
       A .copies .len ∙ o .inv .2,
-      list-more (a .row) (rowBytes (a .w)) _ _ _ _ _ _ _
+      list-more (a .line) (lineBytes (a .w)) _ _ _ _ _ _ _
           (copies-left (a .w) v r (o .header) n (o .left) (omega arith) (omega arith)
           ∙ ap (λ (k : ℕ). sentBy (a .w) (a .sw) r (o .header) i ++ copies (a .w) v r k (n - (o .left - 1)) (o .left - 1)) (sym (A .header)))
           (o .inv .3) (A .copies),

@@ -1,4 +1,4 @@
--- Bits that are added to a row or a plane, one set after the other.
+-- Bits that are added to a line or a plane, one set after the other.
 use borrow.Author.Tests.{eq-eqb, eqb-true, ne-eqb}
 use mathlib.Core.Path.{_≡_, refl, sym, ap, _∙_}
 use mathlib.Core.Bool.{Bool, true, false, _||_, or-false}
@@ -8,7 +8,7 @@ use native.Mathlib.Decide.{ℕ-discrete}
 use native.Mathlib.Omega.{arith}
 use lib.Dec.{eqb}
 use Rattle.planes.specs.Plane.{bit}
-use Rattle.planes.specs.Rows.{BitSet}
+use Rattle.planes.specs.Lines.{BitSet}
 use Rattle.planes.specs.Laws.Places.{byte-at}
 use Rattle.planes.specs.Laws.Tests.{same-test}
 use Rattle.records.specs.Lists.{any, member}

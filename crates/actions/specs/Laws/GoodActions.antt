@@ -10,7 +10,7 @@ use lib.Dec.{eqb, leb, ltb}
 use Rattle.planes.specs.Laws.Tests.{and-left, and-right, or-cases}
 use Rattle.records.specs.Record.{Rec, at}
 use Rattle.records.specs.Pattern.{patternGood}
-use Rattle.records.specs.Fields.{matchGood, actionOf, actionGood, actionsGood}
+use Rattle.records.specs.Fields.{matchGood, actionBytesGood, actionGood, actionsGood}
 use Rattle.records.specs.Laws.Patterns.{matches-mask, care-lt, value-within}
 use Rattle.records.specs.declared.Widths.{Widths}
 use Rattle.actions.specs.Chosen.{Arrival, ruleMatches}
@@ -52,7 +52,7 @@ module _ (w : Widths) (r : Rec) (i : ℕ) (U : UsedAction w r i) where
   asSet = patternGood (w .h) (at r (10 + 3 * i)) (at r (11 + 3 * i))
 
   either : ((eqb kindOf 1 && asOutput) || (eqb kindOf 2 && asSet && not (eqb (suc i) (at r 8)))) ≡ true
-  unfolding actionGood actionOf
+  unfolding actionGood actionBytesGood
   either =
       sym (ap (λ (t : Bool). elim t as (λ x. Bool) [
         | true ↦ (eqb kindOf 1 && asOutput) || (eqb kindOf 2 && asSet && not (eqb (suc i) (at r 8)))

@@ -32,14 +32,14 @@ module _ (n : ℕ) (l : Layout) (s : List ℕ) (st : Stored n l s) where
       let k = kind-in 2 net 1 (l .misses) i (q .links) (omega (arith, q .switches, q .few-rules, q .within)) a b in
       let g = sym (link-fields (l .widths) r k) ∙ st .fields i a (omega (arith, q .switches, q .few-rules)) in
       both (pointGood (l .widths) (at r 1) (at r 2)) (pointGood (l .widths) (at r 3) (at r 4))
-      (and-left (pointGood (l .widths) (at r 1) (at r 2) && pointGood (l .widths) (at r 3) (at r 4)) (zeros 5 24 r) g)
+      (and-left (pointGood (l .widths) (at r 1) (at r 2) && pointGood (l .widths) (at r 3) (at r 4)) (zeros 5 23 r) g)
 
   rule-good : (i : ℕ) → l .rules ≤ i → i < l .nodes → (matchGood (l .widths) (getD net i []) && actionsGood (l .widths) (getD net i [])) ≡ true
   rule-good i a b =
       let r = getD net i [] in
       let q = st .laid in
       let k = kind-in 4 net (l .rules) (l .nodes) i (q .rules) (q .within) a b in
-      and-left (matchGood (l .widths) r && actionsGood (l .widths) r) (zeros 21 24 r)
+      and-left (matchGood (l .widths) r && actionsGood (l .widths) r) (zeros 21 23 r)
       (sym (rule-fields (l .widths) r k) ∙ st .fields i (omega (arith, q .some-widths, q .switches)) b)
 
   pub match-good : (i : ℕ) → l .rules ≤ i → i < l .nodes → matchGood (l .widths) (getD (records n s) i []) ≡ true
@@ -51,8 +51,8 @@ module _ (n : ℕ) (l : Layout) (s : List ℕ) (st : Stored n l s) where
       let q = st .laid in
       let k = kind-in 3 net (l .misses) (l .rules) i (q .misses) (omega (arith, q .few-rules, q .within)) a b in
       let g = sym (miss-fields (l .widths) r k) ∙ st .fields i (omega (arith, q .some-widths)) (omega (arith, q .few-rules)) in
-      and-right (ltb (at r 1) (2 ^ l .widths .w) && zeros 2 8 r) (actionsGood (l .widths) r)
-      (and-left (ltb (at r 1) (2 ^ l .widths .w) && zeros 2 8 r && actionsGood (l .widths) r) (zeros 21 24 r) g)
+      and-right (ltb (at r 1) (2 ^ l .widths .w) && zeros 2 7 r) (actionsGood (l .widths) r)
+      (and-left (ltb (at r 1) (2 ^ l .widths .w) && zeros 2 7 r && actionsGood (l .widths) r) (zeros 21 23 r) g)
 
   pub actions-good : (i : ℕ) → l .misses ≤ i → i < l .nodes → actionsGood (l .widths) (getD (records n s) i []) ≡ true
   actions-good i a b = go (decLt i (l .rules))

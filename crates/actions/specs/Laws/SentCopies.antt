@@ -6,7 +6,7 @@ use Prim.Native.Nat.{ℕ, suc, _+_, _-_, _*_, _/_, _^_, _<_, _≤_}
 use native.Mathlib.Numerals.{add-one}
 use native.Mathlib.Omega.{arith}
 use lib.ListN.{length}
-use Rattle.planes.specs.Rows.{BitSet}
+use Rattle.planes.specs.Lines.{BitSet}
 use Rattle.records.specs.Lists.{keep, from}
 use Rattle.records.specs.Widths.{withinLimits}
 use Rattle.records.specs.State.{state, ordinary}
@@ -14,7 +14,7 @@ use Rattle.records.specs.Pattern.{matches}
 use Rattle.records.specs.Laws.Lists.{keep-append}
 use Rattle.records.specs.Laws.States.{state-lt, whole-bytes}
 use Rattle.records.specs.declared.Widths.{Widths}
-use Rattle.actions.specs.Lines.{rowBytes, Added}
+use Rattle.actions.specs.Lines.{lineBytes, Added}
 use Rattle.actions.specs.Sent.{Sends, departing, flooded}
 use Rattle.actions.specs.Laws.AddedBits.{added-one}
 
@@ -23,20 +23,20 @@ map-append f [] ys = refl
 map-append f (x ∷ xs) ys = ap (λ (l : List ℕ). f x ∷ l) (map-append f xs ys)
 
 -- so it is later, with another header
-pub sends-on : (w : Widths) (row sw h k : ℕ) (a b : List ℕ) → length b ≡ length a → k < 2 ^ w .h → Sends w row sw h a → Sends w row sw k b
-sends-on w row sw h k a b e l S = record { ready = record { limits = S .ready .limits; room = omega (arith, S .ready .room); header = l }; switch = S .switch }
+pub sends-on : (w : Widths) (line sw h k : ℕ) (a b : List ℕ) → length b ≡ length a → k < 2 ^ w .h → Sends w line sw h a → Sends w line sw k b
+sends-on w line sw h k a b e l S = record { ready = record { limits = S .ready .limits; room = omega (arith, S .ready .room); header = l }; switch = S .switch }
 
 -- the bit of a state, where n is its number
-module _ (w : Widths) (limits : withinLimits w ≡ true) (row d sw q h n : ℕ) (hd : d < 2) (hs : sw < 2 ^ w .w) (hq : q < 2 ^ w .p) (hh : h < 2 ^ w .h)
+module _ (w : Widths) (limits : withinLimits w ≡ true) (line d sw q h n : ℕ) (hd : d < 2) (hs : sw < 2 ^ w .w) (hq : q < 2 ^ w .p) (hh : h < 2 ^ w .h)
     (is : n ≡ state w d sw q h) where
-  has-bit : n < rowBytes w * 8
+  has-bit : n < lineBytes w * 8
   has-bit = omega (arith, is, state-lt w d sw q h hd hs hq hh, whole-bytes w limits)
 
-  pub has-byte : (a : List ℕ) → row + rowBytes w ≤ length a → row + n / 8 < length a
+  pub has-byte : (a : List ℕ) → line + lineBytes w ≤ length a → line + n / 8 < length a
   has-byte a r = omega (arith, has-bit)
 
-  pub state-added : (a b : List ℕ) → BitSet (row * 8 + n) a b → Added (state w d sw q h ∷ []) row (rowBytes w) a b
-  state-added a b S = subst (λ (m : ℕ). Added (m ∷ []) row (rowBytes w) a b) is (added-one row (rowBytes w) n a b S has-bit)
+  pub state-added : (a b : List ℕ) → BitSet (line * 8 + n) a b → Added (state w d sw q h ∷ []) line (lineBytes w) a b
+  state-added a b S = subst (λ (m : ℕ). Added (m ∷ []) line (lineBytes w) a b) is (added-one line (lineBytes w) n a b S has-bit)
 
 -- OUTPUT with stars at one port, and at the ports from q on
 module _ (w : Widths) (sw value care h : ℕ) where

@@ -1,6 +1,6 @@
 use denote.Ref.{now}
 use mathlib.Core.Path.{sym, ap, _∙_}
-use Rattle.commands.specs.Effect.{refusalOf}
+use Rattle.commands.specs.Effect.{admissionRefusal}
 use Rattle.calls.proofs.Calling.{known, no-row, refused-late, command-refused}
 use borrow.Author.Needs.{needs}
 use Rattle.calls.proofs.after_check.Statement.{statement}
@@ -16,14 +16,14 @@ judged-requires : tie.Need-judged-requires
 judged-requires c κs =
     let start = c .before .before .before .before .before .before .before .before .before .before in
     let a = start .args in
-    no-row (now (a .store)) (a .n) _ (now (a .given)) (start .pre .0) (ap refusalOf (sym (c .before .before .enum-told .given .1)) ∙ c .before .before .before .before .command-row .ensures)
+    no-row (now (a .store)) (a .n) _ (now (a .given)) (start .pre .0) (ap admissionRefusal (sym (c .before .before .enum-told .given .1)) ∙ c .before .before .before .before .command-row .ensures)
 
 returns : tie.Need-returns
 returns c =
     let start = c .before .before .before .before .before .before .before .before .before in
     let a = start .args in
     command-refused (now (a .store)) (a .n) (now (a .work)) (now (a .given)) _ _
-    (refused-late (now (a .store)) (a .n) _ (now (a .given)) _ (start .pre .0) (ap refusalOf (sym (c .before .row .given .1)) ∙ c .before .before .before .command-row .ensures))
+    (refused-late (now (a .store)) (a .n) _ (now (a .given)) _ (start .pre .0) (ap admissionRefusal (sym (c .before .row .given .1)) ∙ c .before .before .before .command-row .ensures))
 
 pub after-check-spec : {M : Type 1} → statement M
 after-check-spec =

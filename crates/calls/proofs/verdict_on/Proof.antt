@@ -1,6 +1,6 @@
 use denote.Ref.{now}
 use mathlib.Core.Path.{sym, ap, _∙_}
-use Rattle.scan.specs.Layout.{refusalOf}
+use Rattle.scan.specs.Layout.{readingRefusal}
 use Rattle.calls.proofs.Calling.{no-refusal, judgeable}
 use borrow.Author.Needs.{needs}
 use Rattle.calls.proofs.verdict_on.Statement.{statement}
@@ -9,7 +9,7 @@ use Rattle.calls.proofs.verdict_on.Tie as tie
 returns : tie.Need-returns
 returns c =
     let read = c .before .before .scan .ensures in
-    no-refusal (ap refusalOf (sym (c .enum-told .given .1)) ∙ read .answer) (c .before .before .before .before .before .pre .1)
+    no-refusal (ap readingRefusal (sym (c .enum-told .given .1)) ∙ read .answer) (c .before .before .before .before .before .pre .1)
 
 judge-requires : tie.Need-judge-requires
 judge-requires c κs =

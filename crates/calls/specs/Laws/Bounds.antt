@@ -19,7 +19,7 @@ use Rattle.verdict.specs.Judgement.{verdict, verdict-meant}
 use Rattle.calls.specs.Answer.{CheckAnswer, CommandAnswer}
 use Rattle.commands.specs.Apply.{applied}
 use Rattle.calls.specs.Check.{unless, ofVerdict, checkAnswer}
-use Rattle.calls.specs.Reference.{Installed, network, unchanged, judged, step}
+use Rattle.calls.specs.Reference.{Installed, network, unchanged, judged, outcomeOf}
 use Rattle.calls.specs.Laws.Store.{arguments}
 use Rattle.calls.specs.Laws.Refusals.{checks, goes-on}
 
@@ -36,10 +36,10 @@ last-row true number place h l =
     record { bounds = λ f e. let p : number ≡ f .0 = cc in let q : place ≡ f .1 = cc in (omega arith, omega arith) }
 last-row false number place h l = record { bounds = λ f e. no-refusal e }
 
-row-before : {last : ℕ} {b : Refusal} (met : Bool) (number place : ℕ) → number ≤ 13 → place ≤ last → Within last b
+line-before : {last : ℕ} {b : Refusal} (met : Bool) (number place : ℕ) → number ≤ 13 → place ≤ last → Within last b
     → Within last (orElse (row met number place) b)
-row-before true number place h l w = last-row true number place h l
-row-before false number place h l w = w
+line-before true number place h l w = last-row true number place h l
+line-before false number place h l w = w
 
 -- one refusal before another, which counts only where the first is not given
 either-within : {last : ℕ} (a : Refusal) {b : Refusal} → Within last a → (a ≡ none → Within last b) → Within last (orElse a b)
@@ -53,13 +53,13 @@ record-within : (before : Net) (r : Rec) (after : Net) → Within (length before
 unfolding recordRow
 record-within before r after =
     let place = length before in
-    row-before (row3 before r) 3 place (lit≤ tt) (omega arith)
-    (row-before (row4 r) 4 place (lit≤ tt) (omega arith)
-    (row-before (row5 before r) 5 place (lit≤ tt) (omega arith)
-    (row-before (row6 before r) 6 place (lit≤ tt) (omega arith)
-    (row-before (row7 before r) 7 place (lit≤ tt) (omega arith)
-    (row-before (row8 before r) 8 place (lit≤ tt) (omega arith)
-    (row-before (row9 before r after) 9 place (lit≤ tt) (omega arith) (last-row (row10 before r) 10 place (lit≤ tt) (omega arith))))))))
+    line-before (row3 before r) 3 place (lit≤ tt) (omega arith)
+    (line-before (row4 r) 4 place (lit≤ tt) (omega arith)
+    (line-before (row5 before r) 5 place (lit≤ tt) (omega arith)
+    (line-before (row6 before r) 6 place (lit≤ tt) (omega arith)
+    (line-before (row7 before r) 7 place (lit≤ tt) (omega arith)
+    (line-before (row8 before r) 8 place (lit≤ tt) (omega arith)
+    (line-before (row9 before r after) 9 place (lit≤ tt) (omega arith) (last-row (row10 before r) 10 place (lit≤ tt) (omega arith))))))))
 
 file-within : (before rest : Net) → Within (length before + length rest) (fileRow before rest)
 unfolding fileRow
@@ -72,7 +72,7 @@ file-within before (r ∷ after) =
 pub check-within : (store : List ℕ) (n work : ℕ) → Within 641 (checkRefusal store n work)
 unfolding checkRefusal networkRow argumentsRow
 check-within store n work =
-    either-within (argumentsRow store n) (row-before (row1 n) 1 0 (lit≤ tt) (omega arith) (last-row (row2 store) 2 0 (lit≤ tt) (omega arith)))
+    either-within (argumentsRow store n) (line-before (row1 n) 1 0 (lit≤ tt) (omega arith) (last-row (row2 store) 2 0 (lit≤ tt) (omega arith)))
     (λ e. either-within (fileRow [] (records n store))
     (wider (omega (arith, length-records n store, arguments store n e .few)) (file-within [] (records n store)))
     (λ f. last-row (row11 (records n store) work) 11 0 (lit≤ tt) (omega arith)))
@@ -82,7 +82,7 @@ pub command-within : (store : List ℕ) (n work : ℕ) (c : Rec) → Within 641 
 unfolding commandRefusal commandRow
 command-within store n work c =
     either-within (checkRefusal store n work) (check-within store n work)
-    (λ e. row-before (row12 (records n store) c) 12 0 (lit≤ tt) (omega arith) (last-row (row13 (records n store) c) 13 0 (lit≤ tt) (omega arith)))
+    (λ e. line-before (row12 (records n store) c) 12 0 (lit≤ tt) (omega arith) (last-row (row13 (records n store) c) 13 0 (lit≤ tt) (omega arith)))
 
 -- a number fits in 16 bits
 abbrev pub Fits16 : ℕ → Type 0
@@ -118,8 +118,8 @@ check-small store n work = go (checkRefusal store n work) refl (verdict (records
     go none e (violated p x) m = lowest-small (records n store) p x (checks store n work e .file) m
 
 -- what the command call answers
-pub command-small : (i : Installed) (c : Rec) (work : ℕ) → CommandSmall (step i c work .answer)
-unfolding step judged
+pub command-small : (i : Installed) (c : Rec) (work : ℕ) → CommandSmall (outcomeOf i c work .answer)
+unfolding outcomeOf judged
 command-small i c work =
     go (commandRefusal (i .bytes) (i .count) work c) refl (verdict (applied c (network i))) (verdict-meant (applied c (network i)))
   where

@@ -1,11 +1,14 @@
 use denote.Ref.{now}
 use borrow.Author.Needs.{needs}
-use mathlib.Core.Path.{_≡_, subst}
+use mathlib.Core.Path.{_≡_, subst, _∙_}
+use native.Mathlib.Omega.{arith}
 use lib.ListN.{length}
 use Rattle.records.specs.Record.{Net, records}
 use Rattle.commands.specs.Apply.{applied}
-use Rattle.commands.specs.Effect.{Room}
-use Rattle.commands.proofs.Change.{applied-add, applied-modify, applied-delete}
+use Rattle.commands.specs.Effect.{BufferRoom}
+use Rattle.commands.specs.Laws.Applied.{applied-add, applied-modify, applied-delete, applied-none}
+use Rattle.commands.proofs.Bytes.{room-joined}
+use Rattle.commands.proofs.Change.{all-kept}
 use Rattle.commands.proofs.apply_to.Statement.{statement}
 use Rattle.commands.proofs.apply_to.Tie as tie
 
@@ -14,8 +17,8 @@ net s = records (s .args .n) (now (s .args .store))
 
 -- room for what the command leaves is room for what its kind does
 room : (s : tie.Start) (m : Net) → applied (now (s .args .given)) (net s) ≡ m
-    → Room (now (s .args .next)) (now (s .args .store)) (s .args .n) (length m) × (length (now (s .args .given)) ≡ 24)
-room s m e = (subst (λ (x : Net). Room (now (s .args .next)) (now (s .args .store)) (s .args .n) (length x)) e (s .pre .0), s .pre .1)
+    → BufferRoom (now (s .args .next)) (now (s .args .store)) (s .args .n) (length m) × (length (now (s .args .given)) ≡ 24)
+room s m e = (subst (λ (x : Net). BufferRoom (now (s .args .next)) (now (s .args .store)) (s .args .n) (length x)) e (s .pre .0), s .pre .1)
 
 add-requires : tie.Need-add-requires
 add-requires c κs = let s = c .before .before .before .before .before .before in room s _ (applied-add (now (s .args .given)) (net s) (c .before .match .keys1))
@@ -24,10 +27,14 @@ modify-requires : tie.Need-modify-requires
 modify-requires c κs = let s = c .before .before .before .before .before .before in room s _ (applied-modify (now (s .args .given)) (net s) (c .before .match .keys2))
 
 delete-requires : tie.Need-delete-requires
-delete-requires c κs =
+delete-requires c κs = let s = c .before .before .before .before .before .before in room s _ (applied-delete (now (s .args .given)) (net s) (c .before .match .keys3))
+
+join-requires : tie.Need-join-requires
+join-requires c κs =
     let s = c .before .before .before .before .before .before in
     let m = c .before .match .rest in
-    room s _ (applied-delete (now (s .args .given)) (net s) (m .0 .1) (m .1))
+    let e = applied-none (now (s .args .given)) (net s) (m .0 .0 .1) (m .0 .1) (m .1) in
+    (room-joined _ _ _ _ (e ∙ all-kept (now (s .args .store)) (s .args .n)) (omega arith) (s .pre .0), (omega arith, omega arith))
 
 returns : tie.Need-returns
 returns c =
@@ -45,7 +52,15 @@ returns-3 : tie.Need-returns-3
 returns-3 c =
     let k = c .before .before .before .before in
     let s = k .before .before .before .before .before in
-    rw (applied-delete (now (s .args .given)) (net s) (k .match .rest .0 .1) (k .match .rest .1)) (c .before .before .delete .ensures)
+    rw (applied-delete (now (s .args .given)) (net s) (k .match .keys3)) (c .before .before .delete .ensures)
+
+returns-4 : tie.Need-returns-4
+returns-4 c =
+    let k = c .before .before .before .before in
+    let s = k .before .before .before .before .before in
+    let m = k .match .rest in
+    let e = applied-none (now (s .args .given)) (net s) (m .0 .0 .1) (m .0 .1) (m .1) in
+    rw (e ∙ all-kept (now (s .args .store)) (s .args .n)) (c .before .before .join .ensures)
 
 pub apply-to-spec : {M : Type 1} → statement M
 apply-to-spec =
@@ -55,9 +70,12 @@ apply-to-spec =
     add-requires
     modify-requires
     delete-requires
+    join-requires
     (λ c. search needs)
     returns
     (λ c. search needs)
     returns-2
     (λ c. search needs)
-    returns-3)
+    returns-3
+    (λ c. search needs)
+    returns-4)

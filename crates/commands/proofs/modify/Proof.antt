@@ -4,7 +4,7 @@ use mathlib.Core.Path.{_≡_, sym, ap, _∙_}
 use Prim.Native.Nat.{ℕ, _+_, _<_}
 use native.Mathlib.Omega.{arith}
 use Rattle.records.specs.Record.{Rec, Net, records}
-use Rattle.rows.specs.Found.{found}
+use Rattle.rows.specs.Found.{foundRule}
 use Rattle.rows.specs.declared.rules.Found.the-variants.{At}
 use Rattle.records.specs.Laws.Records.{part-is}
 use Rattle.commands.specs.Apply.{withActions, changed}
@@ -29,7 +29,7 @@ module _ (c : tie.After-f) where
   abbrev i : ℕ
   i = c .f .given .0 .0
 
-  told : At i ≡ found (now (start .args .given)) (net start)
+  told : At i ≡ foundRule (now (start .args .given)) (net start)
   told = sym (c .f .given .1) ∙ c .before .before .find-rule .ensures
 
   below : i < start .args .n

@@ -5,10 +5,10 @@ use Prim.Native.Nat.{ℕ, _-_}
 use lib.ListN.{length, replicate}
 use Rattle.records.specs.Record.{Net, storeBytes, records, flat}
 use Rattle.records.specs.Laws.Records.{Whole, flat-back}
-use Rattle.commands.specs.Effect.{padded, Made}
+use Rattle.commands.specs.Effect.{padded, Built}
 
 -- and its records are read back from a buffer that it was made in
-pub made-records : {net : Net} {count : ℕ} {next : List ℕ} → Made net count next → Whole net → records count next ≡ net
+pub built-records : {net : Net} {count : ℕ} {next : List ℕ} → Built net count next → Whole net → records count next ≡ net
 unfolding padded
-made-records {net} m w =
+built-records {net} m w =
     ap₂ records (m .count-is) (m .bytes-are) ∙ flat-back net (replicate (storeBytes - length (flat net)) 0) w

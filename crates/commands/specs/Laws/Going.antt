@@ -1,12 +1,11 @@
 -- A network that rows 3 to 10 pass, and a command that rows 12 and 13 pass: what the command would leave passes again.
 use mathlib.Core.Path.{_≡_, refl, sym, ap, subst, subst₂, _∙_}
-use mathlib.Core.Bool.{Bool, true, false, cond}
+use mathlib.Core.Bool.{Bool, true, false}
 use mathlib.Core.List.{[], _∷_, _++_}
 use mathlib.Core.Option.{none}
 use Prim.Native.Nat.{_-_}
+use native.Mathlib.Decide.{ℕ-discrete}
 use native.Mathlib.Omega.{arith}
-use borrow.Author.Tests.{eqb-true}
-use lib.Dec.{eqb}
 use lib.ListN.{length, length-append}
 use Rattle.planes.specs.Laws.Tests.{or-none}
 use Rattle.records.specs.Record.{Rec, Net, kind, ofKind, present}
@@ -19,6 +18,7 @@ use Rattle.records.specs.Laws.Kinds.{kinds-append, widths-append, present-appen
 use Rattle.rows.specs.Laws.Passing.{not-empty}
 use Rattle.rows.specs.Laws.Edits.{matchOf, present-match, Kept, stands, rule-replaced, rule-removed, some-front, rule-inserted}
 use Rattle.commands.specs.Apply.{asRule, withActions, changed, inserted, removed, added, applied}
+use Rattle.commands.specs.Laws.Applied.{applied-add, applied-modify, applied-delete}
 use Rattle.commands.specs.Laws.Parts.{Found, found, changed-none, removed-none, Place, place}
 use Rattle.commands.specs.Laws.Stored.{Command, same-rule, as-rule-kind, as-rule-match, as-rule-bytes, as-rule-good, with-actions-bytes, with-actions-kind, with-actions-match, with-actions-good}
 
@@ -105,10 +105,9 @@ module _ (net : Net) (c : Rec) (whole : Whole net) (e : fileRow [] net ≡ none)
       go false t = unchanged (removed c net) (removed-none c net t)
 
   pub applied-kept : Kept net (applied c net)
-  unfolding applied
-  applied-kept = go (eqb (kind c) 6) refl (eqb (kind c) 7) refl
+  applied-kept = go (ℕ-discrete (kind c) 6) (ℕ-discrete (kind c) 7)
     where
-      go : (a : Bool) → eqb (kind c) 6 ≡ a → (b : Bool) → eqb (kind c) 7 ≡ b → Kept net (cond a (added c net) (cond b (changed (withActions c) c net) (removed c net)))
-      go true s b t = added-kept (eqb-true (kind c) 6 s)
-      go false s true t = modify-kept (eqb-true (kind c) 7 t)
-      go false s false t = delete-kept
+      go : Dec (kind c ≡ 6) → Dec (kind c ≡ 7) → Kept net (applied c net)
+      go (yes q) t = subst (Kept net) (sym (applied-add c net q)) (added-kept q)
+      go (no s) (yes q) = subst (Kept net) (sym (applied-modify c net q)) (modify-kept q)
+      go (no s) (no t) = subst (Kept net) (sym (applied-delete c net (omega (arith, s, t, cmd .least, cmd .most)))) delete-kept

@@ -12,7 +12,7 @@ use lib.ListN.{length, getD, take, drop, length-append, length-drop}
 use lib.Seq.{length-take-le, take-all, take-at, drop-at, drop-drop, getD-take, getD-drop}
 use Rattle.planes.specs.Laws.Tests.{both, and-both, or-none}
 use Rattle.records.specs.Lists.{all, sameNumbers}
-use Rattle.records.specs.Record.{Rec, Net, at, kind, ofKind, sameRule, present}
+use Rattle.records.specs.Record.{Rec, Net, mostRules, at, kind, ofKind, sameRule, present}
 use Rattle.records.specs.Widths.{widthsOf}
 use Rattle.rows.specs.Rows.{row12, row13}
 use Rattle.records.specs.Fields.{zeros, actionGood, actionsGood, matchGood, fieldsGood, commandGood}
@@ -29,7 +29,7 @@ pub record Command (net : Net) (c : Rec) : Type 0 where
   pub least : 6 ≤ kind c
   pub most : kind c ≤ 8
   pub good : commandGood (widthsOf net) c ≡ true
-  pub room : kind c ≡ 6 → present c net ≡ false → length (ofKind 4 net) < 256
+  pub room : kind c ≡ 6 → present c net ≡ false → length (ofKind 4 net) < mostRules
 
 -- row 12 refuses a command of another length
 pub faultless-length : (net : Net) (c : Rec) → row12 net c ≡ false → length c ≡ 24
@@ -78,14 +78,14 @@ unfolding asRule
 as-rule-bytes c l = omega (arith, length-drop 1 c)
 
 -- a rule's fields, of its match, its actions and its unnamed bytes
-all-good : (w : Widths) (r : Rec) → kind r ≡ 4 → matchGood w r ≡ true → actionsGood w r ≡ true → zeros 21 24 r ≡ true → fieldsGood w r ≡ true
+all-good : (w : Widths) (r : Rec) → kind r ≡ 4 → matchGood w r ≡ true → actionsGood w r ≡ true → zeros 21 23 r ≡ true → fieldsGood w r ≡ true
 all-good w r q m a z = rule-fields w r q ∙ rw (m, a, z)
 
 -- a command's fields, where it is no delete
-change-good : (w : Widths) (c : Rec) → (kind c ≡ 6) ⊎ (kind c ≡ 7) → commandGood w c ≡ true → (matchGood w c ≡ true) × (actionsGood w c ≡ true) × (zeros 21 24 c ≡ true)
+change-good : (w : Widths) (c : Rec) → (kind c ≡ 6) ⊎ (kind c ≡ 7) → commandGood w c ≡ true → (matchGood w c ≡ true) × (actionsGood w c ≡ true) × (zeros 21 23 c ≡ true)
 change-good w c q e =
-    let t = both (matchGood w c) (actionsGood w c && zeros 21 24 c) (sym (change-fields w c q) ∙ e) in
-    let u = both (actionsGood w c) (zeros 21 24 c) (t .1) in
+    let t = both (matchGood w c) (actionsGood w c && zeros 21 23 c) (sym (change-fields w c q) ∙ e) in
+    let u = both (actionsGood w c) (zeros 21 23 c) (t .1) in
     (t .0, u .0, u .1)
 
 pub as-rule-good : (w : Widths) (c : Rec) → length c ≡ 24 → kind c ≡ 6 → commandGood w c ≡ true → fieldsGood w (asRule c) ≡ true
@@ -148,14 +148,14 @@ module _ (c r : Rec) (lc : length c ≡ 24) (lr : length r ≡ 24) where
   pub with-actions-match : matchOf (withActions c r) ≡ matchOf r
   with-actions-match = match-of (withActions c r) ∙ ap (drop 1) same-front ∙ sym (match-of r)
 
-  zeros-same : zeros 21 24 (withActions c r) ≡ zeros 21 24 r
+  zeros-same : zeros 21 23 (withActions c r) ≡ zeros 21 23 r
   unfolding zeros
   zeros-same =
       ap (all (eqb 0)) (ap (drop 21) (take-all 24 (withActions c r) (omega (arith, with-actions-bytes))) ∙ from-21 ∙ ap (drop 21) (sym (take-all 24 r (omega (arith, lr)))))
 
   pub with-actions-good : (w : Widths) → kind c ≡ 7 → kind r ≡ 4 → commandGood w c ≡ true → fieldsGood w r ≡ true → fieldsGood w (withActions c r) ≡ true
   with-actions-good w q k good e =
-      let t = both (matchGood w r && actionsGood w r) (zeros 21 24 r) (sym (rule-fields w r k) ∙ e) in
+      let t = both (matchGood w r && actionsGood w r) (zeros 21 23 r) (sym (rule-fields w r k) ∙ e) in
       all-good w (withActions c r) (with-actions-kind ∙ k)
       (match-front w (withActions c r) r same-front ∙ both (matchGood w r) (actionsGood w r) (t .0) .0)
       (actions-middle w (withActions c r) c (ap (take 13) from-8 ∙ take-at (take 13 (drop 8 c)) (drop 21 r) 13 middle-13) ∙ change-good w c (inr q) good .1)

@@ -11,8 +11,9 @@ use lib.Dec.{eqb, leb, ltb, lit<, lit≤}
 use lib.ListN.{length, getD, take, drop, length-drop}
 use lib.Seq.{length-take-le, getD-take, getD-drop, slice-cons, slice-empty}
 use Rattle.records.specs.Lists.{all}
-use Rattle.records.specs.Record.{Rec, at, kind}
-use Rattle.records.specs.Fields.{zeros, usedGood, unusedGood, actionOf, actionGood, actionsGood, pointGood, matchGood, nodeGood, fieldsGood, commandGood}
+use Rattle.records.specs.Record.{Rec, mostPolicies, at, kind, recordKind, commandKind}
+use Rattle.records.specs.Policy.{nodeKind}
+use Rattle.records.specs.Fields.{zeros, usedGood, unusedGood, actionBytesGood, actionGood, actionsGood, pointGood, matchGood, nodeGood, fieldsGood, commandGood}
 use Rattle.records.specs.declared.Widths.{Widths}
 
 -- a byte after the kind byte
@@ -36,7 +37,7 @@ match-body w r =
     simp (body-at r 1 (lit< tt) (lit≤ tt), body-at r 4 (lit< tt) (lit≤ tt), body-at r 5 (lit< tt) (lit≤ tt), body-at r 6 (lit< tt) (lit≤ tt), body-at r 7 (lit< tt) (lit≤ tt))
 
 -- an action goes by its three bytes alone
-action-of : (w : Widths) (r : Rec) (count i : ℕ) → actionGood w r count i ≡ actionOf w (at r (9 + 3 * i)) (at r (10 + 3 * i)) (at r (11 + 3 * i)) count i
+action-of : (w : Widths) (r : Rec) (count i : ℕ) → actionGood w r count i ≡ actionBytesGood w (at r (9 + 3 * i)) (at r (10 + 3 * i)) (at r (11 + 3 * i)) count i
 unfolding actionGood
 action-of w r count i = refl
 
@@ -48,18 +49,18 @@ action-body w r count i h =
 
 -- an action by the bytes of a body: one that is used, and one that is not
 module _ (w : Widths) (b : List ℕ) (count i : ℕ) where
-  in-body : actionGood w (0 ∷ b) count i ≡ actionOf w (getD b (8 + 3 * i) 0) (getD b (8 + 3 * i + 1) 0) (getD b (8 + 3 * i + 2) 0) count i
+  in-body : actionGood w (0 ∷ b) count i ≡ actionBytesGood w (getD b (8 + 3 * i) 0) (getD b (8 + 3 * i + 1) 0) (getD b (8 + 3 * i + 2) 0) count i
   in-body =
       rw (action-of w (0 ∷ b) count i)
       (simp (after-kind b (9 + 3 * i) (8 + 3 * i) (omega arith), after-kind b (10 + 3 * i) (8 + 3 * i + 1) (omega arith), after-kind b (11 + 3 * i) (8 + 3 * i + 2) (omega arith)))
 
   pub action-used : i < count → actionGood w (0 ∷ b) count i ≡ usedGood w (getD b (8 + 3 * i) 0) (getD b (8 + 3 * i + 1) 0) (getD b (8 + 3 * i + 2) 0) (eqb (suc i) count)
-  unfolding actionOf
-  action-used h = rw in-body (rw (lt-ltb i count h, actionOf))
+  unfolding actionBytesGood
+  action-used h = rw in-body (rw (lt-ltb i count h, actionBytesGood))
 
   pub action-unused : count ≤ i → actionGood w (0 ∷ b) count i ≡ unusedGood (getD b (8 + 3 * i) 0) (getD b (8 + 3 * i + 1) 0) (getD b (8 + 3 * i + 2) 0)
-  unfolding actionOf
-  action-unused h = rw in-body (rw (le-ltb i count h, actionOf))
+  unfolding actionBytesGood
+  action-unused h = rw in-body (rw (le-ltb i count h, actionBytesGood))
 
 -- actions read from the body are the record's
 pub actions-body : (w : Widths) (r : Rec) → actionsGood w (0 ∷ take 20 (drop 1 r)) ≡ actionsGood w r
@@ -97,53 +98,53 @@ module _ (w : Widths) (r : Rec) where
 
 -- no node has a kind above 8
 pub no-node : (w : Widths) (k a b : ℕ) → 9 ≤ k → nodeGood w k a b ≡ false
-unfolding nodeGood
+unfolding nodeGood nodeKind
 no-node w k a b h =
     let e : k ≡ suc (suc (suc (suc (suc (suc (suc (suc (suc (k - 9))))))))) = omega arith in
     ap (λ (n : ℕ). nodeGood w n a b) e
 
 -- the fields of a record by its kind; none has a kind above 5
 module _ (w : Widths) (r : Rec) where
-  pub widths-fields : kind r ≡ 1 → fieldsGood w r ≡ zeros 4 24 r
-  unfolding fieldsGood
+  pub widths-fields : kind r ≡ 1 → fieldsGood w r ≡ zeros 4 23 r
+  unfolding fieldsGood recordKind
   widths-fields e = rw e
 
-  pub link-fields : kind r ≡ 2 → fieldsGood w r ≡ (pointGood w (at r 1) (at r 2) && pointGood w (at r 3) (at r 4) && zeros 5 24 r)
-  unfolding fieldsGood
+  pub link-fields : kind r ≡ 2 → fieldsGood w r ≡ (pointGood w (at r 1) (at r 2) && pointGood w (at r 3) (at r 4) && zeros 5 23 r)
+  unfolding fieldsGood recordKind
   link-fields e = rw e
 
-  pub miss-fields : kind r ≡ 3 → fieldsGood w r ≡ (ltb (at r 1) (2 ^ w .w) && zeros 2 8 r && actionsGood w r && zeros 21 24 r)
-  unfolding fieldsGood
+  pub miss-fields : kind r ≡ 3 → fieldsGood w r ≡ (ltb (at r 1) (2 ^ w .w) && zeros 2 7 r && actionsGood w r && zeros 21 23 r)
+  unfolding fieldsGood recordKind
   miss-fields e = rw e
 
-  pub rule-fields : kind r ≡ 4 → fieldsGood w r ≡ (matchGood w r && actionsGood w r && zeros 21 24 r)
-  unfolding fieldsGood
+  pub rule-fields : kind r ≡ 4 → fieldsGood w r ≡ (matchGood w r && actionsGood w r && zeros 21 23 r)
+  unfolding fieldsGood recordKind
   rule-fields e = rw e
 
-  pub node-fields : kind r ≡ 5 → fieldsGood w r ≡ (leb (at r 1) 8 && nodeGood w (at r 2) (at r 3) (at r 4) && zeros 5 24 r)
-  unfolding fieldsGood
+  pub node-fields : kind r ≡ 5 → fieldsGood w r ≡ (leb (at r 1) mostPolicies && nodeGood w (at r 2) (at r 3) (at r 4) && zeros 5 23 r)
+  unfolding fieldsGood recordKind
   node-fields e = rw e
 
   pub no-record : 6 ≤ kind r → fieldsGood w r ≡ false
-  unfolding fieldsGood
+  unfolding fieldsGood recordKind
   no-record h = let e : kind r ≡ suc (suc (suc (suc (suc (suc (kind r - 6)))))) = omega arith in rw e
 
 -- the fields of a command by its kind
 module _ (w : Widths) (c : Rec) where
-  pub change-fields : (kind c ≡ 6) ⊎ (kind c ≡ 7) → commandGood w c ≡ (matchGood w c && (actionsGood w c && zeros 21 24 c))
-  unfolding commandGood
+  pub change-fields : (kind c ≡ 6) ⊎ (kind c ≡ 7) → commandGood w c ≡ (matchGood w c && (actionsGood w c && zeros 21 23 c))
+  unfolding commandGood commandKind
   change-fields (inl e) = rw e
   change-fields (inr e) = rw e
 
-  pub delete-fields : kind c ≡ 8 → commandGood w c ≡ (matchGood w c && zeros 8 24 c)
-  unfolding commandGood
+  pub delete-fields : kind c ≡ 8 → commandGood w c ≡ (matchGood w c && zeros 8 23 c)
+  unfolding commandGood commandKind
   delete-fields e = rw e
 
 -- no byte, and one more byte
-pub zeros-none : (m : ℕ) (r : Rec) → zeros m m r ≡ true
+pub zeros-none : (m : ℕ) (r : Rec) → zeros (suc m) m r ≡ true
 unfolding zeros all
-zeros-none m r = rw (slice-empty m r)
+zeros-none m r = rw (slice-empty (suc m) r)
 
-pub zeros-more : (k m : ℕ) (r : Rec) → k < m → m ≤ length r → zeros k m r ≡ (eqb 0 (at r k) && zeros (suc k) m r)
+pub zeros-more : (k m : ℕ) (r : Rec) → k ≤ m → m < length r → zeros k m r ≡ (eqb 0 (at r k) && zeros (suc k) m r)
 unfolding zeros all
-zeros-more k m r h l = rw (slice-cons k m r 0 h l)
+zeros-more k m r h l = rw (slice-cons k (suc m) r 0 (omega arith) (omega arith))

@@ -3,26 +3,20 @@ use mathlib.Core.Path.{_≡_, refl, sym, ap, ap₂, fun-ext, _∙_}
 use mathlib.Core.Bool.{Bool, true, false, cond, _&&_, _||_, and-true, and-false, or-false}
 use mathlib.Core.Logic.{_⊎_, inl, inr, ⊎-elim}
 use mathlib.Core.List.{[], _∷_, _++_}
-use Prim.Native.Nat.{ℕ, zero, suc, _/_, _%_, _^_, _≤_, _<_}
-use native.Mathlib.Nat.{not-suc-le-zero, le-of-suc-le-suc, eq-or-lt-of-le, div-eq-of-lt, lt-of-lt-of-le, two-pow-succ}
+use Prim.Native.Nat.{ℕ, zero, suc, _^_, _≤_, _<_}
+use native.Mathlib.Nat.{not-suc-le-zero, le-of-suc-le-suc, eq-or-lt-of-le}
 use native.Mathlib.Omega.{arith}
 use lib.Bits.{bitOr}
-use lib.Dec.{eqb, eqb·suc-suc, eqb·zero-suc, eqb·suc-zero}
+use lib.Dec.{eqb}
 use lib.ListN.{length, getD, length-append, List·getD-append}
-use lib.Pow.{pow-mono}
 use lib.Seq.{getD-append-seam}
 use borrow.Author.Tests.{eq-eqb, ne-eqb, eqb-true, eqb-false}
 use Rattle.planes.specs.Bit.{bitOf}
-use Rattle.planes.specs.Laws.Bits.{bit-low, bit-half, bit-or}
+use Rattle.planes.specs.Laws.Bits.{bit-zero, bit-or, bit-power}
 use Rattle.records.specs.Record.{Rec, Net, at}
 use Rattle.records.specs.Policy.{Formula, Y, absent, said, firstNodes, formula, nodesOf, free}
 use Rattle.rows.specs.Rows.{freeAt}
 use Rattle.rows.specs.Policies.{Marks}
-
--- a number below 2 ^ k has no bit from k on
-pub bit-out : (a k i : ℕ) → a < 2 ^ k → k ≤ i → bitOf a i ≡ false
-unfolding bitOf
-bit-out a k i h l = rw (div-eq-of-lt (lt-of-lt-of-le h (pow-mono l)))
 
 -- more nodes change none of the first k formulas
 pub first-prefix : (nodes more : Net) (k : ℕ) → k ≤ length nodes → firstNodes (nodes ++ more) k ≡ firstNodes nodes k
@@ -70,20 +64,9 @@ first-formula nodes (suc k) j h =
     (λ l. first-other nodes k j (λ q. omega arith) ∙ first-formula nodes k j l)
     (eq-or-lt-of-le (le-of-suc-le-suc h))
 
--- a power of two has one bit
-pub bit-power : (i j : ℕ) → bitOf (2 ^ i) j ≡ eqb j i
-bit-power zero zero = bit-low 1
-bit-power zero (suc j) = sym (bit-half 1 j) ∙ bit-out 0 0 j (omega arith) (omega arith) ∙ sym (eqb·suc-zero j)
-bit-power (suc i) zero =
-    let e : 2 ^ suc i % 2 ≡ 0 = omega (arith, two-pow-succ i) in
-    bit-low (2 ^ suc i) ∙ ap (λ (m : ℕ). eqb m 1) e ∙ sym (eqb·zero-suc i)
-bit-power (suc i) (suc j) =
-    let e : 2 ^ suc i / 2 ≡ 2 ^ i = omega (arith, two-pow-succ i) in
-    sym (bit-half (2 ^ suc i) j) ∙ ap (λ (m : ℕ). bitOf m j) e ∙ bit-power i j ∙ sym (eqb·suc-suc j i)
-
 pub marks-none : Marks [] 0
 unfolding firstNodes free
-marks-none j = bit-out 0 0 j (omega arith) (omega arith)
+marks-none j = bit-zero j
 
 marked : (y : Bool) (mask n j : ℕ) → bitOf (cond y (bitOr mask (2 ^ n)) mask) j ≡ (bitOf mask j || (y && eqb j n))
 marked true mask n j = bit-or mask (2 ^ n) j ∙ ap (λ (b : Bool). bitOf mask j || b) (bit-power n j)

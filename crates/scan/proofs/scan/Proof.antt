@@ -9,7 +9,7 @@ use Rattle.records.specs.Record.{Net, records}
 use Rattle.rows.specs.Refusal.{fileRow}
 use Rattle.records.specs.Search.{recordAt, recordsAfter}
 use Rattle.scan.specs.Scan.{SeenOf, Turned}
-use Rattle.scan.specs.Layout.{refusalOf, Ended, Bounded, Read}
+use Rattle.scan.specs.Layout.{readingRefusal, Ended, Bounded, Read}
 use Rattle.scan.specs.declared.turns.Seen.{Seen}
 use Rattle.scan.specs.declared.turns.Turn.{Turn}
 use Rattle.scan.specs.declared.Reading.{Reading}
@@ -28,7 +28,7 @@ abbrev μ-loop : tie.MeasureT-loop
 
 -- at the end the layout is read off
 read-all : (net : Net) (r : Reading) → fileRow [] net ≡ fileRow net [] → Ended net r → Read net (fileRow [] net) r
-read-all net r e h = record { answer = h .answer ∙ sym e; layout = λ l q. layout-of net l (e ∙ sym (h .answer) ∙ ap refusalOf q) (h .layout l q) }
+read-all net r e h = record { answer = h .answer ∙ sym e; layout = λ l q. layout-of net l (e ∙ sym (h .answer) ∙ ap readingRefusal q) (h .layout l q) }
 
 bounded : (store : List ℕ) (n : ℕ) (s : Seen) → n * 24 ≤ length store → length store < 18446744073709551616 → SeenOf (records n store) s → Bounded s n
 bounded store n s h l known = record {

@@ -1,12 +1,11 @@
 use borrow.Author.Needs.{needs}
-use mathlib.Core.Path.{ap, ap₂, _∙_}
+use mathlib.Core.Path.{ap}
 use Prim.Native.Nat.{ℕ, _+_, _*_, _≤_}
 use native.Mathlib.Nat.{mul-le-mul, lt-of-le-of-lt}
 use native.Mathlib.Omega.{arith}
 use lib.Dec.{lit<}
 use lib.Pow.{pow-mono}
 use Rattle.records.specs.Widths.{width, planeBytes}
-use Rattle.rows.specs.Rows.{workNeeded}
 use Rattle.records.specs.Laws.Limits.{limits}
 use Rattle.records.specs.declared.Widths.{Widths}
 use Rattle.scan.proofs.work_needed.Statement.{statement}
@@ -28,9 +27,7 @@ mul-result c =
     record { fits = lt-of-le-of-lt (mul-le-mul a b) (lit< tt) }
 
 returns : tie.Need-returns
-unfolding workNeeded
-returns c net layout =
-    ap₂ (λ (k p : ℕ). (k + 2) * p) (layout .longest) (c .plane-bytes .ensures ∙ ap planeBytes (layout .widths))
+returns c = ap (λ (p : ℕ). (c .before .before .before .args .l .longest + 2) * p) (c .plane-bytes .ensures)
 
 pub work-needed-spec : {M : Type 1} → statement M
 work-needed-spec = tie.close (tie.spec (λ c. search needs) plane-bytes-requires mul-result returns)

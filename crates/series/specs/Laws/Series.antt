@@ -13,8 +13,8 @@ use Rattle.verdict.specs.Judgement.{verdict, verdict-meant, only}
 use Rattle.calls.specs.Answer.{CheckAnswer, CommandAnswer, forwarded, blocked}
 use Rattle.commands.specs.Apply.{applied}
 use Rattle.calls.specs.Check.{unless, ofVerdict, checkAnswer}
-use Rattle.calls.specs.Reference.{Installed, network, Outcome, unchanged, judged, step, answers, installed}
-use Rattle.calls.specs.Command.{Call, found, Promised}
+use Rattle.calls.specs.Reference.{Installed, network, Outcome, unchanged, judged, outcomeOf, answers, installed}
+use Rattle.calls.specs.Command.{Call, startOf, Promised}
 use Rattle.series.specs.Series.{countAfter, Series, end, next, SaidToHold, fed, ifForwarded, forwardedApplied, left, NotRefused, JudgedByResult, EachJudged, Kept}
 use Rattle.calls.specs.Laws.Store.{holds-passes, stored-records}
 use Rattle.calls.specs.Laws.Refusals.{goes-on}
@@ -86,31 +86,31 @@ module _ (c : Call) (d : Promised c) where
   abbrev after : Installed
   after = record { count = countAfter (c .count) (c .answer); bytes = c .store-after }
 
-  call-after : after ≡ step (found c) (c .given) (length (c .work)) .after
-  unfolding step
+  call-after : after ≡ outcomeOf (startOf c) (c .given) (length (c .work)) .after
+  unfolding outcomeOf
   call-after =
       ap₂ (λ (n : ℕ) (s : List ℕ). record { count = n; bytes = s })
-      (ap (countAfter (c .count)) (d .answered) ∙ count-is (found c) (c .given) (length (c .work)) refusal (verdict (left c)))
+      (ap (countAfter (c .count)) (d .answered) ∙ count-is (startOf c) (c .given) (length (c .work)) refusal (verdict (left c)))
       (d .stores)
 
-  call-records : network after ≡ ifForwarded (c .answer) (c .given) (network (found c))
-  unfolding step
+  call-records : network after ≡ ifForwarded (c .answer) (c .given) (network (startOf c))
+  unfolding outcomeOf
   call-records =
       ap network call-after
-      ∙ records-are (found c) (c .given) (length (c .work)) refusal (verdict (left c)) (whole (found c) (c .given) (length (c .work)))
-      ∙ ap (λ (a : CommandAnswer). ifForwarded a (c .given) (network (found c))) (sym (d .answered))
+      ∙ records-are (startOf c) (c .given) (length (c .work)) refusal (verdict (left c)) (whole (startOf c) (c .given) (length (c .work)))
+      ∙ ap (λ (a : CommandAnswer). ifForwarded a (c .given) (network (startOf c))) (sym (d .answered))
 
-  call-holds : Holds (network (found c)) → Holds (network after)
-  unfolding step
+  call-holds : Holds (network (startOf c)) → Holds (network after)
+  unfolding outcomeOf
   call-holds h =
       subst⁻¹ (λ (i : Installed). Holds (network i)) call-after
-      (holds-after (found c) (c .given) (length (c .work)) refusal (verdict (left c)) (whole (found c) (c .given) (length (c .work)))
+      (holds-after (startOf c) (c .given) (length (c .work)) refusal (verdict (left c)) (whole (startOf c) (c .given) (length (c .work)))
       (verdict-meant (left c)) h)
 
   call-judged : NotRefused c → JudgedByResult c
-  unfolding step judged
+  unfolding outcomeOf judged
   call-judged n =
-      let i = found c in
+      let i = startOf c in
       let a : c .answer ≡ judged i (left c) (verdict (left c)) .answer =
       answer-is i (c .given) (length (c .work)) refusal (verdict (left c)) (c .answer) (d .answered) n in
       record {

@@ -3,8 +3,8 @@ use mathlib.Core.Path.{_≡_, ap, subst, subst⁻¹}
 use Prim.Native.Nat.{ℕ, _+_, _-_, _*_, _/_, _≤_, _<_}
 use native.Mathlib.Omega.{arith}
 use lib.ListN.{length}
-use Rattle.planes.specs.Rows.{Cleared, Made}
-use Rattle.planes.specs.Laws.Places.{row-before}
+use Rattle.planes.specs.Lines.{Cleared, Made}
+use Rattle.planes.specs.Laws.Places.{line-before}
 use Rattle.planes.specs.Laws.Planes.{made-none}
 use Rattle.records.specs.Lists.{member}
 use Rattle.records.specs.Record.{records}
@@ -12,14 +12,14 @@ use Rattle.records.specs.Widths.{states}
 use Rattle.records.specs.Laws.Limits.{limits}
 use Rattle.records.specs.Laws.States.{whole-bytes}
 use Rattle.steps.specs.Relayed.{relays}
-use Rattle.actions.specs.Lines.{rowBytes, Added}
-use Rattle.steps.proofs.PlaneOfPairs.{row-more}
+use Rattle.actions.specs.Lines.{lineBytes, Added}
+use Rattle.steps.proofs.PlaneOfPairs.{line-more}
 use Rattle.steps.proofs.fill_arriving.Statement.{statement}
 use Rattle.steps.proofs.fill_arriving.Tie as tie
 
--- the rows of the states below s are filled
+-- the lines of the states below s are filled
 abbrev Inv-loop : tie.InvT-loop
-Inv-loop work₀ base store n l states bytes s₀ work s = (s ≤ states) × Made (λ x t. member t (relays (records n store) (l .widths) x)) (rowBytes (l .widths)) base s work₀ work
+Inv-loop work₀ base store n l states bytes s₀ work s = (s ≤ states) × Made (λ x t. member t (relays (records n store) (l .widths) x)) (lineBytes (l .widths)) base s work₀ work
 
 abbrev μ-loop : tie.MeasureT-loop
 μ-loop work₀ base store n l states bytes s₀ work s = states - s
@@ -30,8 +30,8 @@ states-requires c κs = limits (c .before .before .before .args .l .widths) (c .
 loop-holds : tie.Need-loop-holds Inv-loop μ-loop
 loop-holds c = (omega arith, made-none _ _ _ _)
 
--- in a turn, row s lies in the buffer
-bytes-are : (c : tie.After-states Inv-loop μ-loop) → c .states .result / 8 ≡ rowBytes (c .before .before .before .before .args .l .widths)
+-- in a turn, line s lies in the buffer
+bytes-are : (c : tie.After-states Inv-loop μ-loop) → c .states .result / 8 ≡ lineBytes (c .before .before .before .before .args .l .widths)
 bytes-are c = ap (λ (n : ℕ). n / 8) (c .states .ensures)
 
 inside : (c : tie.In-loop Inv-loop μ-loop)
@@ -42,9 +42,9 @@ inside c =
     let o = c .before .loop in
     let s = n .before .before .before .before in
     let w = s .args .l .widths in
-    let h : o .s < rowBytes w * 8 = omega (arith, n .states .ensures, c .loop-test .taken, whole-bytes w (s .pre .1 .laid .limits)) in
+    let h : o .s < lineBytes w * 8 = omega (arith, n .states .ensures, c .loop-test .taken, whole-bytes w (s .pre .1 .laid .limits)) in
     subst⁻¹ (λ (r : ℕ). s .args .base + o .s * r + r ≤ length (o .work)) (bytes-are n)
-    (omega (arith, row-before (o .s) (rowBytes w * 8) (rowBytes w) h, o .inv .1 .len, s .pre .0))
+    (omega (arith, line-before (o .s) (lineBytes w * 8) (lineBytes w) h, o .inv .1 .len, s .pre .0))
 
 relay-state-requires : tie.Need-relay-state-requires Inv-loop μ-loop
 relay-state-requires c κs =
@@ -61,10 +61,10 @@ loop-again c =
     let a = n .before .before .before .before .args in
     let e = bytes-are n in (
       omega arith,
-      row-more (relays (records (a .n) (now (a .store))) (a .l .widths)) (a .base) (rowBytes (a .l .widths)) (o .s) (now (a .work)) (o .work) (k .clear .last .0) (c .before .before .relay-state .last .0)
+      line-more (relays (records (a .n) (now (a .store))) (a .l .widths)) (a .base) (lineBytes (a .l .widths)) (o .s) (now (a .work)) (o .work) (k .clear .last .0) (c .before .before .relay-state .last .0)
           (o .inv .1)
           (subst (λ (r : ℕ). Cleared (a .base + o .s * r) r (o .work) (k .clear .last .0)) e (k .clear .ensures))
-          (subst (λ (r : ℕ). Added (relays (records (a .n) (now (a .store))) (a .l .widths) (o .s)) (a .base + o .s * r) (rowBytes (a .l .widths)) (k .clear .last .0) (c .before .before .relay-state .last .0)) e
+          (subst (λ (r : ℕ). Added (relays (records (a .n) (now (a .store))) (a .l .widths) (o .s)) (a .base + o .s * r) (lineBytes (a .l .widths)) (k .clear .last .0) (c .before .before .relay-state .last .0)) e
           (c .before .before .relay-state .ensures)),
     )
 
@@ -74,7 +74,7 @@ returns c =
     let n = c .before .before in
     let a = n .before .before .before .before .args in
     let e : o .s ≡ states (a .l .widths) = omega (arith, n .states .ensures) in
-    subst (λ (m : ℕ). Made (λ x t. member t (relays (records (a .n) (now (a .store))) (a .l .widths) x)) (rowBytes (a .l .widths)) (a .base) m (now (a .work)) (o .work)) e (o .inv .1)
+    subst (λ (m : ℕ). Made (λ x t. member t (relays (records (a .n) (now (a .store))) (a .l .widths) x)) (lineBytes (a .l .widths)) (a .base) m (now (a .work)) (o .work)) e (o .inv .1)
 
 pub fill-arriving-spec : {M : Type 1} → statement M
 fill-arriving-spec =

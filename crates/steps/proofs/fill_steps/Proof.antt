@@ -4,13 +4,13 @@ use mathlib.Core.Path.{ap, ap₂, subst, _∙_}
 use mathlib.Core.Bool.{Bool, _||_}
 use mathlib.Core.List.{List}
 use Prim.Native.Nat.{ℕ}
-use Rattle.planes.specs.Rows.{Made}
+use Rattle.planes.specs.Lines.{Made}
 use Rattle.records.specs.Lists.{member}
 use Rattle.records.specs.Record.{records, ofKind}
 use Rattle.records.specs.Widths.{states}
 use Rattle.records.specs.declared.Widths.{Widths}
 use Rattle.steps.specs.Step.{across, next}
-use Rattle.actions.specs.Lines.{rowBytes}
+use Rattle.actions.specs.Lines.{lineBytes}
 use Rattle.steps.specs.Relayed.{relays}
 use Rattle.steps.specs.Carried.{crosses}
 use Rattle.steps.proofs.PairBits.{pair-first, pair-second}
@@ -32,7 +32,7 @@ returns c =
     let w = a .l .widths in
     let net = records (a .n) (now (a .store)) in
     let ends : ℕ → ℕ → List (ℕ × ℕ) = λ sw p. across sw p (ofKind 2 net) in
-    subst (λ (v : Widths). Made (λ x t. member t (next net x)) (rowBytes v) (a .base) (states v) (now (a .work)) (c .before .before .cross .last .0)) (s .pre .1 .laid .widths)
+    subst (λ (v : Widths). Made (λ x t. member t (next net x)) (lineBytes v) (a .base) (states v) (now (a .work)) (c .before .before .cross .last .0)) (s .pre .1 .laid .widths)
     (pairs-added w (s .pre .1 .laid .limits) (a .base) (λ x t. member t (relays net w x)) (λ x t. member t (next net x)) _ _ _ _ (f .fill-arriving .ensures) (c .before .before .cross .ensures)
     (λ x t hx ht.
     ap (λ (b : Bool). b || member t (relays net w x)) (ap₂ (crosses w ends) (pair-first w x t ht) (pair-second w x t ht))

@@ -1,4 +1,4 @@
--- Operations on the bits of a byte and of a row; a row that is made bit by bit.
+-- Operations on the bits of a byte and of a line; a line that is made bit by bit.
 use mathlib.Core.Path.{_≡_, refl, sym, ap, _∙_}
 use mathlib.Core.Bool.{Bool, true, false, not, _||_, or-true, or-false}
 use mathlib.Core.List.{List}
@@ -14,12 +14,12 @@ use lib.Seq.{getD-set-same, getD-set-other, set-getD}
 use lib.Bits.{bitOr, bitXor, xor-shr, xor-mod, or-zero-r}
 use Rattle.planes.specs.Bit.{bitOf}
 use Rattle.planes.specs.Plane.{bit}
-use Rattle.planes.specs.Laws.Rows.{no-bit}
+use Rattle.planes.specs.Laws.Lines.{no-bit}
 use Rattle.planes.specs.Laws.Bits.{bit-and, bit-or, bit-not, bit-zero, digit-cases}
 use Rattle.planes.proofs.Setting.{bit-set}
 use Rattle.truth.specs.declared.lines.Op.{Op}
 use Rattle.truth.specs.declared.lines.Op.the-variants.{Not, And, Or}
-use Rattle.truth.specs.Shapes.{opBool, opByte, fullByte, weightIf, Row, Joined, Pushed}
+use Rattle.truth.specs.Shapes.{opBool, opByte, fullByte, weightIf, Line, Joined, Pushed}
 
 pub full-bit : (t : Bool) (i : ℕ) → i < 8 → bitOf (fullByte t) i ≡ t
 full-bit true i h = bit-not 8 0 i (omega arith) h ∙ ap not (bit-zero i)
@@ -42,7 +42,7 @@ op-bit Not a b i h = bit-flip a i h
 op-bit And a b i h = bit-and a b i
 op-bit Or a b i h = bit-or a b i
 
--- and at a bit of a row
+-- and at a bit of a line
 pub joined-bit : (o : Op) (p q r : List ℕ) → Joined o p q r 128 → (y : ℕ) → y < 1024 → bit r y ≡ opBool o (bit p y) (bit q y)
 unfolding bit
 joined-bit o p q r J y h =
@@ -60,14 +60,14 @@ joined-more o p q r j v I h e = record {
       (getD-set-same r j v 0 h ∙ e);
 }
 
--- a row that is one full byte over and over
-pub full-row : (t : Bool) (b y : ℕ) → b ≡ fullByte t → y < 1024 → bit (replicate 128 b) y ≡ t
+-- a line that is one full byte over and over
+pub full-line : (t : Bool) (b y : ℕ) → b ≡ fullByte t → y < 1024 → bit (replicate 128 b) y ≡ t
 unfolding bit
-full-row t b y e h =
+full-line t b y e h =
     ap (λ (c : ℕ). bitOf c (y % 8)) (getD-replicate 128 (y / 8) b 0 (omega arith) ∙ e)
     ∙ full-bit t (y % 8) (omega arith)
 
--- the first z bits of a row are f, and the others are not set
+-- the first z bits of a line are f, and the others are not set
 pub record Upto (f : ℕ → Bool) (z : ℕ) (r : List ℕ) : Type 0 where
   pub done : (y : ℕ) → y < z → bit r y ≡ f y
   pub blank : (y : ℕ) → z ≤ y → bit r y ≡ false
@@ -83,12 +83,12 @@ upto-more f z r e t U P q = record {
   blank = λ y h. P .others y (λ s. omega arith) ∙ U .blank y (omega arith);
 }
 
--- the row is done
-pub upto-all : (f : ℕ → Bool) (z n : ℕ) (r : List ℕ) → z ≡ n → Upto f z r → Row f n r
+-- the line is done
+pub upto-all : (f : ℕ → Bool) (z n : ℕ) (r : List ℕ) → z ≡ n → Upto f z r → Line f n r
 upto-all f z n r e U = record { is = λ y h. U .done y (omega arith) }
 
-pub row-as : (f g : ℕ → Bool) (n : ℕ) (r : List ℕ) → ((z : ℕ) → z < n → f z ≡ g z) → Row f n r → Row g n r
-row-as f g n r h R = record { is = λ z l. R .is z l ∙ h z l }
+pub line-as : (f g : ℕ → Bool) (n : ℕ) (r : List ℕ) → ((z : ℕ) → z < n → f z ≡ g z) → Line f n r → Line g n r
+line-as f g n r h R = record { is = λ z l. R .is z l ∙ h z l }
 
 -- the store that sets bit z where t is true
 pub pushed : (r : List ℕ) (z : ℕ) (t : Bool) → z / 8 < length r → Pushed z t r (set r (z / 8) (bitOr (getD r (z / 8) 0) (weightIf t (z % 8))))

@@ -9,9 +9,9 @@ use native.Mathlib.Decide.{ℕ-discrete}
 use native.Mathlib.Omega.{arith}
 use lib.ListN.{List·getD-eq-default}
 use Rattle.planes.specs.Bit.{bitOf}
-use Rattle.planes.specs.Rows.{Made, Cleared}
+use Rattle.planes.specs.Lines.{Made, Cleared}
 use Rattle.planes.specs.Plane.{bit, cell, planeSize}
-use Rattle.planes.specs.Laws.Places.{row-before}
+use Rattle.planes.specs.Laws.Places.{line-before}
 use Rattle.records.specs.Policy.{Formula, kBIT, kR, kE, kNOT, kAND, kOR, kSOME, kALL, kTC, kNone, nodeKind, nodeSays, varOf}
 use Rattle.closure.specs.Laws.Walks.{map-walk}
 use Rattle.truth.specs.declared.lines.Op.the-variants.{And, Or}
@@ -22,19 +22,19 @@ use Rattle.truth.specs.Laws.PlaneShapes.{made-none}
 use Rattle.truth.specs.Laws.Tables.{not-iff, withX-lt, withY-lt, any-iff, all-iff}
 
 -- the plane of an earlier node ends before that of a later one starts
-pub plane-before : (w j k : ℕ) → j < k → planeAt w j + planeSize w ≤ planeAt w k
-plane-before w j k h = row-before (j + 2) (k + 2) (planeSize w) (omega arith)
+pub plane-before : (pitch j k : ℕ) → j < k → planeAt pitch j + planeSize pitch ≤ planeAt pitch k
+plane-before pitch j k h = line-before (j + 2) (k + 2) (planeSize pitch) (omega arith)
 
 -- the first two planes are the steps' and the scratch plane
-pub plane-after : (w k : ℕ) → planeSize w + planeSize w ≤ planeAt w k
-plane-after w k = let h : 2 ≤ k + 2 = omega arith in omega (arith, mul-le-mul-right (planeSize w) h)
+pub plane-after : (pitch k : ℕ) → planeSize pitch + planeSize pitch ≤ planeAt pitch k
+plane-after pitch k = let h : 2 ≤ k + 2 = omega arith in omega (arith, mul-le-mul-right (planeSize pitch) h)
 
 -- offsets fit a machine number
-pub offset-fits : (w k : ℕ) → w ≤ 128 → k < 256 → planeAt w k ≤ 33816576
-offset-fits w k h l =
-    let s : w * 8 ≤ 1024 = omega arith in
+pub offset-fits : (pitch k : ℕ) → pitch ≤ 128 → k < 256 → planeAt pitch k ≤ 33816576
+offset-fits pitch k h l =
+    let s : pitch * 8 ≤ 1024 = omega arith in
     let t : k + 2 ≤ 258 = omega arith in
-    omega (arith, mul-le-mul-right w s, mul-le-mul-right (planeSize w) t)
+    omega (arith, mul-le-mul-right pitch s, mul-le-mul-right (planeSize pitch) t)
 
 and-says : {P Q : Type 0} (p q : Bool) → p ≡ true ↔ P → q ≡ true ↔ Q → (p && q) ≡ true ↔ (P × Q)
 and-says true q e f = (λ t. (e .0 refl, f .0 t), λ t. f .1 (t .1))
@@ -67,42 +67,42 @@ module _ (kind a b : ℕ) where
   pub second-operand : (n : ℕ) → kind ≡ n → 1 < arity (nodeKind n) → Operand (nodeKind kind) a b b
   second-operand n e h = inr (subst (λ (m : ℕ). 1 < arity (nodeKind m)) (sym e) h, refl)
 
-module _ (kind a b k w : ℕ) (work : List ℕ) (M : Makeable kind a b k w work) where
-  pub own-plane : Plane work w (planeAt w k)
+module _ (kind a b k pitch : ℕ) (work : List ℕ) (M : Makeable kind a b k pitch work) where
+  pub own-plane : Plane work pitch (planeAt pitch k)
   own-plane = record { small = M .small; within = M .within }
 
-  pub step-source : Source work w (planeAt w k) 0
-  step-source = record { within = omega (arith, M .within, plane-after w k); apart = inl (omega (arith, plane-after w k)) }
+  pub step-source : Source work pitch (planeAt pitch k) 0
+  step-source = record { within = omega (arith, M .within, plane-after pitch k); apart = inl (omega (arith, plane-after pitch k)) }
 
-  pub scratch-source : Source work w (planeAt w k) (planeSize w)
-  scratch-source = record { within = omega (arith, M .within, plane-after w k); apart = inl (plane-after w k) }
+  pub scratch-source : Source work pitch (planeAt pitch k) (planeSize pitch)
+  scratch-source = record { within = omega (arith, M .within, plane-after pitch k); apart = inl (plane-after pitch k) }
 
-  pub operand-source : (j : ℕ) → Operand (nodeKind kind) a b j → Source work w (planeAt w k) (planeAt w j)
+  pub operand-source : (j : ℕ) → Operand (nodeKind kind) a b j → Source work pitch (planeAt pitch k) (planeAt pitch j)
   operand-source j o =
-      let h = plane-before w j k (M .earlier j o) in
+      let h = plane-before pitch j k (M .earlier j o) in
       record { within = omega (arith, M .within); apart = inl h }
 
-  pub operand-sources : (n : ℕ) → kind ≡ n → 1 < arity (nodeKind n) → Source work w (planeAt w k) (planeAt w a) × Source work w (planeAt w k) (planeAt w b)
+  pub operand-sources : (n : ℕ) → kind ≡ n → 1 < arity (nodeKind n) → Source work pitch (planeAt pitch k) (planeAt pitch a) × Source work pitch (planeAt pitch k) (planeAt pitch b)
   operand-sources n e h = (operand-source a (first-operand kind a b n e (omega arith)), operand-source b (second-operand kind a b n e h))
 
-  pub operand-scratch : (j : ℕ) → Operand (nodeKind kind) a b j → Source work w (planeSize w) (planeAt w j)
+  pub operand-scratch : (j : ℕ) → Operand (nodeKind kind) a b j → Source work pitch (planeSize pitch) (planeAt pitch j)
   operand-scratch j o =
-      let h = plane-before w j k (M .earlier j o) in
-      record { within = omega (arith, M .within); apart = inr (plane-after w j) }
+      let h = plane-before pitch j k (M .earlier j o) in
+      record { within = omega (arith, M .within); apart = inr (plane-after pitch j) }
 
-module _ (kind a b k w : ℕ) (ext work : List ℕ) where
+module _ (kind a b k pitch : ℕ) (ext work : List ℕ) where
   -- what the operands' planes say
   abbrev Given : (ℕ → Formula) → Type 0
-  Given operand = (j : ℕ) → Operand (nodeKind kind) a b j → Shows (modelAt w ext work) w (planeAt w j) work (operand j)
+  Given operand = (j : ℕ) → Operand (nodeKind kind) a b j → Shows (modelAt pitch ext work) pitch (planeAt pitch j) work (operand j)
 
   -- what the node says
   abbrev Says : (ℕ → Formula) → ℕ → ℕ → Type 0
-  Says operand x y = Truth (modelAt w ext work) (nodeSays (nodeKind kind) a b operand) x y
+  Says operand x y = Truth (modelAt pitch ext work) (nodeSays (nodeKind kind) a b operand) x y
 
   -- a plane that is f, which is what the node says
-  node-made : (f : ℕ → ℕ → Bool) (after : List ℕ) → Made f w (planeAt w k) (w * 8) work after
-      → ((operand : ℕ → Formula) → Given operand → (x y : ℕ) → x < w * 8 → y < w * 8 → f x y ≡ true ↔ Says operand x y)
-      → NodeMade kind a b k w ext work after
+  node-made : (f : ℕ → ℕ → Bool) (after : List ℕ) → Made f pitch (planeAt pitch k) (pitch * 8) work after
+      → ((operand : ℕ → Formula) → Given operand → (x y : ℕ) → x < pitch * 8 → y < pitch * 8 → f x y ≡ true ↔ Says operand x y)
+      → NodeMade kind a b k pitch ext work after
   node-made f after P s = record {
     len = P .len;
     shows = λ operand g. record {
@@ -115,54 +115,54 @@ module _ (kind a b k w : ℕ) (ext work : List ℕ) where
   }
 
   module _ (after : List ℕ) where
-    pub bit-node : kind ≡ 0 → Made (λ x y. bitOf (value (varOf a) x y) b) w (planeAt w k) (w * 8) work after → NodeMade kind a b k w ext work after
+    pub bit-node : kind ≡ 0 → Made (λ x y. bitOf (value (varOf a) x y) b) pitch (planeAt pitch k) (pitch * 8) work after → NodeMade kind a b k pitch ext work after
     unfolding nodeKind nodeSays Truth
     bit-node e P = node-made _ after P (λ operand g x y hx hy. rw e (λ t. t, λ t. t))
 
-    pub step-node : kind ≡ 1 → Made (arranged (varOf a) (varOf b) work 0 w) w (planeAt w k) (w * 8) work after → NodeMade kind a b k w ext work after
+    pub step-node : kind ≡ 1 → Made (arranged (varOf a) (varOf b) work 0 pitch) pitch (planeAt pitch k) (pitch * 8) work after → NodeMade kind a b k pitch ext work after
     unfolding nodeKind nodeSays Truth
     step-node e P = node-made _ after P (λ operand g x y hx hy. rw e (λ t. t, λ t. t))
 
-    pub external-node : kind ≡ 2 → Made (λ x y. bit ext (value (varOf a) x y)) w (planeAt w k) (w * 8) work after → NodeMade kind a b k w ext work after
+    pub external-node : kind ≡ 2 → Made (λ x y. bit ext (value (varOf a) x y)) pitch (planeAt pitch k) (pitch * 8) work after → NodeMade kind a b k pitch ext work after
     unfolding nodeKind nodeSays Truth
     external-node e P = node-made _ after P (λ operand g x y hx hy. rw e (λ t. t, λ t. t))
 
-    pub not-node : kind ≡ 3 → Made (λ x y. not (cell work (planeAt w a) w x y)) w (planeAt w k) (w * 8) work after → NodeMade kind a b k w ext work after
+    pub not-node : kind ≡ 3 → Made (λ x y. not (cell work (planeAt pitch a) pitch x y)) pitch (planeAt pitch k) (pitch * 8) work after → NodeMade kind a b k pitch ext work after
     unfolding nodeKind nodeSays Truth
     not-node e P = node-made _ after P (λ operand g x y hx hy.
         let s = g a (first-operand kind a b 3 e (omega arith)) .at x y hx hy in
-        rw e (not-iff (cell work (planeAt w a) w x y) s))
+        rw e (not-iff (cell work (planeAt pitch a) pitch x y) s))
 
-    pub and-node : kind ≡ 4 → Made (λ x y. cell work (planeAt w a) w x y && cell work (planeAt w b) w x y) w (planeAt w k) (w * 8) work after
-        → NodeMade kind a b k w ext work after
+    pub and-node : kind ≡ 4 → Made (λ x y. cell work (planeAt pitch a) pitch x y && cell work (planeAt pitch b) pitch x y) pitch (planeAt pitch k) (pitch * 8) work after
+        → NodeMade kind a b k pitch ext work after
     unfolding nodeKind nodeSays Truth
     and-node e P = node-made _ after P (λ operand g x y hx hy.
         let s = g a (first-operand kind a b 4 e (omega arith)) .at x y hx hy in
         let t = g b (second-operand kind a b 4 e (omega arith)) .at x y hx hy in
-        rw e (and-says (cell work (planeAt w a) w x y) (cell work (planeAt w b) w x y) s t))
+        rw e (and-says (cell work (planeAt pitch a) pitch x y) (cell work (planeAt pitch b) pitch x y) s t))
 
-    pub or-node : kind ≡ 5 → Made (λ x y. cell work (planeAt w a) w x y || cell work (planeAt w b) w x y) w (planeAt w k) (w * 8) work after
-        → NodeMade kind a b k w ext work after
+    pub or-node : kind ≡ 5 → Made (λ x y. cell work (planeAt pitch a) pitch x y || cell work (planeAt pitch b) pitch x y) pitch (planeAt pitch k) (pitch * 8) work after
+        → NodeMade kind a b k pitch ext work after
     unfolding nodeKind nodeSays Truth
     or-node e P = node-made _ after P (λ operand g x y hx hy.
         let s = g a (first-operand kind a b 5 e (omega arith)) .at x y hx hy in
         let t = g b (second-operand kind a b 5 e (omega arith)) .at x y hx hy in
-        rw e (or-says (cell work (planeAt w a) w x y) (cell work (planeAt w b) w x y) s t))
+        rw e (or-says (cell work (planeAt pitch a) pitch x y) (cell work (planeAt pitch b) pitch x y) s t))
 
-    pub some-node : kind ≡ 6 → Made (ranged Or (varOf b) work (planeAt w a) w) w (planeAt w k) (w * 8) work after → NodeMade kind a b k w ext work after
+    pub some-node : kind ≡ 6 → Made (ranged Or (varOf b) work (planeAt pitch a) pitch) pitch (planeAt pitch k) (pitch * 8) work after → NodeMade kind a b k pitch ext work after
     unfolding nodeKind nodeSays Truth
     some-node e P = node-made _ after P (λ operand g x y hx hy.
         let s = g a (first-operand kind a b 6 e (omega arith)) .at in
-        rw e (some-says (w * 8) _ (λ z hz. s (withX (varOf b) z x) (withY (varOf b) z y) (withX-lt (varOf b) hz hx) (withY-lt (varOf b) hz hy))))
+        rw e (some-says (pitch * 8) _ (λ z hz. s (withX (varOf b) z x) (withY (varOf b) z y) (withX-lt (varOf b) hz hx) (withY-lt (varOf b) hz hy))))
 
-    pub all-node : kind ≡ 7 → Made (ranged And (varOf b) work (planeAt w a) w) w (planeAt w k) (w * 8) work after → NodeMade kind a b k w ext work after
+    pub all-node : kind ≡ 7 → Made (ranged And (varOf b) work (planeAt pitch a) pitch) pitch (planeAt pitch k) (pitch * 8) work after → NodeMade kind a b k pitch ext work after
     unfolding nodeKind nodeSays Truth
     all-node e P = node-made _ after P (λ operand g x y hx hy.
         let s = g a (first-operand kind a b 7 e (omega arith)) .at in
-        rw e (all-says (w * 8) _ (λ z hz. s (withX (varOf b) z x) (withY (varOf b) z y) (withX-lt (varOf b) hz hx) (withY-lt (varOf b) hz hy))))
+        rw e (all-says (pitch * 8) _ (λ z hz. s (withX (varOf b) z x) (withY (varOf b) z y) (withX-lt (varOf b) hz hx) (withY-lt (varOf b) hz hy))))
 
-    pub closure-node : kind ≡ 8 → Reaches (varOf (b / 2)) (varOf (b % 2)) w (planeAt w a) (planeSize w) (planeAt w k) work after
-        → NodeMade kind a b k w ext work after
+    pub closure-node : kind ≡ 8 → Reaches (varOf (b / 2)) (varOf (b % 2)) pitch (planeAt pitch a) (planeSize pitch) (planeAt pitch k) work after
+        → NodeMade kind a b k pitch ext work after
     unfolding nodeKind nodeSays Truth
     closure-node e P = record {
       len = P .len;
@@ -178,9 +178,9 @@ module _ (kind a b k w : ℕ) (ext work : List ℕ) where
       rest = P .rest;
     }
 
-    pub no-node : 9 ≤ kind → Cleared (planeAt w k) (planeSize w) work after → NodeMade kind a b k w ext work after
+    pub no-node : 9 ≤ kind → Cleared (planeAt pitch k) (planeSize pitch) work after → NodeMade kind a b k pitch ext work after
     unfolding nodeSays Truth
-    no-node h C = node-made _ after (made-none w (planeAt w k) work after C) (λ operand g x y hx hy. rw (no-kind kind h) (λ t. false≢true t, λ t. absurd t))
+    no-node h C = node-made _ after (made-none pitch (planeAt pitch k) work after C) (λ operand g x y hx hy. rw (no-kind kind h) (λ t. false≢true t, λ t. absurd t))
 
 -- a number from m on that is not m
 pub from-next : {m n : ℕ} → m ≤ n → (n ≡ m → ⊥) → suc m ≤ n

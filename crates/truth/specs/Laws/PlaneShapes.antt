@@ -1,4 +1,4 @@
--- Rows spread over a plane; bits by stride; a plane that was copied, closed and arranged.
+-- Lines spread over a plane; bits by stride; a plane that was copied, closed and arranged.
 use mathlib.Core.Path.{_≡_, refl, sym, ap, _∙_}
 use mathlib.Core.Bool.{Bool, true, false, _||_}
 use mathlib.Core.List.{List}
@@ -7,11 +7,11 @@ use Prim.Native.Nat.{ℕ, zero, suc, _+_, _*_, _/_, _<_}
 use native.Mathlib.Nat.{mul-assoc, mul-add, mul-one}
 use native.Mathlib.Omega.{arith}
 use lib.ListN.{length}
-use Rattle.planes.specs.Rows.{Made, Cleared}
+use Rattle.planes.specs.Lines.{Made, Cleared}
 use Rattle.planes.specs.Laws.Planes.{made-as}
 use Rattle.planes.specs.Plane.{bit, cell, On, planeSize}
-use Rattle.planes.specs.Laws.Places.{row-before}
-use Rattle.planes.specs.Laws.Rows.{cleared-bit}
+use Rattle.planes.specs.Laws.Places.{line-before}
+use Rattle.planes.specs.Laws.Lines.{cleared-bit}
 use Rattle.records.specs.Policy.{Var, Y, varOf}
 use Rattle.closure.specs.Walk.{Walk}
 use Rattle.closure.specs.Closed.{Closed}
@@ -19,7 +19,7 @@ use Rattle.closure.specs.Laws.Walks.{map-walk}
 use Rattle.truth.specs.declared.lines.Op.the-variants.{Or}
 use Rattle.truth.specs.Truth.{value}
 use Rattle.truth.specs.Laws.Tables.{value-lt}
-use Rattle.truth.specs.Shapes.{opBool, Row, Plane, Source, arranged, Reaches}
+use Rattle.truth.specs.Shapes.{opBool, Line, Plane, Source, arranged, Reaches}
 
 -- a byte other than 0 names Y
 pub other-var : (v : ℕ) → (v ≡ 0 → ⊥) → varOf v ≡ Y
@@ -27,46 +27,46 @@ other-var zero h = absurd (h refl)
 other-var (suc v) h = refl
 
 -- a plane that tests one variable
-pub made-spread : (g : ℕ → Bool) (v : Var) (w base : ℕ) (a b r : List ℕ) → Row g (w * 8) r
-    → Made (λ x y. bit r (value v x y)) w base (w * 8) a b → Made (λ x y. g (value v x y)) w base (w * 8) a b
-made-spread g v w base a b r R M = made-as _ _ w base (w * 8) a b (λ x y hx hy. R .is (value v x y) (value-lt v hx hy)) M
+pub made-spread : (g : ℕ → Bool) (v : Var) (pitch base : ℕ) (a b r : List ℕ) → Line g (pitch * 8) r
+    → Made (λ x y. bit r (value v x y)) pitch base (pitch * 8) a b → Made (λ x y. g (value v x y)) pitch base (pitch * 8) a b
+made-spread g v pitch base a b r R M = made-as _ _ pitch base (pitch * 8) a b (λ x y hx hy. R .is (value v x y) (value-lt v hx hy)) M
 
 or-same : (p : Bool) → (p || p) ≡ p
 or-same true = refl
 or-same false = refl
 
-pub made-copy : (w base p : ℕ) (a b : List ℕ) → Made (λ x y. opBool Or (cell a p w x y) (cell a p w x y)) w base (w * 8) a b
-    → Made (cell a p w) w base (w * 8) a b
-made-copy w base p a b M = made-as _ _ w base (w * 8) a b (λ x y hx hy. or-same (cell a p w x y)) M
+pub made-copy : (pitch base p : ℕ) (a b : List ℕ) → Made (λ x y. opBool Or (cell a p pitch x y) (cell a p pitch x y)) pitch base (pitch * 8) a b
+    → Made (cell a p pitch) pitch base (pitch * 8) a b
+made-copy pitch base p a b M = made-as _ _ pitch base (pitch * 8) a b (λ x y hx hy. or-same (cell a p pitch x y)) M
 
 -- a plane that was cleared
-pub made-none : (w base : ℕ) (a b : List ℕ) → Cleared base (planeSize w) a b → Made (λ x y. false) w base (w * 8) a b
-made-none w base a b C = record {
+pub made-none : (pitch base : ℕ) (a b : List ℕ) → Cleared base (planeSize pitch) a b → Made (λ x y. false) pitch base (pitch * 8) a b
+made-none pitch base a b C = record {
   len = C .len;
   here = λ x y hx hy.
-      let e : (base + x * w) * 8 + y ≡ base * 8 + (x * w * 8 + y) = omega arith in
-      ap (bit b) e ∙ cleared-bit base (planeSize w) a b C (x * w * 8 + y) (omega (arith, row-before x (w * 8) w hx));
+      let e : (base + x * pitch) * 8 + y ≡ base * 8 + (x * pitch * 8 + y) = omega arith in
+      ap (bit b) e ∙ cleared-bit base (planeSize pitch) a b C (x * pitch * 8 + y) (omega (arith, line-before x (pitch * 8) pitch hx));
   under = C .under;
   over = C .over;
 }
 
--- bit x of row z, by stride
-pub at-cell : (p w x z : ℕ) → p * 8 + (x + z * (w * 8)) ≡ (p + z * w) * 8 + x
-at-cell p w x z = omega (arith, mul-assoc z w 8)
+-- bit x of line z, by stride
+pub at-cell : (p pitch x z : ℕ) → p * 8 + (x + z * (pitch * 8)) ≡ (p + z * pitch) * 8 + x
+at-cell p pitch x z = omega (arith, mul-assoc z pitch 8)
 
-pub in-stride : (w x z : ℕ) → x < w * 8 → z < w * 8 → (x + z * (w * 8)) / 8 < planeSize w
-in-stride w x z hx hz = omega (arith, mul-assoc z w 8, row-before z (w * 8) w hz)
+pub in-stride : (pitch x z : ℕ) → x < pitch * 8 → z < pitch * 8 → (x + z * (pitch * 8)) / 8 < planeSize pitch
+in-stride pitch x z hx hz = omega (arith, mul-assoc z pitch 8, line-before z (pitch * 8) pitch hz)
 
-pub on-diagonal : (w z : ℕ) → 0 + z * (w * 8 + 1) ≡ z + z * (w * 8)
-on-diagonal w z = omega (arith, mul-add z (w * 8) 1, mul-one z)
+pub on-diagonal : (pitch z : ℕ) → 0 + z * (pitch * 8 + 1) ≡ z + z * (pitch * 8)
+on-diagonal pitch z = omega (arith, mul-add z (pitch * 8) 1, mul-one z)
 
 -- copied, closed and arranged
-module _ (u v : Var) (w p scratch base : ℕ) (a a1 a2 b : List ℕ) (M1 : Made (cell a p w) w scratch (w * 8) a a1) (C : Closed scratch w a1 a2)
-    (M2 : Made (arranged u v a2 scratch w) w base (w * 8) a2 b) where
-  walks : (x y : ℕ) → Walk (w * 8) (On a1 scratch w) x y ↔ Walk (w * 8) (On a p w) x y
+module _ (u v : Var) (pitch p scratch base : ℕ) (a a1 a2 b : List ℕ) (M1 : Made (cell a p pitch) pitch scratch (pitch * 8) a a1) (C : Closed scratch pitch a1 a2)
+    (M2 : Made (arranged u v a2 scratch pitch) pitch base (pitch * 8) a2 b) where
+  walks : (x y : ℕ) → Walk (pitch * 8) (On a1 scratch pitch) x y ↔ Walk (pitch * 8) (On a p pitch) x y
   walks x y = (map-walk (λ i j hi hj t. sym (M1 .here i j hi hj) ∙ t), map-walk (λ i j hi hj t. M1 .here i j hi hj ∙ t))
 
-  pub reaches : Reaches u v w p scratch base a b
+  pub reaches : Reaches u v pitch p scratch base a b
   reaches = record {
     len = M2 .len ∙ C .len ∙ M1 .len;
     here = λ x y hx hy.
@@ -82,8 +82,8 @@ module _ (u v : Var) (w p scratch base : ℕ) (a a1 a2 b : List ℕ) (M1 : Made 
         ∙ ⊎-elim (λ q. M1 .under m q) (λ q. M1 .over m q) hs;
   }
 
-pub source-in : (a l : List ℕ) (w base p : ℕ) → length l ≡ length a → Source a w base p → Source l w base p
-source-in a l w base p e S = record { within = omega (arith, S .within); apart = S .apart }
+pub source-in : (a l : List ℕ) (pitch base p : ℕ) → length l ≡ length a → Source a pitch base p → Source l pitch base p
+source-in a l pitch base p e S = record { within = omega (arith, S .within); apart = S .apart }
 
-pub plane-in : (a l : List ℕ) (w p : ℕ) → length l ≡ length a → Plane a w p → Plane l w p
-plane-in a l w p e P = record { small = P .small; within = omega (arith, P .within) }
+pub plane-in : (a l : List ℕ) (pitch p : ℕ) → length l ≡ length a → Plane a pitch p → Plane l pitch p
+plane-in a l pitch p e P = record { small = P .small; within = omega (arith, P .within) }

@@ -13,7 +13,7 @@ use Rattle.records.specs.Widths.{states, widthsOf}
 use Rattle.records.specs.Policy.{Var, X, Y, Formula, absent, BIT, R, E, NOT, AND, OR, SOME, ALL, TC}
 use Rattle.steps.specs.Step.{next, Step, external}
 use Rattle.closure.specs.Walk.{Walk}
-use Rattle.closure.specs.Computed.{cell, grid, closed}
+use Rattle.closure.specs.Computed.{gridTest, grid, closed}
 use Rattle.closure.specs.Laws.Walks.{map-walk}
 use Rattle.closure.specs.Laws.Closing.{tab-at, grid-at, closed-iff}
 use Rattle.truth.specs.Truth.{Model, modelOf, value, withX, withY, Truth}
@@ -22,7 +22,7 @@ use Rattle.truth.specs.Computed.{Table, tableOf, anyBelow, allBelow, tru
 -- a table has a model's states, steps and external points
 pub record Agrees (m : Model) (t : Table) : Type 0 where
   pub counts : t .count ≡ m .count
-  pub steps-agree : (x y : ℕ) → x < m .count → y < m .count → cell (t .steps) x y ≡ true ↔ m .Steps x y
+  pub steps-agree : (x y : ℕ) → x < m .count → y < m .count → gridTest (t .steps) x y ≡ true ↔ m .Steps x y
   pub externals-agree : (x : ℕ) → x < m .count → getD (t .externals) x false ≡ true ↔ m .External x
 
 pub value-lt : {S : ℕ} (v : Var) {x y : ℕ} → x < S → y < S → value v x y < S
@@ -106,7 +106,7 @@ module _ (m : Model) (t : Table) (a : Agrees m t) where
       )
   truth-at (TC f u v) x y hx hy =
       let closes =
-      subst⁻¹ (λ (s : ℕ). cell (closed s (truth t f)) (value u x y) (value v x y) ≡ true ↔ Walk (m .count) (λ i j. truth t f i j ≡ true) (value u x y) (value v x y)) (a .counts)
+      subst⁻¹ (λ (s : ℕ). gridTest (closed s (truth t f)) (value u x y) (value v x y) ≡ true ↔ Walk (m .count) (λ i j. truth t f i j ≡ true) (value u x y) (value v x y)) (a .counts)
       (closed-iff (m .count) (truth t f) (value u x y) (value v x y) (value-lt u hx hy) (value-lt v hx hy)) in (
         λ e. map-walk (λ i j hi hj s. truth-at f i j hi hj .0 s) (closes .0 e),
         λ p. closes .1 (map-walk (λ i j hi hj s. truth-at f i j hi hj .1 s) p),

@@ -2,7 +2,7 @@ use borrow.Author.Needs.{needs}
 use mathlib.Core.Path.{ap}
 use Prim.Native.Nat.{ℕ, _+_}
 use native.Mathlib.Omega.{arith}
-use Rattle.planes.specs.Laws.SmallShifts.{scaled, shifted}
+use Rattle.planes.specs.Laws.Shifts.{scaled, shifted}
 use Rattle.actions.proofs.state.join.Statement.{statement}
 use Rattle.actions.proofs.state.join.Tie as tie
 

@@ -3,7 +3,7 @@ use Prim.Native.Nat.{ℕ, _+_, _*_, _^_, _≤_}
 use native.Mathlib.Omega.{arith}
 use Rattle.records.specs.Laws.Limits.{limits}
 use Rattle.records.specs.Laws.States.{state-digits}
-use Rattle.planes.specs.Laws.SmallShifts.{scaled}
+use Rattle.planes.specs.Laws.Shifts.{scaled}
 use Rattle.actions.proofs.state.number.Statement.{statement}
 use Rattle.actions.proofs.state.number.Tie as tie
 

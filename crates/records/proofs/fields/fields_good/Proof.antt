@@ -6,7 +6,7 @@ use Prim.Native.Nat.{ℕ, _<_}
 use native.Mathlib.Omega.{arith}
 use lib.Dec.{lit<}
 use lib.ListN.{length}
-use Rattle.records.specs.Record.{Rec, kind}
+use Rattle.records.specs.Record.{Rec, kind, recordKind}
 use Rattle.records.specs.Fields.{fieldsGood}
 use Rattle.records.specs.Widths.{withinLimits}
 use Rattle.records.specs.declared.Widths.{Widths}
@@ -26,7 +26,7 @@ returns c =
     c .zeros .ensures ∙ sym (widths-fields (a .w) (now (a .r)) (c .before .match .keys1))
 
 returns-6 : tie.Need-returns-6
-unfolding fieldsGood
+unfolding fieldsGood recordKind
 returns-6 c = rw (c .match .keys6)
 
 returns-7 : tie.Need-returns-7

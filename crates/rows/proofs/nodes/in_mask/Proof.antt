@@ -1,14 +1,14 @@
 use borrow.Author.Needs.{needs}
 use mathlib.Core.Path.{sym}
 use Rattle.planes.specs.Bit.{bitOf}
-use Rattle.rows.specs.Laws.Formulas.{bit-out}
+use Rattle.planes.specs.Laws.Bits.{bit-above}
 use Rattle.rows.proofs.nodes.in_mask.Statement.{statement}
 use Rattle.rows.proofs.nodes.in_mask.Tie as tie
 
 returns : tie.Need-returns
 returns c =
     let a = c .before .args in
-    sym (bit-out (a .mask) 32 (a .i) (c .before .fits .mask .fits) (c .if1 .taken))
+    sym (bit-above 32 (a .mask) (a .i) (c .before .fits .mask .fits) (c .if1 .taken))
 
 returns-2 : tie.Need-returns-2
 unfolding bitOf

@@ -3,6 +3,7 @@ use mathlib.Core.Path.{refl, sym, _∙_}
 use mathlib.Core.Bool.{true, _&&_}
 use native.Mathlib.Omega.{arith}
 use lib.Dec.{ltb}
+use Rattle.records.specs.Policy.{nodeKind}
 use Rattle.rows.specs.Rows.{operandsGood}
 use Rattle.rows.proofs.NodeKinds.{operands-run, operands-none}
 use Rattle.rows.proofs.nodes.operands_good.Statement.{statement}
@@ -15,7 +16,7 @@ returns c =
     ∙ rw (le-ltb _ _ (c .if3 .taken)))
 
 returns-2 : tie.Need-returns-2
-unfolding operandsGood
+unfolding operandsGood nodeKind
 returns-2 c = rw (c .match .keys1)
 
 returns-3 : tie.Need-returns-3

@@ -4,7 +4,7 @@ use mathlib.Core.Path.{sym, subst, _∙_}
 use native.Mathlib.Omega.{arith}
 use Rattle.records.specs.Record.{records}
 use Rattle.records.specs.Search.{recordsAfter}
-use Rattle.rows.specs.Policies.{Added}
+use Rattle.rows.specs.Policies.{NodeAnswered}
 use Rattle.rows.specs.declared.nodes.Entry.{Entry}
 use Rattle.records.specs.Laws.Limits.{limits}
 use Rattle.scan.specs.Laws.RecordRows.{node-rows, row-first, row-none}
@@ -42,7 +42,7 @@ returns-3 c =
     let p = c .before .before .before .before .before .before .before .before .before .before .before .before .pre .0 in
     let before = records (a .i) (now (a .store)) in
     let after = recordsAfter (a .n) (now (a .store)) (a .i) in
-    let added = subst (λ (e : Entry). Added before (now (a .r)) after e) (c .before .entry .given .1) (c .before .before .before .add-node .ensures before (p .0 .seen .policies)) in
+    let added = subst (λ (e : Entry). NodeAnswered before (now (a .r)) after e) (c .before .entry .given .1) (c .before .before .before .add-node .ensures before (p .0 .seen .policies)) in
     node-rows before _ after (p .1) ∙ row-none _ _ _ _ (c .before .before .before .before .before .before .before .before .before .form-row .ensures .first _ (p .0 .seen)) (c .before .before .before .before .before .before .before .before .if1 .left)
     ∙ rw (misses-known _ _ (p .0 .seen) ∙ sym (c .before .before .before .before .before .incomplete .ensures) ∙ c .before .before .before .before .if2 .left) added
 
@@ -52,7 +52,7 @@ returns-4 c =
     let p = c .before .before .before .before .before .before .before .before .before .before .before .before .pre .0 in
     let before = records (a .i) (now (a .store)) in
     let after = recordsAfter (a .n) (now (a .store)) (a .i) in
-    let added = subst (λ (e : Entry). Added before (now (a .r)) after e) (c .before .entry2 .given .1) (c .before .before .before .add-node .ensures before (p .0 .seen .policies)) in (
+    let added = subst (λ (e : Entry). NodeAnswered before (now (a .r)) after e) (c .before .entry2 .given .1) (c .before .before .before .add-node .ensures before (p .0 .seen .policies)) in (
       node-rows before _ after (p .1) ∙ row-none _ _ _ _ (c .before .before .before .before .before .before .before .before .before .form-row .ensures .first _ (p .0 .seen)) (c .before .before .before .before .before .before .before .before .if1 .left)
           ∙ rw (misses-known _ _ (p .0 .seen) ∙ sym (c .before .before .before .before .before .incomplete .ensures) ∙ c .before .before .before .before .if2 .left) (added .0),
       seen-node before (a .s) (p .0 .seen) (now (a .r)) (c .before .before .before .before .before .before .before .before .before .form-row .ensures .later (c .before .before .before .before .before .before .before .before .if1 .left)) _ (p .1) (added .1),

@@ -6,7 +6,7 @@ use native.Mathlib.Omega.{arith}
 use lib.ListN.{length, take, drop}
 use Rattle.records.specs.Record.{Rec, records}
 use Rattle.records.specs.Search.{recordAt, recordsAfter}
-use Rattle.scan.specs.Scan.{SeenOf, Turned, Ready}
+use Rattle.scan.specs.Scan.{SeenOf, Turned, BeforeTurn}
 use Rattle.scan.specs.declared.turns.Seen.{Seen}
 use Rattle.scan.specs.declared.turns.Turn.{Turn}
 use Rattle.scan.specs.declared.turns.Turn.the-variants.{Stop}
@@ -22,7 +22,7 @@ part s i = take (i * 24 + 24 - i * 24) (drop (i * 24) s)
 whole : (s : List ℕ) (n i : ℕ) → n * 24 ≤ length s → i < n → length (part s i) ≡ 24
 whole s n i h l = ap length (part-is s i) ∙ record-length s i (omega arith)
 
-ready : (s : List ℕ) (n i : ℕ) (seen : Seen) → (n * 24 ≤ length s) × (i < n) × SeenOf (records i s) seen → Ready s i (part s i) seen
+ready : (s : List ℕ) (n i : ℕ) (seen : Seen) → (n * 24 ≤ length s) × (i < n) × SeenOf (records i s) seen → BeforeTurn s i (part s i) seen
 ready s n i seen p = record { stored = omega arith; whole = whole s n i (p .0) (p .1); seen = p .2 }
 
 turned : (s : List ℕ) (n i : ℕ) (t : Turn) → Turned (records i s) (part s i) (recordsAfter n s i) t → Turned (records i s) (recordAt s i) (recordsAfter n s i) t

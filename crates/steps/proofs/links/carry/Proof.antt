@@ -3,7 +3,7 @@ use Prim.Native.Nat.{_-_, _^_, _≤_}
 use native.Mathlib.Omega.{arith}
 use Rattle.planes.specs.Plane.{planeSize}
 use Rattle.records.specs.Laws.Limits.{limits}
-use Rattle.actions.specs.Lines.{rowBytes, Adds}
+use Rattle.actions.specs.Lines.{lineBytes, Adds}
 use Rattle.steps.specs.Carried.{pairs}
 use Rattle.steps.proofs.HeaderByHeader.{below}
 use Rattle.steps.proofs.PlaneOfPairs.{room-on}
@@ -14,7 +14,7 @@ use Rattle.steps.proofs.links.carry.Tie as tie
 -- the frames with a header below h are carried
 abbrev Inv-loop : tie.InvT-loop
 Inv-loop work₀ base w a b c d end h₀ work h =
-    (end ≡ 2 ^ w .h) × (h ≤ end) × Adds (pairs w (below w a b c d h)) base (planeSize (rowBytes w)) work₀ work
+    (end ≡ 2 ^ w .h) × (h ≤ end) × Adds (pairs w (below w a b c d h)) base (planeSize (lineBytes w)) work₀ work
 
 abbrev μ-loop : tie.MeasureT-loop
 μ-loop work₀ base w a b c d end h₀ work h = end - h

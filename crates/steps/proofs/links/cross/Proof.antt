@@ -9,7 +9,7 @@ use Rattle.records.specs.Record.{Net, records, ofKind}
 use Rattle.records.specs.Widths.{states}
 use Rattle.records.specs.Laws.Parts.{part, part-none}
 use Rattle.steps.specs.Step.{across}
-use Rattle.actions.specs.Lines.{rowBytes, Adds}
+use Rattle.actions.specs.Lines.{lineBytes, Adds}
 use Rattle.steps.specs.Carried.{pairs, crosses}
 use Rattle.actions.specs.Laws.AddedBits.{Toward, toward-more, adds-none, adds-as}
 use Rattle.actions.specs.Laws.Bodies.{body-length}
@@ -23,7 +23,7 @@ use Rattle.steps.proofs.links.cross.Tie as tie
 abbrev Inv-loop : tie.InvT-loop
 Inv-loop work₀ base store n l w i₀ work i =
     (1 ≤ i) × (i ≤ l .misses) × (length work ≡ length work₀)
-    × Toward base (planeSize (rowBytes (l .widths))) (pairs (l .widths) (crosses (l .widths) (λ sw p. across sw p (ofKind 2 (records n store)))))
+    × Toward base (planeSize (lineBytes (l .widths))) (pairs (l .widths) (crosses (l .widths) (λ sw p. across sw p (ofKind 2 (records n store)))))
     (pairs (l .widths) (crosses (l .widths) (λ sw p. across sw p (part (records n store) i (l .misses))))) work₀ work
 
 abbrev μ-loop : tie.MeasureT-loop
@@ -37,7 +37,7 @@ loop-holds c =
       omega arith,
       s .pre .1 .laid .some-widths,
       refl,
-      λ d R. subst⁻¹ (λ (ls : Net). Adds (pairs W (crosses W (λ sw p. across sw p ls))) (a .base) (planeSize (rowBytes W)) (now (a .work)) d) (s .pre .1 .laid .links) R,
+      λ d R. subst⁻¹ (λ (ls : Net). Adds (pairs W (crosses W (λ sw p. across sw p ls))) (a .base) (planeSize (lineBytes W)) (now (a .work)) d) (s .pre .1 .laid .links) R,
     )
 
 -- the store has the whole of the link
@@ -72,7 +72,7 @@ loop-again c =
       omega arith,
       omega arith,
       A .len ∙ o .inv .2,
-      toward-more (a .base) (planeSize (rowBytes W)) _ _ _ _ _ _ _
+      toward-more (a .base) (planeSize (lineBytes W)) _ _ _ _ _ _ _
           (λ x h. links-cross (a .n) (a .l) (now (a .store)) (s .pre .1) (o .i) (o .inv .0) (t .if1 .taken) (x / states W) (x % states W)) (o .inv .3) A,
     )
 

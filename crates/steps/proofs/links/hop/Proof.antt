@@ -9,7 +9,7 @@ use Rattle.records.specs.State.{state}
 use Rattle.records.specs.Widths.{states}
 use Rattle.records.specs.Laws.Limits.{limits}
 use Rattle.records.specs.Laws.States.{state-lt}
-use Rattle.actions.specs.Lines.{rowBytes, Adds}
+use Rattle.actions.specs.Lines.{lineBytes, Adds}
 use Rattle.steps.specs.Carried.{pair}
 use Rattle.actions.specs.Laws.AddedBits.{adds-one}
 use Rattle.steps.proofs.PairBits.{pair-is, pair-lt, few-pairs}
@@ -56,8 +56,8 @@ returns c =
     let s = b .before .before .before .before .before in
     let a = s .args in
     let e = the-bit b in
-    subst (λ (m : ℕ). Adds (λ n. eqb n m) (a .base) (planeSize (rowBytes (a .w))) (now (a .work)) (c .before .before .set-at .last .0)) e
-    (adds-one (a .base) (planeSize (rowBytes (a .w))) _ (now (a .work)) (c .before .before .set-at .last .0) (c .before .before .set-at .ensures)
+    subst (λ (m : ℕ). Adds (λ n. eqb n m) (a .base) (planeSize (lineBytes (a .w))) (now (a .work)) (c .before .before .set-at .last .0)) e
+    (adds-one (a .base) (planeSize (lineBytes (a .w))) _ (now (a .work)) (c .before .before .set-at .last .0) (c .before .before .set-at .ensures)
     (omega (arith, e, pair-in (a .w) (s .pre .0 .limits) (a .base) _ _ (departs-lt s) (arrives-lt s))))
 
 pub hop-spec : {M : Type 1} → statement M

@@ -1,4 +1,4 @@
--- `verdict::rows::bits` meets its contract. The loop's invariant: the first z bits are made, the others are not set.
+-- `verdict::lines::bits` meets its contract. The loop's invariant: the first z bits are made, the others are not set.
 use mathlib.Core.Path.{_≡_, refl}
 use Prim.Native.Nat.{_-_, _≤_}
 use Rattle.planes.specs.Bit.{bitOf}

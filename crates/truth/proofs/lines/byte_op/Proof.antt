@@ -1,4 +1,4 @@
--- `verdict::rows::byte_op` meets its contract.
+-- `verdict::lines::byte_op` meets its contract.
 use borrow.Author.Needs.{needs}
 use Rattle.truth.proofs.lines.byte_op.Statement.{statement}
 use Rattle.truth.proofs.lines.byte_op.Tie as tie

@@ -1,4 +1,4 @@
--- `verdict::rows::byte_over` meets its contract.
+-- `verdict::lines::byte_over` meets its contract.
 use mathlib.Core.Path.{subst}
 use Rattle.truth.specs.Shapes.{Quantifies}
 use Rattle.truth.proofs.Quantified.{byte-all, byte-some}

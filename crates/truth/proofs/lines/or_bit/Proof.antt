@@ -1,4 +1,4 @@
--- `verdict::rows::or_bit` meets its contract.
+-- `verdict::lines::or_bit` meets its contract.
 use denote.Ref.{now}
 use Rattle.truth.specs.Laws.LineBits.{pushed}
 use borrow.Author.Needs.{needs}

@@ -1,8 +1,8 @@
--- `verdict::rows::spread` meets its contract.
+-- `verdict::lines::spread` meets its contract.
 use mathlib.Core.Path.{refl, _∙_}
 use mathlib.Core.Path.{ap}
 use Rattle.truth.specs.Shapes.{fullByte}
-use Rattle.truth.specs.Laws.LineBits.{full-row}
+use Rattle.truth.specs.Laws.LineBits.{full-line}
 use Rattle.truth.specs.Laws.PlaneShapes.{other-var}
 use borrow.Author.Needs.{needs}
 use Rattle.truth.proofs.lines.spread.Statement.{statement}
@@ -11,7 +11,7 @@ use Rattle.truth.proofs.lines.spread.Tie as tie
 returns : tie.Need-returns
 returns c =
     rw (c .before .before .before .if1 .taken)
-    (record { is = λ y h. full-row _ _ y (c .full .ensures ∙ ap fullByte (c .before .get-bit .ensures)) h })
+    (record { is = λ y h. full-line _ _ y (c .full .ensures ∙ ap fullByte (c .before .get-bit .ensures)) h })
 
 returns-2 : tie.Need-returns-2
 returns-2 c = rw (other-var _ (c .if1 .left)) (record { is = λ y h. refl })

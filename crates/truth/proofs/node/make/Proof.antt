@@ -8,10 +8,10 @@ use Rattle.truth.proofs.node.make.Statement.{statement}
 use Rattle.truth.proofs.node.make.Tie as tie
 
 mul-first : tie.Need-mul-first
-mul-first c = omega (arith, offset-fits (c .before .args .w) (c .before .args .a) (c .before .pre .small) (omega arith))
+mul-first c = omega (arith, offset-fits (c .before .args .pitch) (c .before .args .a) (c .before .pre .small) (omega arith))
 
 mul-second : tie.Need-mul-second
-mul-second c = omega (arith, offset-fits (c .before .args .w) (c .before .args .b) (c .before .pre .small) (omega arith))
+mul-second c = omega (arith, offset-fits (c .before .args .pitch) (c .before .args .b) (c .before .pre .small) (omega arith))
 
 bit-plane-requires : tie.Need-bit-plane-requires
 bit-plane-requires c κs = let M = c .before .before .before .pre in (own-plane _ _ _ _ _ _ M, M .bits (c .before .match .keys1))

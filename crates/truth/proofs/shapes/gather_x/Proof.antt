@@ -1,29 +1,29 @@
--- `verdict::shapes::gather_x` meets its contract. The loop's invariant is the contract at the x rows passed.
+-- `verdict::shapes::gather_x` meets its contract. The loop's invariant is the contract at the x lines passed.
 use mathlib.Core.Path.{_≡_, sym, ap₂, subst, _∙_}
 use Prim.Native.Nat.{ℕ, _*_, _-_, _≤_}
 use denote.Ref.{now}
 use Rattle.planes.specs.Plane.{cell}
-use Rattle.planes.specs.Laws.Places.{row-before}
-use Rattle.planes.specs.Laws.Rows.{loaded-bit}
-use Rattle.truth.specs.Shapes.{opBool, over, unit, Row}
-use Rattle.truth.specs.Laws.LineBits.{joined-bit, full-row}
+use Rattle.planes.specs.Laws.Places.{line-before}
+use Rattle.planes.specs.Laws.Lines.{loaded-bit}
+use Rattle.truth.specs.Shapes.{opBool, over, unit, Line}
+use Rattle.truth.specs.Laws.LineBits.{joined-bit, full-line}
 use Rattle.truth.proofs.Quantified.{over-none, over-more}
 use native.Mathlib.Omega.{arith}
 use Rattle.truth.proofs.shapes.gather_x.Statement.{statement}
 use Rattle.truth.proofs.shapes.gather_x.Tie as tie
 
 abbrev Inv-loop : tie.InvT-loop
-Inv-loop work o a w u acc₀ x₀ acc x = (x ≤ w * 8) × Row (λ y. over o x (λ i. cell work a w i y)) (w * 8) acc
+Inv-loop work o a pitch u acc₀ x₀ acc x = (x ≤ pitch * 8) × Line (λ y. over o x (λ i. cell work a pitch i y)) (pitch * 8) acc
 
 abbrev μ-loop : tie.MeasureT-loop
-μ-loop work o a w u acc₀ x₀ acc x = w * 8 - x
+μ-loop work o a pitch u acc₀ x₀ acc x = pitch * 8 - x
 
 loop-holds : tie.Need-loop-holds Inv-loop μ-loop
 loop-holds c =
     let at-start = c .before .before in
     let o = at-start .args .o in (
       omega arith,
-      record { is = λ y h. full-row (unit o) _ y (c .units .ensures) (omega (arith, at-start .pre .0 .small)) ∙ sym (over-none o (at-start .pre .1) _) },
+      record { is = λ y h. full-line (unit o) _ y (c .units .ensures) (omega (arith, at-start .pre .0 .small)) ∙ sym (over-none o (at-start .pre .1) _) },
     )
 
 loop-again : tie.Need-loop-again Inv-loop μ-loop
@@ -35,7 +35,7 @@ loop-again c =
       record {
         is = λ y hy.
             joined-bit o _ _ _ (c .join .ensures) y (omega (arith, at-start .pre .0 .small))
-            ∙ ap₂ (opBool o) (at-loop .loop .inv .1 .is y hy) (loaded-bit _ _ _ _ (c .before .before .before .load-row .ensures) y hy)
+            ∙ ap₂ (opBool o) (at-loop .loop .inv .1 .is y hy) (loaded-bit _ _ _ _ (c .before .before .before .load-line .ensures) y hy)
             ∙ sym (over-more o (at-start .pre .1) (at-loop .loop .x) _);
       },
     )
@@ -44,9 +44,9 @@ returns : tie.Need-returns Inv-loop μ-loop
 returns c =
     let at-loop = c .before in
     let at-start = at-loop .before .before .before in
-    let e : at-loop .loop .x ≡ at-start .args .w * 8 = omega arith in
+    let e : at-loop .loop .x ≡ at-start .args .pitch * 8 = omega arith in
     subst
-    (λ (n : ℕ). Row (λ y. over (at-start .args .o) n (λ i. cell (now (at-start .args .work)) (at-start .args .a) (at-start .args .w) i y)) (at-start .args .w * 8) (at-loop .loop .acc))
+    (λ (n : ℕ). Line (λ y. over (at-start .args .o) n (λ i. cell (now (at-start .args .work)) (at-start .args .a) (at-start .args .pitch) i y)) (at-start .args .pitch * 8) (at-loop .loop .acc))
     e (at-loop .loop .inv .1)
 
 pub gather-x-spec : {M : Type 1} → statement M
@@ -58,9 +58,9 @@ gather-x-spec =
     (λ c κs. omega arith)
     loop-holds
     (λ c. omega arith)
-    (λ c. omega (arith, row-before _ _ (c .before .before .before .before .args .w) (c .loop-test .taken)))
-    (λ c. omega (arith, row-before _ _ (c .before .before .before .before .args .w) (c .loop-test .taken)))
-    (λ c κs. omega (arith, row-before _ _ (c .before .before .before .before .args .w) (c .loop-test .taken)))
+    (λ c. omega (arith, line-before _ _ (c .before .before .before .before .args .pitch) (c .loop-test .taken)))
+    (λ c. omega (arith, line-before _ _ (c .before .before .before .before .args .pitch) (c .loop-test .taken)))
+    (λ c κs. omega (arith, line-before _ _ (c .before .before .before .before .args .pitch) (c .loop-test .taken)))
     (λ c κs. omega arith)
     (λ c. omega arith)
     (λ c. omega arith)

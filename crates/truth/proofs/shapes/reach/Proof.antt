@@ -15,7 +15,7 @@ arrange-requires c κs =
 returns : tie.Need-returns
 returns c =
     let at-start = c .before .before .before .before .before .before .before .before .before .before .before .before .before in
-    reaches (varOf (at-start .args .u)) (varOf (at-start .args .v)) (at-start .args .w) _ _ _ _ _ _ _
+    reaches (varOf (at-start .args .u)) (varOf (at-start .args .v)) (at-start .args .pitch) _ _ _ _ _ _ _
     (made-copy _ _ _ _ _ (c .before .before .before .before .before .before .before .before .before .before .combine .ensures)) (c .before .before .before .before .before .before .close .ensures) (c .before .before .arrange .ensures)
 
 pub reach-spec : {M : Type 1} → statement M

@@ -4,7 +4,7 @@ use Prim.Native.Nat.{_+_, _*_, _-_, _≤_}
 use native.Mathlib.Nat.{mul-le-mul-right}
 use denote.Ref.{now}
 use Rattle.planes.specs.Plane.{bit}
-use Rattle.planes.specs.Laws.Places.{row-next}
+use Rattle.planes.specs.Laws.Places.{line-next}
 use Rattle.truth.specs.Laws.LineBits.{Upto, upto-none, upto-more, upto-all}
 use native.Mathlib.Omega.{arith}
 use Rattle.truth.proofs.shapes.stride.Statement.{statement}
@@ -35,7 +35,7 @@ loop-again c =
     let at-loop = c .before .before .before .before in
     let at-start = at-loop .before .before in (
       omega arith,
-      omega (arith, row-next (at-loop .loop .z) (at-start .args .step)),
+      omega (arith, line-next (at-loop .loop .z) (at-start .args .step)),
       upto-more _ _ _ _ _ (at-loop .loop .inv .2) (c .push .ensures)
           (c .before .before .get-at .ensures ∙ ap (λ (m : _). bit (now (at-start .args .work)) (at-start .args .a * 8 + m)) (at-loop .loop .inv .1)),
     )

@@ -1,7 +1,7 @@
 -- `verdict::judge::judge` meets its contract.
 use Rattle.records.specs.Laws.Limits.{limits}
 use Rattle.records.specs.Laws.States.{few-states}
-use Rattle.verdict.proofs.CleanStore.{stored}
+use Rattle.verdict.proofs.PassedRecords.{stored}
 use Rattle.verdict.proofs.JudgedWork.{enough, most-fits, step-room, search-ready, judged}
 use native.Mathlib.Omega.{arith}
 use borrow.Author.Needs.{needs}

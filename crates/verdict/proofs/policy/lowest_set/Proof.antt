@@ -2,7 +2,7 @@
 use mathlib.Core.Path.{_≡_, sym, _∙_}
 use Prim.Native.Nat.{_*_, _-_, _≤_}
 use Rattle.planes.specs.Plane.{cell}
-use Rattle.planes.specs.Laws.Places.{row-before}
+use Rattle.planes.specs.Laws.Places.{line-before}
 use Rattle.verdict.specs.Computed.{firstFrom}
 use Rattle.verdict.proofs.LowestState.{sought-first, sought-more, sought-found, sought-none}
 use native.Mathlib.Omega.{arith}
@@ -10,10 +10,10 @@ use Rattle.verdict.proofs.policy.lowest_set.Statement.{statement}
 use Rattle.verdict.proofs.policy.lowest_set.Tie as tie
 
 abbrev Inv-loop : tie.InvT-loop
-Inv-loop work base w x₀ x = (x ≤ w * 8) × (firstFrom (w * 8) 0 (λ z. cell work base w z 0) ≡ firstFrom (w * 8 - x) x (λ z. cell work base w z 0))
+Inv-loop work base pitch x₀ x = (x ≤ pitch * 8) × (firstFrom (pitch * 8) 0 (λ z. cell work base pitch z 0) ≡ firstFrom (pitch * 8 - x) x (λ z. cell work base pitch z 0))
 
 abbrev μ-loop : tie.MeasureT-loop
-μ-loop work base w x₀ x = w * 8 - x
+μ-loop work base pitch x₀ x = pitch * 8 - x
 
 returns : tie.Need-returns Inv-loop μ-loop
 returns c =
@@ -36,9 +36,9 @@ lowest-set-spec =
     μ-loop
     (λ c. (omega arith, sought-first _ _))
     (λ c. omega arith)
-    (λ c. omega (arith, row-before _ _ (c .before .before .before .args .w) (c .loop-test .taken)))
-    (λ c. omega (arith, row-before _ _ (c .before .before .before .args .w) (c .loop-test .taken)))
-    (λ c κs. omega (arith, row-before _ _ (c .before .before .before .args .w) (c .loop-test .taken)))
+    (λ c. omega (arith, line-before _ _ (c .before .before .before .args .pitch) (c .loop-test .taken)))
+    (λ c. omega (arith, line-before _ _ (c .before .before .before .args .pitch) (c .loop-test .taken)))
+    (λ c κs. omega (arith, line-before _ _ (c .before .before .before .args .pitch) (c .loop-test .taken)))
     returns
     (λ c. omega arith)
     (λ c. omega arith)

@@ -22,16 +22,16 @@ mul-lowest-set-3 : tie.Need-mul-lowest-set-3
 mul-lowest-set-3 c =
     let at-start = c .before .before .before .before .before .before .before in
     let R = at-start .pre .0 in
-    omega (arith, offset-fits (at-start .args .w) (at-start .args .count - 1) (R .small) (omega (arith, R .few)))
+    omega (arith, offset-fits (at-start .args .pitch) (at-start .args .count - 1) (R .small) (omega (arith, R .few)))
 
 lowest-set-requires : tie.Need-lowest-set-requires
 lowest-set-requires c κs =
     let at-start = c .before .before .before .before .before .before .before in
     let R = at-start .pre .0 in
-    let w = at-start .args .w in
+    let pitch = at-start .args .pitch in
     let count = at-start .args .count in
     let h : count - 1 < count = omega arith in
-    record { small = R .small; within = omega (arith, R .room, c .before .before .before .eval .ensures .worked .len, plane-before w (count - 1) count h) }
+    record { small = R .small; within = omega (arith, R .room, c .before .before .before .eval .ensures .worked .len, plane-before pitch (count - 1) count h) }
 
 returns : tie.Need-returns
 returns c =
@@ -46,7 +46,7 @@ returns c =
     record {
       len = g .worked .len;
       lowest =
-          subst (λ (i : ℕ). LowestTrue (modelAt (at-start .args .w) (at-start .args .ext) (now (at-start .args .work))) (formula (nodesAt store start count) i) (c .lowest-set .result)) q
+          subst (λ (i : ℕ). LowestTrue (modelAt (at-start .args .pitch) (at-start .args .ext) (now (at-start .args .work))) (formula (nodesAt store start count) i) (c .lowest-set .result)) q
           (lowest-true _ _ _ _ _ _ (g .worked .held (count - 1) h (g .marked)) (c .lowest-set .result) (c .lowest-set .ensures));
       steps = g .worked .steps;
       behind = g .worked .behind;

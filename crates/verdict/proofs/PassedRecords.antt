@@ -16,9 +16,9 @@ use Rattle.records.specs.Laws.Parts.{part, kind-in}
 use Rattle.rows.specs.Laws.Passing.{clean-at, ordered, node-operands, node-follows, node-room}
 use Rattle.rows.specs.Laws.Good.{clean-good}
 use Rattle.scan.specs.Stored.{Stored}
-use Rattle.verdict.specs.Judge.{NodeRows, Clean}
+use Rattle.verdict.specs.Judge.{NodeRows, CleanStore}
 
-module _ (end : ℕ) (l : Layout) (store : List ℕ) (C : Clean end l store) where
+module _ (end : ℕ) (l : Layout) (store : List ℕ) (C : CleanStore end l store) where
   abbrev net : Net
   net = records end store
 

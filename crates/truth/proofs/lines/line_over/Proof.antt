@@ -1,4 +1,4 @@
--- `verdict::rows::row_over` meets its contract. The loop's invariant: the bits of b test what the bits of the j bytes passed do.
+-- `verdict::lines::line_over` meets its contract. The loop's invariant: the bits of b test what the bits of the j bytes passed do.
 use mathlib.Core.Path.{_≡_, _∙_}
 use Prim.Native.Nat.{_*_, _-_, _≤_}
 use Rattle.planes.specs.Bit.{bitOf}
@@ -6,14 +6,14 @@ use Rattle.planes.specs.Plane.{bit}
 use Rattle.truth.specs.Shapes.{over}
 use Rattle.truth.proofs.Quantified.{bytes-none, bytes-more}
 use native.Mathlib.Omega.{arith}
-use Rattle.truth.proofs.lines.row_over.Statement.{statement}
-use Rattle.truth.proofs.lines.row_over.Tie as tie
+use Rattle.truth.proofs.lines.line_over.Statement.{statement}
+use Rattle.truth.proofs.lines.line_over.Tie as tie
 
 abbrev Inv-loop : tie.InvT-loop
-Inv-loop o r w b₀ j₀ b j = (j ≤ w) × (over o 8 (bitOf b) ≡ over o (j * 8) (bit r))
+Inv-loop o r pitch b₀ j₀ b j = (j ≤ pitch) × (over o 8 (bitOf b) ≡ over o (j * 8) (bit r))
 
 abbrev μ-loop : tie.MeasureT-loop
-μ-loop o r w b₀ j₀ b j = w - j
+μ-loop o r pitch b₀ j₀ b j = pitch - j
 
 loop-holds : tie.Need-loop-holds Inv-loop μ-loop
 loop-holds c =
@@ -32,11 +32,11 @@ byte-over-requires c κs = c .before .before .before .pre .1
 returns : tie.Need-returns Inv-loop μ-loop
 returns c =
     let at-loop = c .before .before in
-    let e : at-loop .loop .j ≡ at-loop .before .before .args .w = omega arith in
+    let e : at-loop .loop .j ≡ at-loop .before .before .args .pitch = omega arith in
     c .byte-over .ensures ∙ (rw e at (at-loop .loop .inv .1))
 
-pub row-over-spec : {M : Type 1} → statement M
-row-over-spec =
+pub line-over-spec : {M : Type 1} → statement M
+line-over-spec =
     tie.close
     (tie.spec
     Inv-loop
