@@ -2,6 +2,7 @@
 pub mod Chosen
 pub mod Actions
 pub mod ByPlace
+pub mod Wards
 pub mod Lines
 pub mod Sent
 pub mod Laws

@@ -3,8 +3,10 @@ use mathlib.Core.Path.{_≡_}
 use mathlib.Core.List.{List}
 use Prim.Native.Nat.{ℕ}
 use lib.ListN.{length}
+use Rattle.records.specs.Record.{Net}
+use Rattle.commands.specs.Apply.{applied}
 use Rattle.calls.specs.Answer.{CommandAnswer}
-use Rattle.calls.specs.Reference.{Installed, outcomeOf, commandWork}
+use Rattle.calls.specs.Reference.{Installed, network, outcomeOf, commandWork}
 
 -- a command call: what it was lent and given, what it answered, and what it left
 pub record Call : Type 0 where
@@ -30,3 +32,11 @@ pub record Promised (c : Call) : Type 0 where
   pub answered : c .answer ≡ outcomeOf (startOf c) (c .given) (length (c .work)) .answer
   pub stores : c .store-after ≡ outcomeOf (startOf c) (c .given) (length (c .work)) .after .bytes
   pub works : c .work-after ≡ commandWork (startOf c) (c .given) (c .work)
+
+-- the network that a call's command would leave
+abbrev pub left : Call → Net
+left c = applied (c .given) (network (startOf c))
+
+-- the call was refused by no row
+abbrev pub NotRefused : Call → Type 0
+NotRefused c = (number place : ℕ) → c .answer ≡ CommandAnswer.refused number place → ⊥

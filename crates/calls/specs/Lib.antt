@@ -3,4 +3,5 @@ pub mod Answer
 pub mod Check
 pub mod Reference
 pub mod Command
+pub mod Bytes
 pub mod Laws

@@ -1,6 +1,9 @@
 -- What is so after a whole series of commands, and the starred cases of document 01.
 pub mod Series
 pub mod Theorem
+pub mod Exactly
+pub mod Existence
 pub mod Sound
 pub mod Starred
+pub mod Stores
 pub mod Laws

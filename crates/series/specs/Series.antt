@@ -9,7 +9,7 @@ use Rattle.calls.specs.Answer.{CheckAnswer, CommandAnswer, forwarded, blocked}
 use Rattle.commands.specs.Apply.{applied}
 use Rattle.calls.specs.Check.{checkAnswer}
 use Rattle.calls.specs.Reference.{Installed, network, answers, installed}
-use Rattle.calls.specs.Command.{Call, startOf, Promised}
+use Rattle.calls.specs.Command.{left, NotRefused, Call, startOf, Promised}
 
 -- the count last answered as forwarded
 abbrev pub countAfter : ℕ → CommandAnswer → ℕ
@@ -42,14 +42,6 @@ ifForwarded (CommandAnswer.refused k p) c net = net
 unfoldable pub forwardedApplied : List Call → Net → Net
 forwardedApplied [] net = net
 forwardedApplied (c ∷ cs) net = forwardedApplied cs (ifForwarded (c .answer) (c .given) net)
-
--- the network that a call's command would leave
-abbrev pub left : Call → Net
-left c = applied (c .given) (network (startOf c))
-
--- the call was refused by no row
-abbrev pub NotRefused : Call → Type 0
-NotRefused c = (number place : ℕ) → c .answer ≡ CommandAnswer.refused number place → ⊥
 
 -- forwarded exactly when the network that the command would leave holds, blocked exactly when not, with its lowest broken policy and state
 pub record JudgedByResult (c : Call) : Type 0 where

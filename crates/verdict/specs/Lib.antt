@@ -2,6 +2,7 @@
 pub mod Verdict
 pub mod Computed
 pub mod Judgement
+pub mod LastNode
 pub mod Policy
 pub mod Judge
 pub mod Laws

@@ -14,9 +14,10 @@ use Rattle.calls.specs.Answer.{CheckAnswer, CommandAnswer, forwarded, blocked}
 use Rattle.commands.specs.Apply.{applied}
 use Rattle.calls.specs.Check.{unless, ofVerdict, checkAnswer}
 use Rattle.calls.specs.Reference.{Installed, network, Outcome, unchanged, judged, outcomeOf, answers, installed}
-use Rattle.calls.specs.Command.{Call, startOf, Promised}
-use Rattle.series.specs.Series.{countAfter, Series, end, next, SaidToHold, fed, ifForwarded, forwardedApplied, left, NotRefused, JudgedByResult, EachJudged, Kept}
+use Rattle.calls.specs.Command.{Call, startOf, Promised, left, NotRefused}
+use Rattle.series.specs.Series.{countAfter, Series, end, next, SaidToHold, fed, ifForwarded, forwardedApplied, JudgedByResult, EachJudged, Kept}
 use Rattle.calls.specs.Laws.Store.{holds-passes, stored-records}
+use Rattle.calls.specs.Laws.Outcomes.{outcomeBy}
 use Rattle.calls.specs.Laws.Refusals.{goes-on}
 
 -- what the check call said to hold holds
@@ -36,9 +37,9 @@ module _ (i : Installed) (c : Rec) (work : ℕ) where
   abbrev net : Net
   net = applied c (network i)
 
-  -- the step, by whether it is refused and by its verdict
+  -- the outcome, by whether it is refused and by its verdict
   abbrev outcome : Refusal → Verdict → Outcome
-  outcome r v = unless r (λ number place. unchanged i (CommandAnswer.refused number place)) (judged i net v)
+  outcome = outcomeBy i c
 
   whole : commandRefusal (i .bytes) (i .count) work c ≡ none → Whole net
   whole e = goes-on (i .bytes) (i .count) work c e .whole
