@@ -2,13 +2,13 @@
 use mathlib.Core.Path.{_≡_, refl, sym, ap, _∙_}
 use mathlib.Core.Bool.{Bool, true, false, cond}
 use mathlib.Core.List.{List, [], _∷_, _++_}
+use mathlib.Core.Option.{none, some}
 use Prim.Native.Nat.{ℕ, suc, _+_, _≤_}
 use native.Mathlib.Omega.{arith}
 use lib.ListN.{take, drop, drop-of-length-le, take-append-drop}
 use Rattle.records.specs.Record.{Rec, Net, records, sameRule, present}
 use Rattle.records.specs.Search.{recordAt, firstAt}
 use Rattle.rows.specs.Found.{foundRule}
-use Rattle.rows.specs.declared.rules.Found.the-variants.{At, Nothing}
 use Rattle.records.specs.Laws.Records.{length-records}
 use Rattle.rows.specs.Laws.Found.{first-none, found-present, found-absent}
 use Rattle.commands.specs.Apply.{asRule, changed, inserted, removed, added}
@@ -44,12 +44,12 @@ module _ (c : Rec) (s : List ℕ) (n : ℕ) where
   net = records n s
 
   module _ (g : Net → Net) (over : (r : Rec) (rs : Net) → sameRule c r ≡ false → g (r ∷ rs) ≡ r ∷ g rs) where
-    at-same : (k : ℕ) → At k ≡ foundRule c net → g net ≡ take k net ++ g (recordAt s k ∷ drop (k + 1) net)
+    at-same : (k : ℕ) → some k ≡ foundRule c net → g net ≡ take k net ++ g (recordAt s k ∷ drop (k + 1) net)
     at-same k e =
         from-first (sameRule c) g over net ∙ ap (λ (m : ℕ). take m net ++ g (drop m net)) (at-first c s n k e)
         ∙ ap (λ (l : Net). take k net ++ g l) (at-record c s n k e .1)
 
-    at-none : Nothing ≡ foundRule c net → g [] ≡ [] → g net ≡ joined net n n
+    at-none : none ≡ foundRule c net → g [] ≡ [] → g net ≡ joined net n n
     unfolding present
     at-none e z =
         let d : drop n net ≡ [] = drop-of-length-le net {i = n} (omega (arith, length-records n s)) in
@@ -66,29 +66,29 @@ module _ (c : Rec) (s : List ℕ) (n : ℕ) where
   removed-over r rs t = rw (t, removed)
 
   -- modify
-  pub changed-at : (f : Rec → Rec) (k : ℕ) → At k ≡ foundRule c net → changed f c net ≡ spliced net k (k + 1) (f (recordAt s k))
+  pub changed-at : (f : Rec → Rec) (k : ℕ) → some k ≡ foundRule c net → changed f c net ≡ spliced net k (k + 1) (f (recordAt s k))
   unfolding changed
   changed-at f k e = at-same (changed f c) (changed-over f) k e ∙ rw (at-record c s n k e .0, changed)
 
-  pub changed-none : (f : Rec → Rec) → Nothing ≡ foundRule c net → changed f c net ≡ joined net n n
+  pub changed-none : (f : Rec → Rec) → none ≡ foundRule c net → changed f c net ≡ joined net n n
   unfolding changed
   changed-none f e = at-none (changed f c) (changed-over f) e refl
 
   -- delete
-  pub removed-at : (k : ℕ) → At k ≡ foundRule c net → removed c net ≡ joined net k (k + 1)
+  pub removed-at : (k : ℕ) → some k ≡ foundRule c net → removed c net ≡ joined net k (k + 1)
   unfolding removed
   removed-at k e = at-same (removed c) removed-over k e ∙ rw (at-record c s n k e .0, removed)
 
-  pub removed-none : Nothing ≡ foundRule c net → removed c net ≡ joined net n n
+  pub removed-none : none ≡ foundRule c net → removed c net ≡ joined net n n
   unfolding removed
   removed-none e = at-none (removed c) removed-over e refl
 
   -- add
-  pub added-at : (k : ℕ) → At k ≡ foundRule c net → added c net ≡ spliced net k (k + 1) (asRule c)
+  pub added-at : (k : ℕ) → some k ≡ foundRule c net → added c net ≡ spliced net k (k + 1) (asRule c)
   unfolding added
   added-at k e = rw (sym (found-present c net k e), added) (changed-at (λ r. asRule c) k e)
 
-  pub added-new : (k : ℕ) → k ≡ firstAt aboveRules net → Nothing ≡ foundRule c net → added c net ≡ spliced net k k (asRule c)
+  pub added-new : (k : ℕ) → k ≡ firstAt aboveRules net → none ≡ foundRule c net → added c net ≡ spliced net k k (asRule c)
   unfolding added
   added-new k q e = rw (sym (found-absent c net e), added) (inserted-at c net ∙ ap (λ (m : ℕ). spliced net m m (asRule c)) (sym q))
 

@@ -2,6 +2,7 @@
 use mathlib.Core.Path.{_≡_, refl, sym, ap, ap₂, subst, _∙_}
 use mathlib.Core.Bool.{Bool, true, false, cond, _||_, false≢true}
 use mathlib.Core.List.{List, [], _∷_}
+use mathlib.Core.Option.{none, some}
 use Prim.Native.Nat.{ℕ, suc, _+_, _<_, _≤_}
 use native.Mathlib.Omega.{arith}
 use native.Mathlib.Numerals.{add-one}
@@ -10,7 +11,6 @@ use Rattle.records.specs.Lists.{any}
 use Rattle.records.specs.Record.{Rec, Net, records, sameRule, present}
 use Rattle.records.specs.Search.{recordAt, recordsAfter, firstAt}
 use Rattle.rows.specs.Found.{foundRule}
-use Rattle.rows.specs.declared.rules.Found.the-variants.{At, Nothing}
 use Rattle.records.specs.Laws.Records.{length-records, records-left}
 use Rattle.rows.specs.Laws.Found.{found-present}
 use Rattle.commands.proofs.Bytes.{records-drop}
@@ -39,7 +39,7 @@ first-le t (r ∷ rs) = go (t r) (firstAt t rs) (first-le t rs)
     go true k h = omega arith
     go false k h = omega arith
 
-at-told : (b : Bool) (m k : ℕ) → At k ≡ cond b (At m) Nothing → m ≡ k
+at-told : (b : Bool) (m k : ℕ) → some k ≡ cond b (some m) none → m ≡ k
 at-told true m k e = cc
 at-told false m k e = let z : _≡_ {A = ℕ} 0 1 = cc in absurd (omega arith)
 
@@ -48,21 +48,21 @@ module _ (c : Rec) (s : List ℕ) (n : ℕ) where
   abbrev net : Net
   net = records n s
 
-  pub at-first : (k : ℕ) → At k ≡ foundRule c net → firstAt (sameRule c) net ≡ k
+  pub at-first : (k : ℕ) → some k ≡ foundRule c net → firstAt (sameRule c) net ≡ k
   unfolding foundRule
   at-first k e = at-told (present c net) (firstAt (sameRule c) net) k e
 
-  at-here : (k : ℕ) → At k ≡ foundRule c net → Here (sameRule c) net k
+  at-here : (k : ℕ) → some k ≡ foundRule c net → Here (sameRule c) net k
   unfolding present
   at-here k e =
       subst (Here (sameRule c) net) (at-first k e)
       (first-here (sameRule c) net (sym (found-present c net k e)))
 
   -- the same rule is one of the records
-  pub at-below : (k : ℕ) → At k ≡ foundRule c net → k < n
+  pub at-below : (k : ℕ) → some k ≡ foundRule c net → k < n
   at-below k e = omega (arith, ap length (at-here k e .2), length-drop k net, length-records n s)
 
-  pub at-record : (k : ℕ) → At k ≡ foundRule c net → (sameRule c (recordAt s k) ≡ true) × (drop k net ≡ recordAt s k ∷ drop (k + 1) net)
+  pub at-record : (k : ℕ) → some k ≡ foundRule c net → (sameRule c (recordAt s k) ≡ true) × (drop k net ≡ recordAt s k ∷ drop (k + 1) net)
   at-record k e =
       let h = at-here k e in
       let l = at-below k e in

@@ -4,7 +4,7 @@ ghost use Prim.Native.Nat.{_+_, _*_, _≤_, _<_};
 ghost use lib.ListN.{length};
 ghost use Rattle.records.specs.Lists.{sameNumbers};
 ghost use Rattle.records.specs.Record.{records, sameRule, present};
-ghost use Rattle.rows.specs.Found.{foundRule};
+ghost use Rattle.rows.specs.Found.{placeOf, foundRule};
 
 // Where a record is found.
 pub enum Found {
@@ -41,7 +41,7 @@ pub fn same_rule(c: &[u8], r: &[u8]) -> bool
 // The place of the same rule as c among the first n records.
 pub fn find_rule(store: &[u8], n: usize, c: &[u8]) -> Found
     requires { ⌜ (n * 24 ≤ length (now store)) × (length (now c) ≡ 24) ⌝ }
-    ensures { λ r. ⌜ r ≡ foundRule (now (c .entry)) (records n (now (store .entry))) ⌝ }
+    ensures { λ r. ⌜ placeOf r ≡ foundRule (now (c .entry)) (records n (now (store .entry))) ⌝ }
 {
     let mut i = 0;
     while i < n {

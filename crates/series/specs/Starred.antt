@@ -10,7 +10,8 @@ use lib.ListN.{length, getD}
 use Rattle.planes.specs.Bit.{bitOf}
 use Rattle.planes.specs.Laws.Tests.{not-both}
 use Rattle.closure.specs.Walk.{Walk}
-use Rattle.closure.specs.Computed.{gridTest, orLine, addLine, round, rounds, tab, grid, closed}
+use Rattle.planes.specs.Tabulated.{gridTest, tab, grid}
+use Rattle.closure.specs.Computed.{orLine, addLine, round, rounds, closed}
 use Rattle.records.specs.Lists.{keep, any, all, member, sameNumbers, from}
 use Rattle.records.specs.Record.{Net, recordKind, commandKind, records, flat, ofKind, priority, sameRule, present, endsAt, linked}
 use Rattle.records.specs.Widths.{states, planeBytes, withinLimits, widthsOf}

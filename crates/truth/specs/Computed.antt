@@ -9,7 +9,8 @@ use Rattle.records.specs.Record.{Net}
 use Rattle.records.specs.Widths.{states, widthsOf}
 use Rattle.records.specs.Policy.{Formula, absent, BIT, R, E, NOT, AND, OR, SOME, ALL, TC}
 use Rattle.steps.specs.Step.{next, external}
-use Rattle.closure.specs.Computed.{Grid, gridTest, tab, closed}
+use Rattle.planes.specs.Tabulated.{Grid, gridTest, tab}
+use Rattle.closure.specs.Computed.{closed}
 use Rattle.truth.specs.Truth.{value, withX, withY}
 
 -- a model, tabulated

@@ -1,11 +1,11 @@
 use denote.Ref.{now}
 use borrow.Author.Needs.{needs}
 use mathlib.Core.Path.{_≡_, sym, ap, _∙_}
+use mathlib.Core.Option.{some}
 use Prim.Native.Nat.{ℕ, _+_, _<_, _≤_}
 use native.Mathlib.Omega.{arith}
 use Rattle.records.specs.Record.{Rec, Net, records}
-use Rattle.rows.specs.Found.{foundRule}
-use Rattle.rows.specs.declared.rules.Found.the-variants.{At}
+use Rattle.rows.specs.Found.{placeOf, foundRule}
 use Rattle.commands.specs.Apply.{added}
 use Rattle.commands.specs.Effect.{spliced}
 use Rattle.commands.proofs.Bytes.{room-spliced}
@@ -28,8 +28,8 @@ module _ (c : tie.After-f) where
   abbrev i : ℕ
   i = c .f .given .0 .0
 
-  told : At i ≡ foundRule (now (start .args .given)) (net start)
-  told = sym (c .f .given .1) ∙ c .before .before .find-rule .ensures
+  told : some i ≡ foundRule (now (start .args .given)) (net start)
+  told = sym (ap placeOf (c .f .given .1)) ∙ c .before .before .find-rule .ensures
 
   below : i < start .args .n
   below = at-below _ _ _ i told
@@ -51,7 +51,7 @@ module _ (c : tie.After-place) where
 
   inserts : left start-2 ≡ spliced (net start-2) k k (c .before .before .before .before .as-rule .result)
   inserts =
-      added-new _ _ _ k (c .place .ensures) (sym (c .before .enum-told .given .1) ∙ c .before .before .before .find-rule .ensures)
+      added-new _ _ _ k (c .place .ensures) (sym (ap placeOf (c .before .enum-told .given .1)) ∙ c .before .before .before .find-rule .ensures)
       ∙ ap (λ (r : Rec). spliced (net start-2) k k r) (sym (c .before .before .before .before .as-rule .ensures))
 
 add-splice : tie.Need-add-splice

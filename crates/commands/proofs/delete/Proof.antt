@@ -1,11 +1,11 @@
 use denote.Ref.{now}
 use borrow.Author.Needs.{needs}
-use mathlib.Core.Path.{_≡_, sym, _∙_}
+use mathlib.Core.Path.{_≡_, sym, ap, _∙_}
+use mathlib.Core.Option.{some}
 use Prim.Native.Nat.{ℕ, _+_, _<_}
 use native.Mathlib.Omega.{arith}
 use Rattle.records.specs.Record.{Net, records}
-use Rattle.rows.specs.Found.{foundRule}
-use Rattle.rows.specs.declared.rules.Found.the-variants.{At}
+use Rattle.rows.specs.Found.{placeOf, foundRule}
 use Rattle.commands.specs.Apply.{removed}
 use Rattle.commands.specs.Effect.{joined}
 use Rattle.commands.proofs.Bytes.{room-joined}
@@ -28,8 +28,8 @@ module _ (c : tie.After-f) where
   abbrev i : ℕ
   i = c .f .given .0 .0
 
-  told : At i ≡ foundRule (now (start .args .given)) (net start)
-  told = sym (c .f .given .1) ∙ c .before .before .find-rule .ensures
+  told : some i ≡ foundRule (now (start .args .given)) (net start)
+  told = sym (ap placeOf (c .f .given .1)) ∙ c .before .before .find-rule .ensures
 
   below : i < start .args .n
   below = at-below _ _ _ i told
@@ -43,7 +43,7 @@ module _ (c : tie.After-enum-told) where
   start-2 = c .before .before .before .before .before .before
 
   keeps : left start-2 ≡ joined (net start-2) (start-2 .args .n) (start-2 .args .n)
-  keeps = removed-none _ _ _ (sym (c .enum-told .given .1) ∙ c .before .before .find-rule .ensures)
+  keeps = removed-none _ _ _ (sym (ap placeOf (c .enum-told .given .1)) ∙ c .before .before .find-rule .ensures)
 
 add-join : tie.Need-add-join
 add-join c = omega (arith, below (c .before .before))

@@ -1,11 +1,11 @@
 use denote.Ref.{now}
 use borrow.Author.Needs.{needs}
 use mathlib.Core.Path.{_≡_, sym, ap, _∙_}
+use mathlib.Core.Option.{some}
 use Prim.Native.Nat.{ℕ, _+_, _<_}
 use native.Mathlib.Omega.{arith}
 use Rattle.records.specs.Record.{Rec, Net, records}
-use Rattle.rows.specs.Found.{foundRule}
-use Rattle.rows.specs.declared.rules.Found.the-variants.{At}
+use Rattle.rows.specs.Found.{placeOf, foundRule}
 use Rattle.records.specs.Laws.Records.{part-is}
 use Rattle.commands.specs.Apply.{withActions, changed}
 use Rattle.commands.specs.Effect.{spliced, joined}
@@ -29,8 +29,8 @@ module _ (c : tie.After-f) where
   abbrev i : ℕ
   i = c .f .given .0 .0
 
-  told : At i ≡ foundRule (now (start .args .given)) (net start)
-  told = sym (c .f .given .1) ∙ c .before .before .find-rule .ensures
+  told : some i ≡ foundRule (now (start .args .given)) (net start)
+  told = sym (ap placeOf (c .f .given .1)) ∙ c .before .before .find-rule .ensures
 
   below : i < start .args .n
   below = at-below _ _ _ i told
@@ -49,7 +49,7 @@ module _ (c : tie.After-enum-told) where
   start-2 = c .before .before .before .before .before .before
 
   keeps : left start-2 ≡ joined (net start-2) (start-2 .args .n) (start-2 .args .n)
-  keeps = changed-none _ _ _ (withActions (now (start-2 .args .given))) (sym (c .enum-told .given .1) ∙ c .before .before .find-rule .ensures)
+  keeps = changed-none _ _ _ (withActions (now (start-2 .args .given))) (sym (ap placeOf (c .enum-told .given .1)) ∙ c .before .before .find-rule .ensures)
 
 mul-a : tie.Need-mul-a
 mul-a c = omega (arith, below (c .before), c .before .before .before .before .before .before .before .pre .0 .stored)

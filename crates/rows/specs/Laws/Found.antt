@@ -2,6 +2,7 @@
 use mathlib.Core.Path.{_≡_, refl, sym, ap, _∙_}
 use mathlib.Core.Bool.{Bool, true, false, cond, or-true, false≢true}
 use mathlib.Core.List.{List, [], _∷_, _++_, append-nil}
+use mathlib.Core.Option.{none, some}
 use Prim.Native.Nat.{ℕ, suc, _+_, _-_, _*_, _<_}
 use native.Mathlib.Omega.{arith}
 use lib.ListN.{length, take, drop}
@@ -9,7 +10,6 @@ use Rattle.records.specs.Lists.{any}
 use Rattle.records.specs.Record.{Rec, Net, records, sameRule, present}
 use Rattle.records.specs.Search.{recordAt, recordsAfter, firstAt}
 use Rattle.rows.specs.Found.{foundRule}
-use Rattle.rows.specs.declared.rules.Found.the-variants.{At, Nothing}
 use Rattle.records.specs.Laws.Lists.{any-append, any-snoc}
 use Rattle.records.specs.Laws.Records.{length-records, records-split, records-left, records-more, part-is}
 
@@ -68,27 +68,27 @@ module _ (f : Rec → Bool) (s : List ℕ) (i : ℕ) (t : Bool) (none : any f (r
   pub first-here : (n : ℕ) → i < n → t ≡ true → firstAt f (records n s) ≡ i
   first-here n h q = first-found f s n i h none (tested true q)
 
-pub found-at : (c : Rec) (net : Net) (i : ℕ) → any (sameRule c) net ≡ true → firstAt (sameRule c) net ≡ i → At i ≡ foundRule c net
+pub found-at : (c : Rec) (net : Net) (i : ℕ) → any (sameRule c) net ≡ true → firstAt (sameRule c) net ≡ i → some i ≡ foundRule c net
 unfolding foundRule present
-found-at c net i t e = sym (rw t (ap At e))
+found-at c net i t e = sym (rw t (ap some e))
 
-pub found-none : (c : Rec) (net : Net) → any (sameRule c) net ≡ false → Nothing ≡ foundRule c net
+pub found-none : (c : Rec) (net : Net) → any (sameRule c) net ≡ false → none ≡ foundRule c net
 unfolding foundRule present
 found-none c net e = sym (rw e)
 
 -- a rule is present exactly where its place is found
-pub found-present : (c : Rec) (net : Net) (k : ℕ) → At k ≡ foundRule c net → true ≡ present c net
+pub found-present : (c : Rec) (net : Net) (k : ℕ) → some k ≡ foundRule c net → true ≡ present c net
 unfolding foundRule
 found-present c net k e = go (present c net) e
   where
-    go : (b : Bool) → At k ≡ cond b (At (firstAt (sameRule c) net)) Nothing → true ≡ b
+    go : (b : Bool) → some k ≡ cond b (some (firstAt (sameRule c) net)) none → true ≡ b
     go true e = refl
     go false e = let z : _≡_ {A = ℕ} 0 1 = cc in absurd (omega arith)
 
-pub found-absent : (c : Rec) (net : Net) → Nothing ≡ foundRule c net → false ≡ present c net
+pub found-absent : (c : Rec) (net : Net) → none ≡ foundRule c net → false ≡ present c net
 unfolding foundRule
 found-absent c net e = go (present c net) e
   where
-    go : (b : Bool) → Nothing ≡ cond b (At (firstAt (sameRule c) net)) Nothing → false ≡ b
+    go : (b : Bool) → none ≡ cond b (some (firstAt (sameRule c) net)) none → false ≡ b
     go true e = let z : _≡_ {A = ℕ} 0 1 = cc in absurd (omega arith)
     go false e = refl

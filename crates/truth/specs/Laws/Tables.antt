@@ -13,9 +13,11 @@ use Rattle.records.specs.Widths.{states, widthsOf}
 use Rattle.records.specs.Policy.{Var, X, Y, Formula, absent, BIT, R, E, NOT, AND, OR, SOME, ALL, TC}
 use Rattle.steps.specs.Step.{next, Step, external}
 use Rattle.closure.specs.Walk.{Walk}
-use Rattle.closure.specs.Computed.{gridTest, grid, closed}
+use Rattle.planes.specs.Tabulated.{gridTest, grid}
+use Rattle.planes.specs.Laws.Tabulated.{tab-at, grid-at}
+use Rattle.closure.specs.Computed.{closed}
 use Rattle.closure.specs.Laws.Walks.{map-walk}
-use Rattle.closure.specs.Laws.Closing.{tab-at, grid-at, closed-iff}
+use Rattle.closure.specs.Laws.Closing.{closed-iff}
 use Rattle.truth.specs.Truth.{Model, modelOf, value, withX, withY, Truth}
 use Rattle.truth.specs.Computed.{Table, tableOf, anyBelow, allBelow, truth}
 
