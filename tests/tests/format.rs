@@ -7,6 +7,7 @@ use wegbaro_tests::k::k;
 use wegbaro_tests::library::Library;
 use wegbaro_tests::networks::work_needed;
 use wegbaro_tests::records::{record, Record};
+use wegbaro_tests::second::states::{Direction, Point, State, Widths};
 
 fn document() -> String {
     let path = concat!(env!("CARGO_MANIFEST_DIR"), "/../docs/FORMAT.md");
@@ -90,6 +91,31 @@ fn answer_on_k(command: &str) -> String {
 #[test]
 fn the_records_of_network_k() {
     assert_eq!(listing(&document()), k());
+}
+
+/// A state of network K in bits, part by part, and in words.
+fn described(state: State) -> [String; 2] {
+    let State { direction, point: Point { switch, port }, header } = state;
+    let (bit, word) = match direction {
+        Direction::Arriving => (0, "arriving"),
+        Direction::Departing => (1, "departing"),
+    };
+    [
+        format!("`{bit} {switch} {port:02b} {header}`"),
+        format!("{word}, switch {switch}, port {port}, header {header}"),
+    ]
+}
+
+#[test]
+fn the_states_of_network_k() {
+    let document = document();
+    let states = table(&document, "state");
+    assert_eq!(states.len(), 5, "{states:?}");
+    let widths = Widths::within_limits(1, 2, 1).unwrap();
+    for state in states {
+        let numbered = State::numbered(state[0].parse().unwrap(), widths);
+        assert_eq!(described(numbered), [state[1], state[2]]);
+    }
 }
 
 #[test]

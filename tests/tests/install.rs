@@ -156,11 +156,17 @@ fn the_shared_object_exports_the_two_calls() {
     assert_eq!(names, ["wegbaro_check", "wegbaro_command"]);
 }
 
-/// Writable data would be shared by calls at the same time. `nm` marks it with these letters.
+/// Calls at the same time would share writable data, and a call of anything else could allocate.
 #[test]
-fn the_library_has_no_data() {
-    let all = symbols(&[], &root().join("target/staticlib/libwegbaro.a"));
-    assert!(all.iter().any(|(name, kind)| name == "wegbaro_check" && kind == "T"), "{all:?}");
-    let data: Vec<_> = all.iter().filter(|(_, kind)| "bBcCdDgGsSuvV".contains(kind)).collect();
-    assert!(data.is_empty(), "{data:?}");
+fn the_library_has_no_data_and_calls_nothing_that_has() {
+    let library = root().join("target/staticlib/libwegbaro.a");
+    let sizes = printed(Command::new("size").arg(&library));
+    let parts: Vec<Vec<&str>> =
+        sizes.lines().skip(1).map(|line| line.split_whitespace().collect()).collect();
+    assert!(!parts.is_empty(), "{sizes}");
+    assert!(parts.iter().all(|part| part[1..3] == ["0", "0"]), "data and bss:\n{sizes}");
+
+    let called = symbols(&["--undefined-only"], &library);
+    let known = |name: &str| ["memcpy", "memset", "memmove"].contains(&name);
+    assert!(called.iter().all(|(name, _)| known(name)), "{called:?}");
 }
