@@ -17,6 +17,7 @@ bindir := $(prefix)/bin
 includedir := $(prefix)/include
 libdir := $(prefix)/lib
 pcdir := $(libdir)/pkgconfig
+docdir := $(prefix)/share/doc/wegbaro
 
 RT ?= rt
 CC ?= cc
@@ -54,26 +55,28 @@ $(program):
 
 $(shared): $(static) packaging/libwegbaro.map
 	mkdir -p $(@D)
-	$(CC) -shared -Wl,-soname,$(SONAME) -Wl,--version-script,packaging/libwegbaro.map \
+	$(CC) -shared $(LDFLAGS) -Wl,-soname,$(SONAME) -Wl,--version-script,packaging/libwegbaro.map \
 	    -Wl,-z,defs -Wl,-z,text -Wl,-z,noexecstack -o $@ \
 	    -Wl,--whole-archive $(static) -Wl,--no-whole-archive
 
 install: $(static) $(shared) $(gate) $(program)
-	$(INSTALL) -d $(DESTDIR)$(bindir) $(DESTDIR)$(includedir) $(DESTDIR)$(pcdir)
+	$(INSTALL) -d $(DESTDIR)$(bindir) $(DESTDIR)$(includedir) $(DESTDIR)$(pcdir) $(DESTDIR)$(docdir)
 	$(INSTALL) -m 755 $(gate) $(DESTDIR)$(bindir)/gate
 	$(INSTALL) -m 755 $(program) $(DESTDIR)$(bindir)/wegbaro
 	$(INSTALL) -m 644 include/wegbaro.h $(DESTDIR)$(includedir)/wegbaro.h
+	$(INSTALL) -m 644 docs/FORMAT.md CHANGELOG.md $(DESTDIR)$(docdir)
 	$(INSTALL) -m 644 $(static) $(DESTDIR)$(libdir)/libwegbaro.a
 	$(INSTALL) -m 755 $(shared) $(DESTDIR)$(libdir)/$(notdir $(shared))
 	ln -sf $(notdir $(shared)) $(DESTDIR)$(libdir)/$(SONAME)
 	ln -sf $(SONAME) $(DESTDIR)$(libdir)/libwegbaro.so
-	sed -e 's,@PREFIX@,$(prefix),' -e 's,@VERSION@,$(VERSION),' packaging/wegbaro.pc.in \
+	sed -e 's|@PREFIX@|$(prefix)|' -e 's|@VERSION@|$(VERSION)|' packaging/wegbaro.pc.in \
 	    > $(DESTDIR)$(pcdir)/wegbaro.pc
 	chmod 644 $(DESTDIR)$(pcdir)/wegbaro.pc
 
 uninstall:
 	rm -f $(DESTDIR)$(bindir)/gate $(DESTDIR)$(bindir)/wegbaro
 	rm -f $(DESTDIR)$(includedir)/wegbaro.h
+	rm -f $(DESTDIR)$(docdir)/FORMAT.md $(DESTDIR)$(docdir)/CHANGELOG.md
 	rm -f $(DESTDIR)$(libdir)/libwegbaro.a $(DESTDIR)$(libdir)/libwegbaro.so
 	rm -f $(DESTDIR)$(libdir)/$(SONAME) $(DESTDIR)$(libdir)/$(notdir $(shared))
 	rm -f $(DESTDIR)$(pcdir)/wegbaro.pc

@@ -1,6 +1,6 @@
 /* Wegbaro: the check call and the command call, for C (C89 and later) and C++. Link with -lwegbaro.
  *
- * The words used here (record, policy, state, row) are explained in docs/FORMAT.md.
+ * The words used here (record, policy, state, row) are explained in docs/FORMAT.md, installed in share/doc/wegbaro.
  *
  * Every length, every content and every n is allowed: what is wrong with them is answered as a refusal. Asked of the
  * caller is only what C asks of any function: each pointer is not null, even with length 0, and has its length in bytes
@@ -9,9 +9,9 @@
  * Memory: everything is in the buffers, which are lent for the call alone. Neither call keeps a pointer, allocates, or
  * remembers an earlier call. On the stack a call needs at most WEGBARO_STACK_BYTES.
  *
- * Threads: the library has no data of its own. Calls with different buffers may run at the same time, from any thread and
- * from a signal handler. Two calls at the same time may share a store or a command that both only read, as two check
- * calls do; each needs a work buffer of its own. */
+ * Threads: the library has no data of its own and calls no function but memcpy, memmove and memset. Calls that have
+ * different buffers may run at the same time, in any thread or signal handler. Check calls at the same time may share a
+ * store, which they only read; each needs a work buffer of its own. A command call shares its store with no other. */
 
 #ifndef WEGBARO_H
 #define WEGBARO_H

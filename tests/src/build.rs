@@ -12,6 +12,16 @@ pub fn root() -> PathBuf {
     Path::new(env!("CARGO_MANIFEST_DIR")).join("..").canonicalize().unwrap()
 }
 
+/// The project's version, from the file VERSION.
+pub fn version() -> String {
+    fs::read_to_string(root().join("VERSION")).unwrap().trim_end().to_owned()
+}
+
+/// What `gate` prints on network K and its two adds, and the example in C likewise.
+pub fn printed_of_k() -> String {
+    fs::read_to_string(root().join("crates/gate/stdout")).unwrap()
+}
+
 /// A new folder under the given one, removed with all that is in it when it goes out of scope.
 pub struct Folder(PathBuf);
 

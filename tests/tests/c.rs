@@ -1,10 +1,7 @@
 //! The header and the example in C: built without a warning against the static library, and run.
 
 use std::process::Command;
-use wegbaro_tests::build::{root, run, Folder, STRICT};
-
-/// What the example prints, as the program does on the same network and commands.
-const PRINTED: &str = "start holds\n1 blocked 0 3\n2 forwarded 21\n";
+use wegbaro_tests::build::{printed_of_k, root, run, Folder, STRICT};
 
 /// Builds the example in one language, of one standard, and runs it.
 fn example_in(language: &str, standard: &str) {
@@ -17,7 +14,7 @@ fn example_in(language: &str, standard: &str) {
     run(&mut compiler);
 
     let ran = run(&mut Command::new(&example));
-    assert_eq!(String::from_utf8_lossy(&ran.stdout), PRINTED, "{standard}");
+    assert_eq!(String::from_utf8_lossy(&ran.stdout), printed_of_k(), "{standard}");
     assert_eq!(String::from_utf8_lossy(&ran.stderr), "", "{standard}");
 }
 

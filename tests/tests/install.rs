@@ -6,17 +6,10 @@ use std::fs;
 use std::path::{Path, PathBuf};
 use std::process::Command;
 use std::sync::Once;
-use wegbaro_tests::build::{printed, root, run, Folder, STRICT};
-
-/// What the example prints.
-const PRINTED: &str = "start holds\n1 blocked 0 3\n2 forwarded 21\n";
+use wegbaro_tests::build::{printed, printed_of_k, root, run, version, Folder, STRICT};
 
 fn folder(name: &str) -> Folder {
     Folder::new(env!("CARGO_TARGET_TMPDIR"), name)
-}
-
-fn version() -> String {
-    fs::read_to_string(root().join("VERSION")).unwrap().trim_end().to_owned()
 }
 
 /// `make` at the root; `false` in place of `rt` fails where a proof would be run anew.
@@ -94,6 +87,8 @@ fn in_a_staging_folder() {
         "usr/lib/libwegbaro.so.0",
         &versioned,
         "usr/lib/pkgconfig/wegbaro.pc",
+        "usr/share/doc/wegbaro/CHANGELOG.md",
+        "usr/share/doc/wegbaro/FORMAT.md",
     ];
     assert_eq!(files(stage.path()), expected);
     let description =
@@ -113,13 +108,13 @@ fn with_pkg_config() {
 
     let shared = example(prefix, built.path(), &["--cflags", "--libs"], &[]);
     let fixed = example(prefix, built.path(), &["--cflags", "--libs", "--static"], &["-static"]);
-    assert_eq!(printed(&mut with_shared(&shared, prefix)), PRINTED);
-    assert_eq!(printed(&mut Command::new(&fixed)), PRINTED);
+    assert_eq!(printed(&mut with_shared(&shared, prefix)), printed_of_k());
+    assert_eq!(printed(&mut Command::new(&fixed)), printed_of_k());
 
     // Without the installed library the one needs it, and the other does not.
     make(&["uninstall", &format!("PREFIX={}", prefix.display())]);
     assert!(!with_shared(&shared, prefix).output().unwrap().status.success());
-    assert_eq!(printed(&mut Command::new(&fixed)), PRINTED);
+    assert_eq!(printed(&mut Command::new(&fixed)), printed_of_k());
 }
 
 #[test]
@@ -128,8 +123,7 @@ fn the_installed_programs() {
     install(prefix.path());
     let input = fs::File::open(root().join("crates/gate/stdin")).unwrap();
     let mut gate = Command::new(prefix.path().join("bin/gate"));
-    let expected = fs::read_to_string(root().join("crates/gate/stdout")).unwrap();
-    assert_eq!(printed(gate.stdin(input)), expected);
+    assert_eq!(printed(gate.stdin(input)), printed_of_k());
 
     let mut wegbaro = Command::new(prefix.path().join("bin/wegbaro"));
     let said = printed(wegbaro.arg("--version"));

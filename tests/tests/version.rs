@@ -2,14 +2,10 @@
 
 use std::fs;
 use std::path::{Path, PathBuf};
-use wegbaro_tests::build::root;
+use wegbaro_tests::build::{root, version};
 
 fn text(path: &Path) -> String {
     fs::read_to_string(path).unwrap_or_else(|error| panic!("{}: {error}", path.display()))
-}
-
-fn version() -> String {
-    text(&root().join("VERSION")).trim_end().to_owned()
 }
 
 /// The folders of a folder.
