@@ -47,7 +47,8 @@ shared: $(shared)
 $(static):
 	$(RT) staticlib wegbaro
 
-$(gate):
+# One after the other: both prove the same crates.
+$(gate): | $(static)
 	$(RT) check gate
 
 $(program):
