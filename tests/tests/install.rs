@@ -117,17 +117,29 @@ fn with_pkg_config() {
     assert_eq!(printed(&mut Command::new(&fixed)), printed_of_k());
 }
 
+/// Whether the README shows these lines, as code.
+fn is_shown(lines: &str) -> bool {
+    let readme = fs::read_to_string(root().join("README.md")).unwrap();
+    let code: String = lines.lines().map(|line| format!("    {line}\n")).collect();
+    readme.contains(&format!("\n\n{code}\n"))
+}
+
 #[test]
 fn the_installed_programs() {
     let prefix = folder("programs");
     install(prefix.path());
     let input = fs::File::open(root().join("crates/gate/stdin")).unwrap();
     let mut gate = Command::new(prefix.path().join("bin/gate"));
-    assert_eq!(printed(gate.stdin(input)), printed_of_k());
+    let answers = printed(gate.stdin(input));
+    assert_eq!(answers, printed_of_k());
+    assert!(is_shown(&answers), "README.md shows something else than\n{answers}");
 
-    let mut wegbaro = Command::new(prefix.path().join("bin/wegbaro"));
-    let said = printed(wegbaro.arg("--version"));
+    let wegbaro = || Command::new(prefix.path().join("bin/wegbaro"));
+    let said = printed(wegbaro().arg("--version"));
     assert!(said.contains(&version()), "{said}");
+    let ran = wegbaro().arg("run").arg(root().join("examples/k/network.txt")).output().unwrap();
+    let answers = String::from_utf8(ran.stdout).unwrap();
+    assert!(is_shown(&answers), "README.md shows something else than\n{answers}");
 }
 
 /// The symbols that `nm` prints, each with its letter.
