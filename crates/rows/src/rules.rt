@@ -2,7 +2,6 @@
 ghost use mathlib.Core.Path.{_≡_};
 ghost use Prim.Native.Nat.{_+_, _*_, _≤_, _<_};
 ghost use lib.ListN.{length};
-ghost use Rattle.records.specs.Lists.{sameNumbers};
 ghost use Rattle.records.specs.Record.{records, sameRule, present};
 ghost use Rattle.rows.specs.Found.{placeOf, foundRule};
 
@@ -10,21 +9,6 @@ ghost use Rattle.rows.specs.Found.{placeOf, foundRule};
 pub enum Found {
     At(usize),
     Nothing,
-}
-
-// Two parts have the same bytes.
-fn same_bytes(a: &[u8], b: &[u8]) -> bool
-    requires { ⌜ length (now a) ≡ length (now b) ⌝ }
-    ensures { λ r. ⌜ r ≡ sameNumbers (now (a .entry)) (now (b .entry)) ⌝ }
-{
-    let mut i = 0;
-    while i < a.len() {
-        if a[i] != b[i] {
-            return false;
-        }
-        i += 1;
-    }
-    true
 }
 
 // The record r is the same rule as c.
@@ -35,7 +19,7 @@ pub fn same_rule(c: &[u8], r: &[u8]) -> bool
     if r[0] != 4 {
         return false;
     }
-    same_bytes(&c[1..8], &r[1..8])
+    check::same(&c[1..8], &r[1..8])
 }
 
 // The place of the same rule as c among the first n records.

@@ -11,7 +11,7 @@ use lib.Dec.{T, eqb, ltb, lit<}
 use lib.ListN.{length, getD, take, drop, length-append, length-drop}
 use lib.Seq.{length-take-le, take-all, take-at, drop-at, drop-drop, getD-take, getD-drop}
 use Rattle.planes.specs.Laws.Tests.{both, and-both, or-none}
-use Rattle.records.specs.Lists.{all, sameNumbers}
+use Rattle.records.specs.Lists.{all}
 use Rattle.records.specs.Record.{Rec, Net, mostRules, at, kind, ofKind, sameRule, present}
 use Rattle.records.specs.Widths.{widthsOf}
 use Rattle.rows.specs.Rows.{row12, row13}
@@ -20,6 +20,7 @@ use Rattle.rows.specs.Refusal.{commandRow}
 use Rattle.records.specs.declared.Widths.{Widths}
 use Rattle.rows.specs.Laws.Passing.{and-test, lowest-two}
 use Rattle.records.specs.Laws.Fields.{rule-fields, change-fields}
+use Rattle.records.specs.Laws.Lists.{same-numbers}
 use Rattle.rows.specs.Laws.Edits.{matchOf}
 use Rattle.commands.specs.Apply.{asRule, withActions}
 
@@ -50,14 +51,6 @@ command net c e =
       good = not-false _ (a .1);
       room = λ q absent. leb-false _ _ (and-test _ _ (t .1) (and-both (eqb (kind c) 6) (not (present c net)) (eq-eqb (kind c) 6 q) (rw absent)));
     }
-
--- two lists with the same numbers are equal
-same-numbers : (a b : List ℕ) → sameNumbers a b ≡ true → a ≡ b
-unfolding sameNumbers
-same-numbers [] [] e = refl
-same-numbers [] (y ∷ b) e = let z : _≡_ {A = ℕ} 0 1 = cc in absurd (omega arith)
-same-numbers (x ∷ a) [] e = let z : _≡_ {A = ℕ} 0 1 = cc in absurd (omega arith)
-same-numbers (x ∷ a) (y ∷ b) e = let t = both _ _ e in cc (eqb-true x y (t .0), same-numbers a b (t .1))
 
 -- the same rule is a rule, with the same match
 pub same-rule : (c r : Rec) → sameRule c r ≡ true → (kind r ≡ 4) × (matchOf c ≡ matchOf r)

@@ -1,13 +1,14 @@
 -- Laws of lists by a test: what joining two lists, and one element more, do to them.
-use mathlib.Core.Path.{_≡_, refl, sym, ap, ap₂, _∙_}
-use mathlib.Core.Bool.{Bool, true, false, cond, _&&_, _||_, or-assoc, or-false}
+use borrow.Author.Tests.{eq-eqb, eqb-true}
+use mathlib.Core.Path.{_≡_, refl, sym, ap, ap₂, subst, _∙_}
+use mathlib.Core.Bool.{Bool, true, false, cond, _&&_, _||_, or-assoc, or-false, false≢true}
 use mathlib.Core.List.{List, [], _∷_, _++_, append-nil}
 use Prim.Native.Nat.{ℕ, suc, _+_, _-_, _<_, _≤_}
-use native.Mathlib.Numerals.{add-one}
 use native.Mathlib.Omega.{arith}
 use lib.Dec.{eqb}
-use lib.ListN.{length, getD, take, drop, replicate, take-append-drop, length-take, length-drop, getD-replicate, drop-of-length-le}
-use lib.Seq.{slice, length-slice, drop-cons, getD-drop, getD-take}
+use lib.ListN.{length, getD, take, drop, replicate, take-append-drop, length-take, length-drop, getD-replicate}
+use lib.Seq.{slice, length-slice, getD-drop, getD-take}
+use Rattle.planes.specs.Laws.Tests.{both}
 use Rattle.records.specs.Lists.{keep, any, sameNumbers}
 
 module _ {A : Type 0} where
@@ -66,15 +67,27 @@ getD-run {A} l v d m c k e h t =
     ∙ sym (getD-take c (drop m l) (k - m) d (omega arith))
     ∙ ap (λ (x : List A). getD x (k - m) d) e ∙ getD-replicate c (k - m) v d (omega arith)
 
--- two lists compared from number i on
-pub same-next : (a b : List ℕ) (i : ℕ) → i < length a → i < length b
-    → sameNumbers (drop i a) (drop i b) ≡ (eqb (getD a i 0) (getD b i 0) && sameNumbers (drop (i + 1) a) (drop (i + 1) b))
+-- lists that are the same numbers are equal
+pub same-numbers : (a b : List ℕ) → sameNumbers a b ≡ true → a ≡ b
 unfolding sameNumbers
-same-next a b i h k = rw (add-one i, drop-cons a i 0, drop-cons b i 0)
+same-numbers [] [] e = refl
+same-numbers [] (y ∷ b) e = absurd (false≢true e)
+same-numbers (x ∷ a) [] e = absurd (false≢true e)
+same-numbers (x ∷ a) (y ∷ b) e = let t = both _ _ e in cc (eqb-true x y (t .0), same-numbers a b (t .1))
 
-pub same-end : (a b : List ℕ) (i : ℕ) → length a ≤ i → length a ≡ length b → sameNumbers (drop i a) (drop i b) ≡ true
+same-self : (a : List ℕ) → sameNumbers a a ≡ true
 unfolding sameNumbers
-same-end a b i h q = rw (drop-of-length-le a h, drop-of-length-le b {i = i} (omega arith))
+same-self [] = refl
+same-self (x ∷ a) = rw (eq-eqb x x refl) (same-self a)
+
+-- a test that is true exactly for equal lists
+pub same-decided : (r : Bool) (a b : List ℕ) → (r ≡ true → a ≡ b) × (a ≡ b → r ≡ true) → r ≡ sameNumbers a b
+same-decided true a b e = sym (subst (λ (l : List ℕ). sameNumbers a l ≡ true) (e .0 refl) (same-self a))
+same-decided false a b e = go (sameNumbers a b) refl
+  where
+    go : (s : Bool) → sameNumbers a b ≡ s → false ≡ s
+    go true q = e .1 (same-numbers a b q)
+    go false q = refl
 
 -- the elements that pass a test, where all or none do
 module _ {A : Type 0} (f : A → Bool) (d : A) where
