@@ -1,6 +1,7 @@
 //! A readable text form of networks and commands: text to records and back, and the program's
 //! output lines in words. The form is described in `README.md`.
 
+pub mod compile;
 pub mod explain;
 pub mod fault;
 pub mod formula;
@@ -8,8 +9,10 @@ pub mod generate;
 pub mod names;
 pub mod parse;
 pub mod print;
+pub mod templates;
 pub mod tokens;
 pub mod widths;
+pub mod written;
 
 /// Bytes of a record.
 pub const RECORD: usize = 24;
