@@ -48,6 +48,8 @@ pub fn compile(written: &Written, of: Widths) -> Compiled {
     }
     let splits = forms.iter_mut().filter_map(|(parts, whole)| split(parts, *whole));
     match splits.min_by_key(Vec::len) {
+        // Put together from its alternatives, the whole had fewer nodes.
+        Some(mut policies) if policies.len() == 1 => Compiled::One(policies.remove(0), None),
         Some(policies) => Compiled::Split(policies, least),
         None => Compiled::TooLong(least),
     }

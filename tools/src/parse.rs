@@ -463,6 +463,9 @@ impl Reader {
             None => read_formula(self, statement, of)?,
         };
         statement.finish()?;
+        if written.free()[1] {
+            return Err(start.fault("Y is free in this policy; only X may be"));
+        }
         match compile(&written, of) {
             Compiled::One(nodes, constant) => {
                 if let Some(truth) = constant {

@@ -167,20 +167,16 @@ const HABITS: [(&str, &str); 9] = [
     ("in", "write `=`, or `at(X, ...)` for points and switches"),
 ];
 
-/// Reads the formula of a policy, which has at most X free.
+/// Reads a formula to the statement's end.
 pub fn read_formula(
     reader: &mut Reader,
     statement: &mut Statement,
     of: Widths,
 ) -> Result<Written, Fault> {
-    let start = statement.peek();
     let mut formula = FormulaReader { reader, statement, of, depth: 0, parts: 0 };
     let whole = formula.chain(None)?;
     formula.ended()?;
-    match whole.free()[1] {
-        true => Err(start.fault("Y is free in this policy; only X may be")),
-        false => Ok(whole),
-    }
+    Ok(whole)
 }
 
 struct FormulaReader<'r, 's, 'a> {
