@@ -57,7 +57,7 @@ fn read_text(file: &str) -> Result<Parsed, String> {
     let text = String::from_utf8(read(file)?).map_err(|_| format!("{file}: not a text"))?;
     parse(&text).map_err(|faults| {
         let shown: Vec<String> = faults.iter().map(|fault| fault.show(file, &text)).collect();
-        shown.concat()
+        shown.concat().trim_end().to_string()
     })
 }
 

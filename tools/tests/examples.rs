@@ -35,7 +35,7 @@ fn every_example() {
             continue;
         }
         let example = entry.file_name().into_string().unwrap();
-        let Parsed { bytes, lines } = network(&example);
+        let Parsed { bytes, lines, .. } = network(&example);
         let output = String::from_utf8(program(&bytes)).unwrap();
         assert_eq!(output, read(&example, "expected"), "{example}");
         let words = Input::new(&bytes, &lines).explain(&output).unwrap();

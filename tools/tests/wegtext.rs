@@ -61,7 +61,7 @@ fn explained() {
 fn faults() {
     assert_eq!(
         said(&["records"], b"widths H 1 P 2 W 1\nlink 0-1"),
-        "-: line 2, column 7: expected `:`, found `-`\n"
+        "-:2:7: expected `:`, found `-`\n    link 0-1\n          ^\n"
     );
     assert_eq!(said(&["records"], b"\xFF"), "-: not a text\n");
     assert_eq!(
