@@ -45,7 +45,7 @@ fn every_example() {
         seen.push(example);
     }
     seen.sort();
-    assert_eq!(seen, ["chain", "k", "uplinks"]);
+    assert_eq!(seen, ["chain", "k", "routes", "templates", "uplinks"]);
 }
 
 /// The states that follow a state until one comes again or none follows.
