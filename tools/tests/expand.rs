@@ -50,7 +50,7 @@ fn the_same_records() {
     }
     let misses: String = (0..8).map(|switch| format!("miss {switch}: output drop\n")).collect();
     let policies = "\
-policy 0: what enters at 0:1, 1:2, 6:3, 5:4 never reaches 7:1, 3:6, 4:5, 2:3
+policy 0: what enters at 0:1, 6:3 never reaches 7:1, 3:6, 4:5, 2:3
 policy 1: no loops
 delete 0 priority 1
 ";
@@ -58,6 +58,9 @@ delete 0 priority 1
     for text in texts {
         let [first, again] = [parsed(&text), parsed(&expanded(&text))];
         assert_eq!(first.bytes, again.bytes, "{}", expanded(&text));
-        assert_eq!(first.notes.len() + first.policies.len() > again.policies.len(), text.contains("6:3"));
+        assert_eq!(
+            first.notes.len() + first.policies.len() > again.policies.len(),
+            text.contains("6:3")
+        );
     }
 }
