@@ -38,7 +38,7 @@ impl Fault {
 
     /// The fault with its place in the file, the line with a mark under it, and the hint.
     pub fn show(&self, file: &str, text: &str) -> String {
-        let file = quoted(file);
+        let file: String = file.chars().map(plain).collect();
         let mut shown = format!("{file}:{}:{}: {}\n", self.line, self.column, self.message);
         if let Some(line) = line_of(text, self.line) {
             let (line, before) = excerpt(line, self.column);
