@@ -69,6 +69,7 @@ pub fn parse(text: &str) -> Result<Parsed, Vec<Fault>> {
         let line = statement.line();
         match reader.statement(&mut statement) {
             Ok(bytes) => parsed.extend(&bytes, line),
+            Err(Unread::Fault(fault)) if reader.follows(&statement, &fault) => {}
             Err(Unread::Fault(fault)) => faults.push(fault),
             Err(Unread::WithoutWidths) => {}
         }
@@ -206,6 +207,8 @@ pub struct Reader {
     open: Option<u8>,
     /// The ends of links, and their lines.
     links: Vec<(Point, usize)>,
+    /// Names that faulty statements would have given.
+    lost: Vec<String>,
     /// Parts of policies that stand after the last one.
     parts: Vec<Split>,
     notes: Vec<String>,
@@ -330,13 +333,31 @@ impl Reader {
         Ok(record(&[1, h, p, w]).to_vec())
     }
 
-    /// The widths for the statement that starts with the keyword.
-    fn widths(&self, keyword: Token) -> Result<Widths, Unread> {
+    /// The widths for the statement that starts with the keyword. That they are missing is told once.
+    fn widths(&mut self, keyword: Token) -> Result<Widths, Unread> {
         match (self.widths, self.given) {
             (Some(widths), _) => Ok(widths),
             (None, Given::Faulty) => Err(Unread::WithoutWidths),
-            (None, _) => Err(keyword.fault("expected `widths` before this statement").into()),
+            (None, _) => {
+                self.given = Given::Faulty;
+                Err(keyword.fault("expected `widths` before this statement").into())
+            }
         }
+    }
+
+    /// Whether a fault is there only because a name was not given in a faulty statement. If the faulty
+    /// statement itself gives a name, that is kept.
+    fn follows(&mut self, statement: &Statement, fault: &Fault) -> bool {
+        let name = match statement.first() {
+            "name" => statement.words().last(),
+            "ward" => statement.words().nth(1),
+            _ => None,
+        };
+        let place = Place { line: fault.line, column: fault.column };
+        let word = statement.word_at(place);
+        let follows = word.is_some_and(|word| self.lost.iter().any(|lost| lost == word));
+        self.lost.extend(name.filter(|name| self.names.named(name).is_none()).map(String::from));
+        follows
     }
 
     fn name(&mut self, of: Widths, statement: &mut Statement) -> Result<Vec<u8>, Fault> {
@@ -895,6 +916,7 @@ const WORDS: &[&str] = &[
     "no",
     "nothing",
     "what",
+    "everything",
     "enters",
     "leaves",
     "never",
