@@ -2,12 +2,15 @@
 //! output lines in words. The form is described in `README.md`.
 
 pub mod compile;
+pub mod expand;
 pub mod explain;
 pub mod fault;
 pub mod formula;
 pub mod generate;
 pub mod names;
+mod naming;
 pub mod parse;
+mod policies;
 pub mod print;
 pub mod templates;
 pub mod tokens;
