@@ -1,9 +1,83 @@
 //! Policies: formulas compiled to nodes that share equal subformulas, node lists, and both printed.
 
-use crate::tokens::{Fault, Statement};
+use crate::fault::Fault;
+use crate::tokens::Statement;
+use std::rc::Rc;
 
 /// Kind and operands of a policy node.
 pub type Node = [u8; 3];
+
+/// A variable of a formula; each stands for a state.
+#[derive(Clone, Copy, Debug, PartialEq, Eq, PartialOrd, Ord, Hash)]
+pub enum Variable {
+    X,
+    Y,
+}
+
+impl Variable {
+    pub const BOTH: [Variable; 2] = [Variable::X, Variable::Y];
+
+    /// The number of a variable in a node.
+    pub fn number(self) -> u8 {
+        self as u8
+    }
+
+    /// The variable of a number.
+    pub fn numbered(number: u8) -> Option<Variable> {
+        Variable::BOTH.get(usize::from(number)).copied()
+    }
+}
+
+/// A policy's formula, one form for each kind of node. Equal parts are one and the same `Rc`, so that
+/// who works out its truth may keep the truth of each part by its address.
+#[derive(Clone, Debug, PartialEq, Eq)]
+pub enum Formula {
+    /// Bit of a state.
+    Bit(Variable, u8),
+    /// The first steps to the second: `R`.
+    Steps(Variable, Variable),
+    /// The point is external: `E`.
+    External(Variable),
+    Not(Rc<Formula>),
+    And(Rc<Formula>, Rc<Formula>),
+    Or(Rc<Formula>, Rc<Formula>),
+    /// For some state as the variable: `exists`.
+    Some(Rc<Formula>, Variable),
+    /// For all states as the variable: `forall`.
+    All(Rc<Formula>, Variable),
+    /// A walk of one or more pairs from the first to the second: `tc`.
+    Closure(Rc<Formula>, Variable, Variable),
+}
+
+impl Formula {
+    /// The formula of the last node, if every node has a form and operands are earlier nodes.
+    pub fn of(nodes: &[Node]) -> Option<Formula> {
+        let mut parts: Vec<Rc<Formula>> = vec![];
+        for node in nodes {
+            let part = Formula::over(*node, &parts)?;
+            parts.push(Rc::new(part));
+        }
+        parts.pop().map(|last| last.as_ref().clone())
+    }
+
+    /// The formula of a node over earlier ones.
+    fn over([kind, one, other]: Node, earlier: &[Rc<Formula>]) -> Option<Formula> {
+        let operand = |number: u8| earlier.get(usize::from(number)).cloned();
+        let variable = Variable::numbered;
+        Some(match kind {
+            0 => Formula::Bit(variable(one)?, other),
+            1 => Formula::Steps(variable(one)?, variable(other)?),
+            2 => Formula::External(variable(one)?),
+            3 => Formula::Not(operand(one)?),
+            4 => Formula::And(operand(one)?, operand(other)?),
+            5 => Formula::Or(operand(one)?, operand(other)?),
+            6 => Formula::Some(operand(one)?, variable(other)?),
+            7 => Formula::All(operand(one)?, variable(other)?),
+            8 => Formula::Closure(operand(one)?, variable(other / 2)?, variable(other % 2)?),
+            _ => return None,
+        })
+    }
+}
 
 /// The most nodes of a policy.
 pub const MOST_NODES: usize = 32;

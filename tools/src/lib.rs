@@ -2,7 +2,10 @@
 //! output lines in words. The form is described in `README.md`.
 
 pub mod explain;
+pub mod fault;
 pub mod formula;
+pub mod generate;
+pub mod names;
 pub mod parse;
 pub mod print;
 pub mod tokens;

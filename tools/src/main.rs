@@ -55,7 +55,10 @@ fn read(file: &str) -> Result<Vec<u8>, String> {
 
 fn read_text(file: &str) -> Result<Parsed, String> {
     let text = String::from_utf8(read(file)?).map_err(|_| format!("{file}: not a text"))?;
-    parse(&text).map_err(|fault| format!("{file}: {fault}"))
+    parse(&text).map_err(|faults| {
+        let shown: Vec<String> = faults.iter().map(|fault| fault.show(file, &text)).collect();
+        shown.concat()
+    })
 }
 
 fn explain(input: Input) -> Result<Vec<u8>, String> {

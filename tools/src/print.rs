@@ -2,6 +2,7 @@
 //! printed byte by byte, so nothing is lost whatever the bytes are.
 
 use crate::formula::{print_formula, print_nodes, Node};
+use crate::names::Names;
 use crate::parse::Reader;
 use crate::tokens::statements;
 use crate::widths::{pattern, port_pattern, Widths};
@@ -12,7 +13,7 @@ const LINE: usize = 100;
 
 /// The text of any bytes.
 pub fn print(bytes: &[u8]) -> String {
-    let mut reader = Reader { widths: None };
+    let mut reader = Reader::default();
     let mut text = String::new();
     let (records, rest) = whole_records(bytes);
     let mut place = 0;
@@ -42,7 +43,7 @@ pub fn whole_records(bytes: &[u8]) -> (Vec<Record>, &[u8]) {
 
 /// One record in the words of its statement, or byte by byte.
 pub fn print_record(widths: Option<Widths>, record: &Record) -> String {
-    let mut reader = Reader { widths };
+    let mut reader = widths.map_or_else(Reader::default, |of| Reader::with(of, Names::default()));
     let statement = plain(widths, record).filter(|text| gives(&mut reader, text, record));
     statement.unwrap_or_else(|| print_bytes(record).trim_end().to_string())
 }
@@ -65,8 +66,8 @@ fn first_statement(reader: &mut Reader, records: &[Record]) -> (usize, String) {
 
 /// Whether the text is read as these bytes; if so, the reader goes on from there.
 fn gives(reader: &mut Reader, text: &str, bytes: &[u8]) -> bool {
-    let mut next = *reader;
-    let Ok(mut found) = statements(text) else { return false };
+    let mut next = reader.clone();
+    let mut found = statements(text);
     let [statement] = &mut found[..] else { return false };
     let same = next.statement(statement).is_ok_and(|read| read == bytes);
     if same {

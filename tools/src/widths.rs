@@ -35,6 +35,16 @@ impl Widths {
         (1 << self.p) - 1
     }
 
+    /// The highest header.
+    pub fn headers(self) -> u8 {
+        (1 << self.h) - 1
+    }
+
+    /// The highest switch.
+    pub fn switches(self) -> u8 {
+        (1 << self.w) - 1
+    }
+
     /// A state in words.
     pub fn name(self, state: usize) -> String {
         let field = |from: u8, width: u8| state >> from & ((1 << width) - 1);
