@@ -1,15 +1,28 @@
-//! A readable text form of networks and commands: text to records and back, and the program's
-//! output lines in words. The form is described in `README.md`.
+//! The program `wegbaro`: networks and commands as text, judged by the proved library, with answers
+//! in words. `README.md` describes the text and the program.
 
-pub mod explain;
+pub mod book;
+pub mod call;
+pub mod causes;
 pub mod fault;
+pub mod fields;
 pub mod formula;
 pub mod generate;
+pub mod json;
+pub mod judging;
 pub mod names;
 pub mod parse;
+pub mod picture;
 pub mod print;
+pub mod program;
+pub mod source;
+pub mod standard;
+pub mod steps;
 pub mod tokens;
+pub mod trouble;
+pub mod truth;
 pub mod widths;
+pub mod words;
 
 /// Bytes of a record.
 pub const RECORD: usize = 24;

@@ -29,7 +29,8 @@ impl Plane {
     /// Whether the row, or with `column` the column, of a state has a pair, or has them all.
     fn some(&self, state: usize, column: bool, all: bool) -> bool {
         let mut others = 0..self.0.len();
-        let has = |other: usize| if column { self.has(other, state) } else { self.has(state, other) };
+        let has =
+            |other: usize| if column { self.has(other, state) } else { self.has(state, other) };
         if all {
             others.all(has)
         } else {

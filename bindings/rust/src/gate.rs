@@ -19,9 +19,15 @@ impl Gate {
     /// Judges a network and takes it in. The work buffer is as long as this network needs, so only
     /// rows 1 and 3 to 10 can refuse it.
     pub fn new(records: &[Record]) -> Result<Gate, Refusal> {
+        Gate::with_work(records, work_bytes(records))
+    }
+
+    /// The same with a work buffer of so many bytes: the answers of a caller that has no more.
+    /// Where they are too few, row 11 refuses the network.
+    pub fn with_work(records: &[Record], bytes: usize) -> Result<Gate, Refusal> {
         let mut store = records.concat();
         store.resize(store.len().max(STORE_BYTES), 0);
-        let mut work = vec![0; work_bytes(records)];
+        let mut work = vec![0; bytes];
         let verdict = check(&store, records.len(), &mut work)?;
         Ok(Gate { store, count: records.len(), work, verdict })
     }

@@ -63,7 +63,7 @@ fn refusals() {
     assert_eq!(answer, Err(Refusal { row: 13, place: 0 }));
 }
 
-/// Rows 2 and 11 are of lent buffers alone.
+/// Rows 2 and 11 are of buffers that a caller chooses.
 #[test]
 fn lent_buffers() {
     let k = k();
@@ -80,6 +80,8 @@ fn lent_buffers() {
     assert_eq!(command(&mut store, 20, &mut work, &[]), Err(row(12)));
     let answer = command(&mut store, 20, &mut work, &first_add());
     assert_eq!(answer, Ok(Commanded::Blocked { policy: 0, state: 3 }));
+    assert!(Gate::with_work(&k, 2_048).is_ok());
+    assert_eq!(Gate::with_work(&k, 2_047).err(), Some(row(11)));
 }
 
 /// The work is exactly what a network of any widths needs, and never more than the most.

@@ -1,0 +1,389 @@
+//! Answers in words, as JSON objects, and as the program `gate` prints them.
+
+use crate::book::Book;
+use crate::causes::{command_cause, kind_words, network_cause, Cause};
+use crate::json::Object;
+use crate::names::Names;
+use crate::print::print_record;
+use crate::source::{Given, Source};
+use crate::steps::{Network, State};
+use crate::truth::Truth;
+use crate::widths::{pattern, Widths};
+use crate::Record;
+use wegbaro::{work_bytes, Checked, Commanded, Refusal};
+
+/// The most switches on a way that are told.
+const MOST_HOPS: usize = 16;
+
+/// How answers are written.
+#[derive(Clone, Copy, Debug, Default, PartialEq, Eq)]
+pub enum Form {
+    #[default]
+    Words,
+    Json,
+    /// As the program `gate` prints them.
+    Gate,
+}
+
+/// An answer of the gate.
+#[derive(Clone, Debug, PartialEq, Eq)]
+pub enum Answer {
+    Start(Result<Checked, Refusal>),
+    /// The answer to a command, by its number from 1.
+    Command(usize, Given, Result<Commanded, Refusal>),
+    /// The input ends within a record.
+    Short,
+}
+
+impl Answer {
+    /// Whether the network holds, or the command is forwarded.
+    pub fn is_good(&self) -> bool {
+        matches!(
+            self,
+            Answer::Start(Ok(Checked::Holds))
+                | Answer::Command(_, _, Ok(Commanded::Forwarded { .. }))
+        )
+    }
+
+    /// The answer as the program `gate` prints it.
+    pub fn line(&self) -> String {
+        match self {
+            Answer::Start(Ok(Checked::Holds)) => "start holds".to_string(),
+            Answer::Start(Ok(Checked::Violated { policy, state })) => {
+                format!("start violated {policy} {state}")
+            }
+            Answer::Start(Err(Refusal { row, place })) => format!("start refused {row} {place}"),
+            Answer::Command(number, _, Ok(Commanded::Forwarded { count })) => {
+                format!("{number} forwarded {count}")
+            }
+            Answer::Command(number, _, Ok(Commanded::Blocked { policy, state })) => {
+                format!("{number} blocked {policy} {state}")
+            }
+            Answer::Command(number, _, Err(Refusal { row, place })) => {
+                format!("{number} refused {row} {place}")
+            }
+            Answer::Short => "end short".to_string(),
+        }
+    }
+}
+
+/// Tells the answers about a source.
+#[derive(Clone, Copy, Debug)]
+pub struct Teller<'a> {
+    pub source: &'a Source,
+    pub form: Form,
+    /// The bytes of work that the answering gate has, if they are not as many as are needed.
+    pub work: Option<usize>,
+}
+
+/// What is known of how a state breaks a policy.
+struct Broken {
+    /// The lowest Y that goes with it.
+    y: Option<usize>,
+    /// The states on a shortest way to Y, or back to the state if the policy is about loops.
+    route: Vec<usize>,
+}
+
+impl Teller<'_> {
+    /// An answer, with the records before it, ending with a line break.
+    pub fn tell(&self, book: &Book, answer: &Answer) -> String {
+        let told = match self.form {
+            Form::Gate => answer.line(),
+            Form::Words => self.words(book, answer),
+            Form::Json => self.object(book, answer).to_string(),
+        };
+        told + "\n"
+    }
+
+    fn words(&self, book: &Book, answer: &Answer) -> String {
+        match answer {
+            Answer::Start(Ok(Checked::Holds)) => {
+                "start: the network holds, no policy is broken".to_string()
+            }
+            Answer::Start(Ok(Checked::Violated { policy, state })) => {
+                format!("start: violated: {}", self.broken_words(book, *policy, *state))
+            }
+            Answer::Start(Err(refusal)) => {
+                let cause = self.network_cause(book, *refusal);
+                let place = self.place_words(book, *refusal);
+                let words = refused_words(*refusal, cause.as_ref());
+                format!("start: {words}{place}")
+            }
+            Answer::Command(number, given, Ok(Commanded::Forwarded { count })) => {
+                let records = if *count == 1 { "record" } else { "records" };
+                let command = self.command_words(*number, given);
+                format!("{command}: forwarded, the network then has {count} {records}")
+            }
+            Answer::Command(number, given, Ok(Commanded::Blocked { policy, state })) => {
+                let left = book.after(&given.record, &origin(*number, given));
+                let broken = self.broken_words(&left, *policy, *state);
+                format!("{}: blocked: {broken}", self.command_words(*number, given))
+            }
+            Answer::Command(number, given, Err(refusal)) => {
+                let cause = command_cause(&book.records, &given.record, *refusal);
+                let words = refused_words(*refusal, cause.as_ref());
+                format!("{}: {words}", self.command_words(*number, given))
+            }
+            Answer::Short => "end: the input ends within a record".to_string(),
+        }
+    }
+
+    fn object(&self, book: &Book, answer: &Answer) -> Object {
+        match answer {
+            Answer::Start(Ok(Checked::Holds)) => {
+                let object = Object::new().text("subject", "start").text("answer", "holds");
+                object.number("records", book.records.len())
+            }
+            Answer::Start(Ok(Checked::Violated { policy, state })) => {
+                let object = Object::new().text("subject", "start").text("answer", "violated");
+                self.broken_object(object, book, *policy, *state)
+            }
+            Answer::Start(Err(refusal)) => {
+                let cause = self.network_cause(book, *refusal);
+                let object = Object::new().text("subject", "start");
+                let line = |place: usize| self.source.lines.get(place).copied();
+                let place = refusal.has_record().then_some(refusal.place);
+                let other = cause.as_ref().and_then(|cause| cause.other);
+                refused_object(object, *refusal, cause.as_ref())
+                    .maybe(place.and_then(line), |object, line| object.number("line", line))
+                    .maybe(other, |object, other| object.number("other", other))
+                    .maybe(other.and_then(line), |object, line| object.number("other_line", line))
+            }
+            Answer::Command(number, given, Ok(Commanded::Forwarded { count })) => {
+                let object = self.command_object(*number, given).text("answer", "forwarded");
+                object.number("records", *count)
+            }
+            Answer::Command(number, given, Ok(Commanded::Blocked { policy, state })) => {
+                let left = book.after(&given.record, &origin(*number, given));
+                let object = self.command_object(*number, given).text("answer", "blocked");
+                self.broken_object(object, &left, *policy, *state)
+            }
+            Answer::Command(number, given, Err(refusal)) => {
+                let cause = command_cause(&book.records, &given.record, *refusal);
+                refused_object(self.command_object(*number, given), *refusal, cause.as_ref())
+            }
+            Answer::Short => Object::new().text("subject", "end").text("answer", "short"),
+        }
+    }
+
+    fn network_cause(&self, book: &Book, refusal: Refusal) -> Option<Cause> {
+        if refusal.row == 11 {
+            return self.work_cause(book).map(Cause::from);
+        }
+        let at = |place: usize| match book.origins.get(place) {
+            Some(origin) => origin.clone(),
+            None => format!("record {place}"),
+        };
+        network_cause(&book.records, refusal, &at)
+    }
+
+    fn work_cause(&self, book: &Book) -> Option<String> {
+        let needed = work_bytes(&book.records);
+        let bits = self.source.widths()?.bits();
+        Some(format!(
+            "with {bits} bits and its longest policy the network needs {needed} bytes of work, and \
+             there are {}; `wegbaro check` and `wegbaro run` have as many as are needed",
+            self.work?
+        ))
+    }
+
+    /// Where a refused record stands.
+    fn place_words(&self, book: &Book, refusal: Refusal) -> String {
+        let place = refusal.place;
+        if !refusal.has_record() {
+            return String::new();
+        }
+        let Some(record) = book.records.get(place) else {
+            return format!(", at the end of the network, after {place} records");
+        };
+        let earlier = |same: usize| {
+            let before = book.records[..place].iter().rev();
+            before.take_while(|other| other[..same] == record[..same]).count()
+        };
+        let name = match record[0] {
+            2 | 4 => format!("{} {}", kind_words(record[0]), earlier(1)),
+            3 => format!("miss of switch {}", record[1]),
+            5 => format!("policy {}, node {}", record[1], earlier(2)),
+            kind => kind_words(kind),
+        };
+        match self.source.lines.get(place) {
+            Some(line) => format!(", at record {place} ({name}), line {line}"),
+            None => format!(", at record {place} ({name})"),
+        }
+    }
+
+    fn command_words(&self, number: usize, given: &Given) -> String {
+        let command = print_record(self.source.widths(), &given.record);
+        match given.line {
+            Some(line) => format!("command {number} ({command}), line {line}"),
+            None => format!("command {number} ({command})"),
+        }
+    }
+
+    fn command_object(&self, number: usize, given: &Given) -> Object {
+        Object::new()
+            .text("subject", "command")
+            .number("number", number)
+            .maybe(given.line, |object, line| object.number("line", line))
+            .text("command", &print_record(self.source.widths(), &given.record))
+    }
+
+    fn broken_words(&self, left: &Book, policy: usize, state: usize) -> String {
+        let Some(network) = Network::new(&left.records) else { return String::new() };
+        let broken = broken(network, policy, state);
+        let name = |state| self.state_words(network.widths, state);
+        let mut words = format!(
+            "policy {policy}{} is broken by state {state} ({})",
+            self.policy_words(policy),
+            name(state)
+        );
+        let hops = self.hops(left, network, &broken.route);
+        let way = if hops.is_empty() { "" } else { ", by this way:" };
+        match broken.y {
+            Some(y) => words += &format!("\n    with Y = state {y} ({}){way}", name(y)),
+            None if !hops.is_empty() => words += "\n    back to itself by this way:",
+            None => {}
+        }
+        for hop in hops {
+            words += &format!("\n    - {hop}");
+        }
+        words
+    }
+
+    fn broken_object(&self, object: Object, left: &Book, policy: usize, state: usize) -> Object {
+        let object = object.number("policy", policy);
+        let Some(network) = Network::new(&left.records) else { return object };
+        let Broken { y, route } = broken(network, policy, state);
+        let text = self.source.policy(policy);
+        let name = text.and_then(|policy| policy.name.as_deref());
+        let of = network.widths;
+        let route = (!route.is_empty()).then_some(route);
+        object
+            .maybe(name, |object, name| object.text("policy_name", name))
+            .maybe(text, |object, policy| object.number("policy_line", policy.line))
+            .object("state", self.state_object(of, state))
+            .maybe(y, |object, y| object.object("y", self.state_object(of, y)))
+            .maybe(route, |object, route| object.numbers("route", &route))
+    }
+
+    /// The name and the line of a policy.
+    fn policy_words(&self, number: usize) -> String {
+        match self.source.policy(number) {
+            Some(policy) => match &policy.name {
+                Some(name) => format!(" \"{name}\", line {},", policy.line),
+                None => format!(", line {},", policy.line),
+            },
+            None => String::new(),
+        }
+    }
+
+    /// A state by its fields, with their names.
+    fn state_words(&self, of: Widths, number: usize) -> String {
+        let state = State::numbered(number, of);
+        let [switch, port, header] = field_names(&self.source.names, of, state);
+        let direction = direction(state);
+        format!("switch {switch}, port {port}, {direction}, header {header}")
+    }
+
+    fn state_object(&self, of: Widths, number: usize) -> Object {
+        let state = State::numbered(number, of);
+        let [switch, port] = state.point.map(usize::from);
+        Object::new()
+            .number("number", number)
+            .number("switch", switch)
+            .number("port", port)
+            .text("direction", direction(state))
+            .number("header", state.header.into())
+            .text("words", &self.state_words(of, number))
+    }
+
+    /// The way from state to state, a line for each switch.
+    fn hops(&self, left: &Book, network: Network, route: &[usize]) -> Vec<String> {
+        let of = network.widths;
+        let mut hops = vec![];
+        for pair in route.windows(2) {
+            let [from, to] = [pair[0], pair[1]].map(|number| State::numbered(number, of));
+            let Some(place) = network.acting(from) else { continue };
+            let [switch, port, header] = field_names(&self.source.names, of, from);
+            let [_, out, header_out] = field_names(&self.source.names, of, to);
+            let rule = print_record(Some(of), &left.records[place]);
+            let origin = &left.origins[place];
+            let header = match from.header == to.header {
+                true => header,
+                false => format!("{header} set to {header_out}"),
+            };
+            hops.push(format!(
+                "switch {switch}: in at port {port}, out at port {out}, header {header} ({origin}: \
+                 {rule})"
+            ));
+        }
+        if hops.len() > MOST_HOPS {
+            let more = hops.len() - MOST_HOPS;
+            hops.truncate(MOST_HOPS);
+            hops.push(format!("and so on, {more} more"));
+        }
+        hops
+    }
+}
+
+/// Where the rule of a command comes from.
+pub fn origin(number: usize, given: &Given) -> String {
+    match given.line {
+        Some(line) => format!("line {line}"),
+        None => format!("command {number}"),
+    }
+}
+
+fn refused_words(refusal: Refusal, cause: Option<&Cause>) -> String {
+    let words = cause.map_or(refusal.meaning(), |cause| &cause.words);
+    format!("refused: row {}, {words}", refusal.row)
+}
+
+fn refused_object(object: Object, refusal: Refusal, cause: Option<&Cause>) -> Object {
+    let words = cause.map_or(refusal.meaning(), |cause| &cause.words);
+    object
+        .text("answer", "refused")
+        .number("row", refusal.row)
+        .number("place", refusal.place)
+        .text("cause", words)
+}
+
+fn direction(state: State) -> &'static str {
+    match state.departing {
+        true => "departing",
+        false => "arriving",
+    }
+}
+
+/// Switch, port and header of a state, each by its name and number.
+fn field_names(names: &Names, of: Widths, state: State) -> [String; 3] {
+    let [switch, port] = state.point;
+    let header = pattern(state.header, of.headers(), of.h);
+    let header_name = names.header(state.header);
+    let both = |name: String, number: String| match name == number {
+        true => number,
+        false => format!("{name} ({number})"),
+    };
+    [
+        both(names.switch(switch), switch.to_string()),
+        both(names.port(switch, port), port.to_string()),
+        match header_name == state.header.to_string() {
+            true => header,
+            false => format!("{header_name} ({header})"),
+        },
+    ]
+}
+
+/// What is known of how a state breaks a policy.
+fn broken(network: Network, policy: usize, state: usize) -> Broken {
+    let is_node = |record: &&Record| record[0] == 5 && usize::from(record[1]) == policy;
+    let records = network.records.iter().filter(is_node);
+    let nodes: Vec<[u8; 3]> = records.map(|node| [node[2], node[3], node[4]]).collect();
+    let y = Truth::of(network, &nodes).witness(state);
+    let is_loop = |[kind, operand, pair]: &[u8; 3]| {
+        *kind == 8 && *pair == 0 && nodes[usize::from(*operand)][0] == 1
+    };
+    let end = y.or_else(|| nodes.iter().any(is_loop).then_some(state));
+    let route = end.and_then(|end| network.route(state, end)).unwrap_or_default();
+    Broken { y, route }
+}
