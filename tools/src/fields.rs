@@ -63,7 +63,7 @@ fn match_fault(of: Widths, record: &Record) -> Option<String> {
 
 fn pattern_fault(what: &str, [value, care]: [u8; 2], width: u8) -> Option<String> {
     if u32::from(care) >= 1 << width {
-        return Some(format!("{what} has care {care}, and its width is {width} bits"));
+        return Some(format!("{what} has care {care}, which does not fit its width {width}"));
     }
     let stray = value & !care != 0;
     stray.then(|| format!("{what} has value {value}, with a bit that care {care} leaves open"))
