@@ -4,6 +4,7 @@
 pub mod book;
 pub mod call;
 pub mod causes;
+pub mod compile;
 pub mod fault;
 pub mod fields;
 pub mod formula;
@@ -18,11 +19,13 @@ pub mod program;
 pub mod source;
 pub mod standard;
 pub mod steps;
+pub mod templates;
 pub mod tokens;
 pub mod trouble;
 pub mod truth;
 pub mod widths;
 pub mod words;
+pub mod written;
 
 /// Bytes of a record.
 pub const RECORD: usize = 24;

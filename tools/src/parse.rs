@@ -4,15 +4,20 @@
 //! statement that would mean something else than it says. What else is wrong between records, such
 //! as a point linked twice, is left to the gate, which refuses it by a row.
 
+use crate::compile::{compile, Compiled};
 use crate::fault::{nearest, quoted, Fault};
-use crate::formula::{read_formula, read_nodes, Formula, Node};
+use crate::formula::{read_nodes, Formula, Node, MOST_NODES};
 use crate::names::{Area, Named, Names, Point};
-use crate::tokens::{statements, Statement, Token};
+use crate::templates::read_sentence;
+use crate::tokens::{statements, Place, Statement, Token};
 use crate::widths::{read_pattern, Widths};
+use crate::written::read_formula;
 use crate::{record, Record, RECORD};
 
 /// The most actions of a rule.
 const MOST_ACTIONS: usize = 4;
+/// The most policies of a network.
+const MOST_POLICIES: u8 = 8;
 /// The most faults that are told at once.
 pub const MOST_FAULTS: usize = 20;
 
@@ -57,19 +62,39 @@ pub fn parse(text: &str) -> Result<Parsed, Vec<Fault>> {
             faults.push(statement.peek().fault(message));
             break;
         }
+        if !["policy", "name", "ward"].contains(&statement.peek().text) {
+            faults.extend(parsed.end_policies(&mut reader).err());
+        }
         let line = statement.line();
         match reader.statement(&mut statement) {
-            Ok(bytes) => parsed.bytes.extend(bytes),
+            Ok(bytes) => parsed.extend(&bytes, line),
             Err(Unread::Fault(fault)) => faults.push(fault),
             Err(Unread::WithoutWidths) => {}
         }
-        parsed.lines.resize(parsed.bytes.len().div_ceil(RECORD), line);
     }
+    faults.extend(parsed.end_policies(&mut reader).err());
     if !faults.is_empty() {
+        faults.sort_by_key(|fault| (fault.line, fault.column));
+        faults.truncate(MOST_FAULTS);
         return Err(faults);
     }
     let Reader { names, policies, notes, .. } = reader;
     Ok(Parsed { names, policies, notes, ..parsed })
+}
+
+impl Parsed {
+    fn extend(&mut self, bytes: &[u8], line: usize) {
+        self.bytes.extend(bytes);
+        self.lines.resize(self.bytes.len().div_ceil(RECORD), line);
+    }
+
+    /// Puts the parts of policies that are too long for one behind the last policy.
+    fn end_policies(&mut self, reader: &mut Reader) -> Result<(), Fault> {
+        for (bytes, line) in reader.rest_of_policies()? {
+            self.extend(&bytes, line);
+        }
+        Ok(())
+    }
 }
 
 /// The text with every policy as a formula of the raw forms.
@@ -82,7 +107,7 @@ pub fn expand(text: &str) -> Result<String, Vec<Fault>> {
 pub fn parse_command(line: &str, widths: Widths, names: &Names) -> Result<Record, Vec<Fault>> {
     let mut reader = Reader::with(widths, names.clone());
     let mut found = statements(line);
-    let place = crate::tokens::Place { line: 1, column: 1 };
+    let place = Place { line: 1, column: 1 };
     let [statement] = &mut found[..] else {
         return Err(vec![place.fault(1, "expected one command")]);
     };
@@ -137,7 +162,22 @@ pub struct Reader {
     command: Option<usize>,
     /// The number of the policy whose nodes end just here.
     open: Option<u8>,
+    /// The ends of links, and their lines.
+    links: Vec<(Point, usize)>,
+    /// Parts of policies that stand after the last one.
+    parts: Vec<Split>,
     notes: Vec<String>,
+}
+
+/// The parts of a policy behind its first.
+#[derive(Clone, Debug)]
+struct Split {
+    policy: u8,
+    parts: Vec<Vec<Node>>,
+    /// The nodes that the policy has in one.
+    nodes: usize,
+    place: Place,
+    source: String,
 }
 
 impl Reader {
@@ -210,6 +250,9 @@ impl Reader {
     fn note_record(&mut self, bytes: &[u8], line: usize) {
         match bytes {
             [] => return,
+            [2, one, two, three, four, ..] => {
+                self.links.extend([([*one, *two], line), ([*three, *four], line)]);
+            }
             [6..=8, ..] => self.command = self.command.or(Some(line)),
             [5, number, ..] if self.numbers.last().map(|(last, _)| last) != Some(number) => {
                 self.numbers.push((*number, line));
@@ -320,7 +363,7 @@ impl Reader {
     }
 
     /// Parts of the network: switches, points and wards.
-    fn areas(&self, of: Widths, statement: &mut Statement) -> Result<Vec<Area>, Fault> {
+    pub(crate) fn areas(&self, of: Widths, statement: &mut Statement) -> Result<Vec<Area>, Fault> {
         let mut areas = vec![];
         loop {
             areas.extend(self.area(of, statement)?);
@@ -330,18 +373,25 @@ impl Reader {
         }
     }
 
+    /// `switch` and a switch, `ward` and a ward, a point, or the name of any of them.
     fn area(&self, of: Widths, statement: &mut Statement) -> Result<Vec<Area>, Fault> {
         if statement.accept("switch") {
             return Ok(vec![Area::Switch(self.switch(of, statement)?)]);
         }
-        if statement.accept("ward") {
-            let Some(Named::Ward(areas)) = self.names.named(statement.peek().text) else {
-                return Err(self.unknown(statement, "the name of a ward"));
-            };
-            statement.take();
-            return Ok(areas.clone());
+        let by_word = statement.accept("ward");
+        let [name, behind] = [0, 1].map(|by| statement.ahead(by).text);
+        match self.names.named(name) {
+            Some(Named::Ward(areas)) => {
+                statement.take();
+                Ok(areas.clone())
+            }
+            _ if by_word => Err(self.with_nearest(statement, statement.expected("a ward's name"))),
+            Some(Named::Switch(switch)) if behind != ":" => {
+                statement.take();
+                Ok(vec![Area::Switch(*switch)])
+            }
+            _ => Ok(vec![Area::Point(self.point(of, statement)?)]),
         }
-        Ok(vec![Area::Point(self.point(of, statement)?)])
     }
 
     fn link(&self, of: Widths, statement: &mut Statement) -> Result<Vec<u8>, Fault> {
@@ -390,13 +440,91 @@ impl Reader {
         let source = statement.rest();
         let nodes = match as_nodes {
             true => read_nodes(statement, of.bits())?,
-            false => read_formula(statement, of.bits())?,
+            false => self.formula(of, policy, statement)?,
         };
         statement.finish()?;
         if let Some(formula) = Formula::of(&nodes) {
             self.policies.push(PolicyText { number: policy, name, line, source, formula });
         }
         Ok(policy_bytes(policy, &nodes))
+    }
+
+    /// The nodes of a sentence or a formula; parts that have no room in one policy are kept.
+    fn formula(
+        &mut self,
+        of: Widths,
+        policy: u8,
+        statement: &mut Statement,
+    ) -> Result<Vec<Node>, Fault> {
+        let start = statement.peek();
+        let source = statement.rest();
+        let written = match read_sentence(self, statement, of)? {
+            Some(written) => written,
+            None => read_formula(self, statement, of)?,
+        };
+        statement.finish()?;
+        if written.free()[1] {
+            return Err(start.fault("Y is free in this policy; only X may be"));
+        }
+        match compile(&written, of) {
+            Compiled::One(nodes, constant) => {
+                if let Some(truth) = constant {
+                    let what = if truth { "is broken by every state" } else { "forbids nothing" };
+                    let line = start.place.line;
+                    self.note(format!("line {line}: policy {policy} {what}, in any network"));
+                }
+                Ok(nodes)
+            }
+            Compiled::Split(mut parts, nodes) => {
+                let first = parts.remove(0);
+                self.parts.push(Split { policy, parts, nodes, place: start.place, source });
+                Ok(first)
+            }
+            Compiled::TooLong(nodes) => {
+                let message = format!("the policy has {nodes} nodes; the most is {MOST_NODES}");
+                let hint = "say it with fewer parts, or as several policies";
+                Err(start.fault(message).hint(hint))
+            }
+        }
+    }
+
+    /// The parts of policies behind the last policy, each with its line, if there is room.
+    fn rest_of_policies(&mut self) -> Result<Vec<(Vec<u8>, usize)>, Fault> {
+        let mut records = vec![];
+        for split in std::mem::take(&mut self.parts) {
+            let Split { policy, parts, nodes, place, source } = split;
+            let line = place.line;
+            let count = parts.len() + 1;
+            let name = self.names.policy(policy).map(String::from);
+            let mut numbers = vec![];
+            for part in parts {
+                let number = self.numbers.last().map_or(0, |(last, _)| last + 1);
+                if number >= MOST_POLICIES {
+                    let message = format!(
+                        "the policy has {nodes} nodes, where {MOST_NODES} are the most; as {count} \
+                         policies there would be more than {MOST_POLICIES}"
+                    );
+                    return Err(place.fault(1, message));
+                }
+                self.numbers.push((number, line));
+                numbers.push(number.to_string());
+                if let Some(name) = &name {
+                    self.names.give_policy(number, name);
+                }
+                if let Some(formula) = Formula::of(&part) {
+                    let (name, source) = (name.clone(), source.clone());
+                    self.policies.push(PolicyText { number, name, line, source, formula });
+                }
+                self.open = Some(number);
+                records.push((policy_bytes(number, &part), line));
+            }
+            self.note(format!(
+                "line {line}: policy {policy} has {nodes} nodes, where {MOST_NODES} are the most; \
+                 parts of it are policy {}",
+                numbers.join(" and ")
+            ));
+        }
+        Ok(records)
     }
 
     /// Each policy stands once, one after the other: nodes of one number are one policy.
@@ -512,8 +640,25 @@ impl Reader {
         fault.hint(format!("`{name}` is port {port} of switch {}", self.names.switch(other)))
     }
 
+    /// Value and care of a switch: a number, a name, or a pattern with a star.
+    pub(crate) fn switch_pattern(
+        &mut self,
+        of: Widths,
+        statement: &mut Statement,
+    ) -> Result<[u8; 2], Fault> {
+        match statement.peek().text.contains('*') {
+            true => self.pattern(statement, "switch", of.w),
+            false => Ok([self.switch(of, statement)?, of.switches()]),
+        }
+    }
+
+    /// The line of the link that ends at a point.
+    pub(crate) fn link_line(&self, point: Point) -> Option<usize> {
+        self.links.iter().find(|(end, _)| *end == point).map(|(_, line)| *line)
+    }
+
     /// Value and care of a port pattern.
-    fn port_pattern(
+    pub(crate) fn port_pattern(
         &mut self,
         of: Widths,
         switch: Option<u8>,
@@ -526,7 +671,11 @@ impl Reader {
     }
 
     /// Value and care of a header pattern.
-    fn header_pattern(&mut self, of: Widths, statement: &mut Statement) -> Result<[u8; 2], Fault> {
+    pub(crate) fn header_pattern(
+        &mut self,
+        of: Widths,
+        statement: &mut Statement,
+    ) -> Result<[u8; 2], Fault> {
         if let Some(Named::Header(pattern)) = self.names.named(statement.peek().text) {
             statement.take();
             return Ok(*pattern);
@@ -627,11 +776,7 @@ impl Reader {
         }
     }
 
-    /// The fault at a word where something else was expected, with the name that is nearest.
-    fn unknown(&self, statement: &Statement, what: &str) -> Fault {
-        self.with_nearest(statement, statement.expected(what))
-    }
-
+    /// The fault at a word, with the name that is nearest.
     fn with_nearest(&self, statement: &Statement, fault: Fault) -> Fault {
         match nearest(statement.peek().text, self.names.all()) {
             Some(name) => fault.hint(format!("did you mean `{name}`?")),

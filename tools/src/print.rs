@@ -5,7 +5,7 @@ use crate::formula::{print_formula, print_nodes, Node};
 use crate::names::Names;
 use crate::parse::Reader;
 use crate::tokens::statements;
-use crate::widths::{pattern, port_pattern, Widths};
+use crate::widths::{pattern_word, Widths};
 use crate::{Record, RECORD};
 
 /// The most characters of a printed line.
@@ -98,8 +98,8 @@ fn plain(widths: Option<Widths>, record: &Record) -> Option<String> {
         _ => return None,
     };
     let priority = u16::from_le_bytes([two, three]);
-    let port = port_pattern(four, record[5], of.p);
-    let header = pattern(record[6], record[7], of.h);
+    let port = pattern_word(four, record[5], of.p);
+    let header = pattern_word(record[6], record[7], of.h);
     let rule = format!("{keyword} {one} priority {priority} port {port} header {header}");
     match kind {
         8 => Some(rule),
@@ -110,8 +110,8 @@ fn plain(widths: Option<Widths>, record: &Record) -> Option<String> {
 fn print_actions(of: Widths, record: &Record) -> Option<String> {
     let used = record[9..21].chunks(3).take(record[8].into());
     let action = |action: &[u8]| match action[0] {
-        1 => Some(format!("output {}", port_pattern(action[1], action[2], of.p))),
-        2 => Some(format!("set {}", pattern(action[1], action[2], of.h))),
+        1 => Some(format!("output {}", pattern_word(action[1], action[2], of.p))),
+        2 => Some(format!("set {}", pattern_word(action[1], action[2], of.h))),
         _ => None,
     };
     let actions: Option<Vec<String>> = used.map(action).collect();

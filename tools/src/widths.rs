@@ -74,8 +74,8 @@ pub fn pattern(value: u8, care: u8, width: u8) -> String {
     (0..width).rev().map(character).collect()
 }
 
-/// A port pattern: a number if it has no star.
-pub fn port_pattern(value: u8, care: u8, width: u8) -> String {
+/// A pattern: a number if it has no star.
+pub fn pattern_word(value: u8, care: u8, width: u8) -> String {
     match care == (1 << width) - 1 {
         true => value.to_string(),
         false => pattern(value, care, width),
