@@ -8,7 +8,7 @@ use crate::print::print_record;
 use crate::source::{Given, Source};
 use crate::steps::{Network, State};
 use crate::truth::Truth;
-use crate::widths::{pattern, Widths};
+use crate::widths::Widths;
 use crate::Record;
 use wegbaro::{work_bytes, Checked, Commanded, Refusal};
 
@@ -280,7 +280,7 @@ impl Teller<'_> {
     /// A state by its fields, with their names.
     fn state_words(&self, of: Widths, number: usize) -> String {
         let state = State::numbered(number, of);
-        let [switch, port, header] = field_names(&self.source.names, of, state);
+        let [switch, port, header] = field_names(&self.source.names, state);
         let direction = direction(state);
         format!("switch {switch}, port {port}, {direction}, header {header}")
     }
@@ -304,8 +304,8 @@ impl Teller<'_> {
         for pair in route.windows(2) {
             let [from, to] = [pair[0], pair[1]].map(|number| State::numbered(number, of));
             let Some(place) = network.acting(from) else { continue };
-            let [switch, port, header] = field_names(&self.source.names, of, from);
-            let [_, out, header_out] = field_names(&self.source.names, of, to);
+            let [switch, port, header] = field_names(&self.source.names, from);
+            let [_, out, header_out] = field_names(&self.source.names, to);
             let rule = print_record(Some(of), &left.records[place]);
             let origin = &left.origins[place];
             let header = match from.header == to.header {
@@ -356,21 +356,16 @@ fn direction(state: State) -> &'static str {
 }
 
 /// Switch, port and header of a state, each by its name and number.
-fn field_names(names: &Names, of: Widths, state: State) -> [String; 3] {
+fn field_names(names: &Names, state: State) -> [String; 3] {
     let [switch, port] = state.point;
-    let header = pattern(state.header, of.headers(), of.h);
-    let header_name = names.header(state.header);
-    let both = |name: String, number: String| match name == number {
-        true => number,
+    let both = |name: String, number: u8| match name == number.to_string() {
+        true => name,
         false => format!("{name} ({number})"),
     };
     [
-        both(names.switch(switch), switch.to_string()),
-        both(names.port(switch, port), port.to_string()),
-        match header_name == state.header.to_string() {
-            true => header,
-            false => format!("{header_name} ({header})"),
-        },
+        both(names.switch(switch), switch),
+        both(names.port(switch, port), port),
+        both(names.header(state.header), state.header),
     ]
 }
 
