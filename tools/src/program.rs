@@ -49,9 +49,8 @@ fn done(call: Call) -> Result<Status, Trouble> {
         Task::Version => written(concat!("wegbaro ", env!("CARGO_PKG_VERSION"), "\n")),
         Task::Check(file) => {
             let source = noted(Source::of(&file)?);
-            let count = source.commands.len();
-            if count > 0 {
-                say(&format!("note: {count} commands are not judged, `wegbaro run` does so\n"));
+            if !source.commands.is_empty() {
+                say("note: the file's commands are not judged; `wegbaro run` judges them too\n");
             }
             judging::check(&source, form)
         }

@@ -74,7 +74,10 @@ fn check_judges_the_network_alone() {
     expect(&["check", "-"], &k().concat(), 0, holds);
     let ran = wegbaro(&["check", "-"], &k_and_adds());
     assert_eq!((ran.status, ran.text()), (Some(0), holds));
-    assert_eq!(ran.said, "note: 2 commands are not judged, `wegbaro run` does so\n");
+    assert_eq!(
+        ran.said,
+        "note: the file's commands are not judged; `wegbaro run` judges them too\n"
+    );
     let mut broken = k_with_d();
     broken.remove(7);
     let words = "start: violated: policy 0 is broken by state 3 (switch 0, port 1, arriving, header 1)

@@ -200,3 +200,16 @@ fn names_of_the_text() {
                  header pump (1))";
     assert_eq!(line, words, "{}", ran.said);
 }
+
+/// The session shown in README.md, on K.
+#[test]
+fn the_session_of_the_readme() {
+    let readme = include_str!("../README.md");
+    let block = &readme[readme.find("    wegbaro session ward.txt\n").unwrap()..];
+    let lines: Vec<&str> = block.lines().map_while(|line| line.strip_prefix("    ")).collect();
+    let [_, start, command, answer] = lines[..] else { panic!("{lines:?}") };
+    let mut session = Session::new(&[&k_file("readme")]);
+    assert_eq!(session.line(), start);
+    assert_eq!(session.ask(format!("{command}\n").as_bytes()), answer);
+    assert_eq!(session.end(), (Some(0), String::new()));
+}
