@@ -14,7 +14,7 @@ wegbaro: judges a ward's network and the commands to its switches
   wegbaro session FILE      judges the network, then each command as it comes in on standard input
   wegbaro records FILE      a text as records
   wegbaro text FILE         records as a text
-  wegbaro expand FILE       a text with every policy as a formula of the raw forms
+  wegbaro expand FILE       a text with every policy as a formula of the raw forms (or --expand)
   wegbaro explain FILE      the answers of the program gate, on standard input, in words
   wegbaro picture FILE      the switches and links for Graphviz
   wegbaro generate KIND     the text of a network; KIND is plod, tree or ring
@@ -127,6 +127,10 @@ fn sort(arguments: impl IntoIterator<Item = OsString>) -> Result<Words, Trouble>
         }
         if !text.starts_with('-') || text == "-" {
             words.plain.push(argument);
+            continue;
+        }
+        if text == "--expand" {
+            words.plain.insert(0, "expand".into());
             continue;
         }
         let (name, value) = match text.split_once('=') {

@@ -1,6 +1,6 @@
 //! A network and commands from a file, be it a text or records.
 
-use crate::fault::{quoted, Fault};
+use crate::fault::{whole, Fault};
 use crate::json::Object;
 use crate::names::Names;
 use crate::parse::{parse, Parsed, PolicyText};
@@ -32,9 +32,13 @@ impl Content {
         if bytes.first().is_some_and(|kind| *kind <= 8) {
             return Content::Records(bytes);
         }
+        if bytes.starts_with(b"\xFF\xFE") || bytes.starts_with(b"\xFE\xFF") {
+            return Content::Other(bytes, "is UTF-16, not UTF-8");
+        }
         match String::from_utf8(bytes) {
             Ok(text) if text.contains('\0') => Content::Other(text.into_bytes(), "has a zero byte"),
-            Ok(text) => Content::Text(text),
+            // Some editors put a mark before a text, which says that it is UTF-8.
+            Ok(text) => Content::Text(text.trim_start_matches('\u{feff}').to_string()),
             Err(error) => Content::Other(error.into_bytes(), "is not UTF-8"),
         }
     }
@@ -49,7 +53,7 @@ pub fn is_input(file: &OsStr) -> bool {
 pub fn name(file: &OsStr) -> String {
     match is_input(file) {
         true => "standard input".to_string(),
-        false => quoted(&file.to_string_lossy()),
+        false => whole(&file.to_string_lossy()),
     }
 }
 

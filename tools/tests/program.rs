@@ -219,8 +219,13 @@ fn files_of_the_wrong_kind() {
     complains(&["text", "-"], &text, 2, "standard input is a text, and records are expected");
     let neither = "standard input is neither a text nor records: it is not UTF-8";
     for task in ["check", "run", "picture"] {
-        complains(&[task, "-"], b"\xFF\xFEw\0i\0", 2, neither);
+        complains(&[task, "-"], b"\x89PNG\r\n", 2, neither);
     }
+    complains(&["check", "-"], b"\xFF\xFEw\0i\0", 2, "it is UTF-16, not UTF-8");
+    let marked = [b"\xEF\xBB\xBF", &text[..]].concat();
+    expect(&["run", "--gate", "-"], &marked, 1, K_LINES);
+    let name = file("line\nbreak", b"widths\x1b");
+    complains(&["check", &name], b"", 2, "line\\x0abreak");
     complains(&["check", "-"], b"w\0i\0d\0", 2, "nor records: it has a zero byte");
     complains(&["records", "-"], b"\xFF", 2, "standard input is no text: it is not UTF-8");
     let file = file("neither", b"\x89PNG\r\n");

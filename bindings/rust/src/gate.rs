@@ -2,12 +2,13 @@
 
 use crate::{check, command, work_bytes, Checked, Commanded, Record, Refusal};
 use crate::{RECORD_BYTES, STORE_BYTES};
+use std::fmt;
 
 /// A network, and the buffers in which commands to it are judged.
 ///
 /// Once [`Gate::check`] says that the network holds, it holds for good: a command that would break
 /// a policy is blocked and changes nothing. That is proved for every series of commands.
-#[derive(Clone, Debug)]
+#[derive(Clone)]
 pub struct Gate {
     store: Vec<u8>,
     count: usize,
@@ -60,5 +61,12 @@ impl Gate {
     /// How many records the network has.
     pub fn count(&self) -> usize {
         self.count
+    }
+}
+
+impl fmt::Debug for Gate {
+    fn fmt(&self, f: &mut fmt::Formatter<'_>) -> fmt::Result {
+        let mut gate = f.debug_struct("Gate");
+        gate.field("count", &self.count).field("verdict", &self.verdict).finish_non_exhaustive()
     }
 }

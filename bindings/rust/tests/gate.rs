@@ -25,6 +25,7 @@ fn commands_change_the_network_or_leave_it() {
     assert_eq!(gate.count(), 21);
     assert_eq!(gate.records()[6], with(second_add(), 0, 4));
     assert_eq!(gate.records()[7..], k()[6..]);
+    assert_eq!(format!("{gate:?}"), "Gate { count: 21, verdict: Holds, .. }");
 }
 
 /// A network that does not hold can be mended by a command, and then holds.
