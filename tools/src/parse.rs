@@ -160,7 +160,7 @@ pub struct Reader {
     numbers: Vec<(u8, usize)>,
     /// The line of the first command.
     command: Option<usize>,
-    /// The number of the policy whose nodes end just here.
+    /// The number of the policy statement that ends just here.
     open: Option<u8>,
     /// The ends of links, and their lines.
     links: Vec<(Point, usize)>,
@@ -210,6 +210,9 @@ impl Reader {
         };
         statement.finish()?;
         self.note_record(&bytes, keyword.place.line);
+        if !bytes.is_empty() {
+            self.open = bytes.get(1).filter(|_| keyword.text == "policy").copied();
+        }
         Ok(bytes)
     }
 
@@ -247,9 +250,8 @@ impl Reader {
     }
 
     /// Keeps what later statements are held against.
-    fn note_record(&mut self, bytes: &[u8], line: usize) {
+    pub(crate) fn note_record(&mut self, bytes: &[u8], line: usize) {
         match bytes {
-            [] => return,
             [2, one, two, three, four, ..] => {
                 self.links.extend([([*one, *two], line), ([*three, *four], line)]);
             }
@@ -259,7 +261,6 @@ impl Reader {
             }
             _ => {}
         }
-        self.open = (bytes[0] == 5).then(|| bytes[1]);
     }
 
     fn read_widths(&mut self, keyword: Token, statement: &mut Statement) -> Result<Vec<u8>, Fault> {
@@ -498,7 +499,7 @@ impl Reader {
             let name = self.names.policy(policy).map(String::from);
             let mut numbers = vec![];
             for part in parts {
-                let number = self.numbers.last().map_or(0, |(last, _)| last + 1);
+                let number = self.numbers.last().map_or(0, |(last, _)| last.saturating_add(1));
                 if number >= MOST_POLICIES {
                     let message = format!(
                         "the policy has {nodes} nodes, where {MOST_NODES} are the most; as {count} \
@@ -763,7 +764,7 @@ impl Reader {
             }
             statement.take();
         }
-        let goes_on = bytes[0] == 5 && self.open.is_some() && self.open == bytes.get(1).copied();
+        let goes_on = bytes.len() == RECORD && bytes[0] == 5 && self.open == Some(bytes[1]);
         match self.policies.last() {
             Some(policy) if goes_on && Some(policy.number) == self.open => {
                 let message = format!(

@@ -60,7 +60,10 @@ fn first_statement(reader: &mut Reader, records: &[Record]) -> (usize, String) {
     }
     match plain(reader.widths, first) {
         Some(text) if gives(reader, &text, first) => (1, format!("{text}\n")),
-        _ => (1, print_bytes(first)),
+        _ => {
+            reader.note_record(first, 0);
+            (1, print_bytes(first))
+        }
     }
 }
 
