@@ -32,6 +32,9 @@ FILE is a text or has records, and `-` is standard input.
 
 Exit status: 0 the network holds and every command is forwarded; 1 violated, blocked or refused by
 a row; 2 the text or the call is faulty; 3 reading or writing failed.
+
+tools/README.md describes the text and the answers; docs/FORMAT.md the records, what a step and a
+policy are, and the rows by which a network or a command is refused.
 ";
 
 const TASKS: [&str; 9] =

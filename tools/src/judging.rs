@@ -42,6 +42,7 @@ pub fn check(source: &Source, form: Form) -> Result<Status, Trouble> {
 pub fn run(source: &Source, form: Form) -> Result<Status, Trouble> {
     let mut judging = Judging::new(source, form, None);
     judging.all(&mut tell)?;
+    judging.note_unjudged();
     Ok(judging.status)
 }
 
@@ -80,6 +81,7 @@ pub fn session(source: &Source, form: Form, records: bool) -> Result<Status, Tro
     let mut judging = Judging::new(source, form, None);
     judging.all(&mut tell)?;
     if judging.gate.is_none() {
+        judging.note_unjudged();
         return Ok(judging.status);
     }
     let mut input = standard::input()?;
@@ -143,6 +145,13 @@ impl<'a> Judging<'a> {
         match source.rest.is_empty() {
             true => Ok(()),
             false => self.answer(&Answer::Short, told),
+        }
+    }
+
+    /// Says that commands are left alone, where the network does not hold.
+    fn note_unjudged(&self) {
+        if self.gate.is_none() && !self.teller.source.commands.is_empty() {
+            standard::say("note: the commands are not judged, as the network does not hold\n");
         }
     }
 

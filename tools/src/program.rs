@@ -29,16 +29,16 @@ pub fn run(arguments: impl IntoIterator<Item = OsString>) -> Status {
 /// Says what is wrong on standard error, and as objects also where objects are asked for.
 fn in_trouble(form: Form, trouble: Trouble) -> Status {
     say(&trouble.words);
-    if form != Form::Json || trouble.status == Status::Failed {
+    if form != Form::Json {
         return trouble.status;
     }
     let objects: String = trouble.objects.iter().map(|object| format!("{object}\n")).collect();
     match standard::write(objects.as_bytes()) {
-        Ok(()) => trouble.status,
-        Err(failed) => {
+        Err(failed) if trouble.status < failed.status => {
             say(&failed.words);
             failed.status
         }
+        _ => trouble.status,
     }
 }
 

@@ -140,10 +140,11 @@ fn answers_as_json() {
     let twice = b"widths H 1 P 2 W 0\nmiss 0: output drop\nrule 0 priority 1: output 1\nrule 0 priority 1: output 2\n";
     let refused = r#"{"subject":"start","answer":"refused","row":8,"place":3,"cause":"a rule with this switch, priority, port and header is there already, line 3","line":4,"other":2,"other_line":3}"#;
     expect(&["check", "--json", "-"], twice, 1, &format!("{refused}\n"));
-    let broken = b"widths H 1 P 2 W 0\nmiss 0: output drop\npolicy 0 \"no \\\"E\": E(X)\n";
+    let broken = b"widths H 1 P 2 W 0\nmiss 0: output drop\npolicy 0 \"nothing \\ here\": E(X)\n";
     let ran = wegbaro(&["check", "--json", "-"], broken);
-    assert!(matches!(ran.status, Some(1 | 2)), "{ran:?}");
-    assert!(ran.text().starts_with('{') && ran.text().ends_with("}\n"), "{ran:?}");
+    let named =
+        r#""answer":"violated","policy":0,"policy_name":"nothing \\ here","policy_line":3,"#;
+    assert!(ran.status == Some(1) && ran.text().contains(named), "{ran:?}");
 
     // What is wrong with a text is told as objects too, and in words on standard error.
     let ran = wegbaro(&["check", "--json", "-"], b"widths H 1 P 2 W 1\nlink 0-1\nlink 0-1\n");
@@ -154,6 +155,23 @@ fn answers_as_json() {
     assert!(ran.said.contains("standard input:2:7: "), "{}", ran.said);
     let ran = wegbaro(&["check", "--json", "-"], b"\xFF\xFE");
     assert!(ran.text().starts_with(r#"{"answer":"faulty","message":"standard input is neither"#));
+    let ran = wegbaro(&["check", "--json", "no file"], b"");
+    assert_eq!(ran.status, Some(3));
+    assert!(ran.text().starts_with(r#"{"answer":"failed","message":"no file: No such file"#));
+}
+
+/// Commands are left alone where the network does not hold, and that is said.
+#[test]
+fn commands_that_are_not_judged() {
+    let mut broken = k_with_d();
+    broken[7] = with(broken[7], 10, 2);
+    let input = [broken, vec![second_add()]].concat().concat();
+    let ran = wegbaro(&["run", "--gate", "-"], &input);
+    assert_eq!((ran.status, ran.text()), (Some(1), "start violated 0 3\n"));
+    assert_eq!(ran.said, "note: the commands are not judged, as the network does not hold\n");
+    let ran = wegbaro(&["session", "--gate", &file("unjudged", &input)], b"");
+    assert_eq!((ran.status, ran.text()), (Some(1), "start violated 0 3\n"));
+    assert!(ran.said.starts_with("note: the commands are not judged"));
 }
 
 /// On whatever input, the lines are those of the program `gate`.
