@@ -97,9 +97,10 @@ impl Teller<'_> {
 
     fn words(&self, book: &Book, answer: &Answer) -> String {
         match answer {
-            Answer::Start(Ok(Checked::Holds)) => {
-                "start: the network holds, no policy is broken".to_string()
-            }
+            Answer::Start(Ok(Checked::Holds)) => match policies(&book.records) {
+                0 => "start: the network holds, as it has no policies".to_string(),
+                _ => "start: the network holds, no policy is broken".to_string(),
+            },
             Answer::Start(Ok(Checked::Violated { policy, state })) => {
                 format!("start: violated: {}", self.broken_words(book, *policy, *state))
             }
@@ -132,7 +133,8 @@ impl Teller<'_> {
         match answer {
             Answer::Start(Ok(Checked::Holds)) => {
                 let object = Object::new().text("subject", "start").text("answer", "holds");
-                object.number("records", book.records.len())
+                let records = &book.records;
+                object.number("records", records.len()).number("policies", policies(records))
             }
             Answer::Start(Ok(Checked::Violated { policy, state })) => {
                 let object = Object::new().text("subject", "start").text("answer", "violated");
@@ -324,6 +326,12 @@ impl Teller<'_> {
         }
         hops
     }
+}
+
+/// How many policies there are; they are numbered from 0 without gaps.
+fn policies(records: &[Record]) -> usize {
+    let last = records.last().filter(|record| record[0] == 5);
+    last.map_or(0, |record| usize::from(record[1]) + 1)
 }
 
 /// Where the rule of a command comes from.

@@ -87,6 +87,8 @@ fn check_judges_the_network_alone() {
     expect(&["check", "-"], &broken.concat(), 1, words);
     expect(&["check", "--gate", "-"], &broken.concat(), 1, "start violated 0 3\n");
     expect(&["check", "-"], b"", 1, "start: refused: row 1, there are no records\n");
+    let none = "start: the network holds, as it has no policies\n";
+    expect(&["check", "-"], &k()[..6].concat(), 0, none);
     let cut = &k().concat()[..470];
     expect(&["check", "-"], cut, 2, "end: the input ends within a record\n");
 }
@@ -125,7 +127,7 @@ fn answers_as_json() {
     let state = r#"{"number":3,"switch":0,"port":1,"direction":"arriving","header":1,"words":"switch 0, port 1, arriving, header 1"}"#;
     let y = r#"{"number":29,"switch":1,"port":2,"direction":"departing","header":1,"words":"switch 1, port 2, departing, header 1"}"#;
     let lines = [
-        r#"{"subject":"start","answer":"holds","records":20}"#.to_string(),
+        r#"{"subject":"start","answer":"holds","records":20,"policies":1}"#.to_string(),
         format!(
             r#"{{"subject":"command","number":1,"command":"add 0 priority 5 port ** header *: output 2","answer":"blocked","policy":0,"state":{state},"y":{y},"route":[3,21,11,29]}}"#
         ),
@@ -198,6 +200,45 @@ fn the_lines_of_the_gate() {
         assert_eq!(explained.status, Some(status), "{}", explained.said);
         assert_eq!(explained.text(), wegbaro(&["run", "-"], &input).text());
     }
+}
+
+/// A text or records with a few bytes changed, put in or taken out.
+fn spoiled(random: &mut Random, bytes: &[u8]) -> Vec<u8> {
+    let mut spoiled = bytes.to_vec();
+    for _ in 0..random.up_to(4) {
+        let place = random.below(spoiled.len());
+        match random.below(3) {
+            0 => spoiled[place] = random.pick(b"X*01:-()!&|.\"\n #\x00\x01\x05\xFF"),
+            1 => spoiled.insert(place, random.pick(b"XY019:*(){\n\t\"\x03\x1b\xC3")),
+            _ => drop(spoiled.remove(place)),
+        }
+    }
+    spoiled
+}
+
+/// Whatever the input is, every call ends with one of the four statuses.
+#[test]
+fn spoiled_inputs() {
+    let mut random = Random::new(12);
+    let text = std::fs::read(K).unwrap();
+    let tasks = ["check", "run", "records", "text", "expand", "picture"];
+    let mut seen = [0; 3];
+    for round in 0..400 {
+        let bytes = if round % 2 == 0 { &text } else { &k_and_adds() };
+        let input = spoiled(&mut random, bytes);
+        let task = random.pick(&tasks);
+        let ran = match random.below(4) {
+            0 => wegbaro(&["explain", &file("spoiled", &input)], K_LINES.as_bytes()),
+            1 => wegbaro(&["session", &file("spoiled", &input)], &input),
+            _ => wegbaro(&[task, "-"], &input),
+        };
+        let status = ran.status.filter(|status| (0..=2).contains(status));
+        let Some(status) = status else { panic!("{task} {input:?}: {ran:?}") };
+        seen[status as usize] += 1;
+        let raw = |c: char| c.is_control() && c != '\n';
+        assert!(!ran.said.contains(raw), "{task}: {:?}", ran.said);
+    }
+    assert!(seen.iter().all(|count| *count > 20), "{seen:?}");
 }
 
 /// The gate has too little work for a ward of 10 bits; here it is judged.
