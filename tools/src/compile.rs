@@ -250,6 +250,7 @@ impl Parts {
         let idle = self.not(deciding);
         set.remove(&idle);
         let set = self.absorbed(sign, set);
+        let set = self.quantified_once(sign, set);
         let complement = set.iter().any(|id| match self.parts[*id] {
             Part::Not(inside) => set.contains(&inside),
             _ => false,
@@ -298,6 +299,30 @@ impl Parts {
             }
         }
         kept
+    }
+
+    /// A set in which a variable is bound once: `exists` among `|`, `forall` among `&`.
+    fn quantified_once(&mut self, sign: Sign, mut set: BTreeSet<Id>) -> BTreeSet<Id> {
+        for variable in Variable::BOTH {
+            let inside = |id: &Id| match (sign, &self.parts[*id]) {
+                (Sign::Or, Part::Some(inside, bound)) if *bound == variable => Some(*inside),
+                (Sign::And, Part::All(inside, bound)) if *bound == variable => Some(*inside),
+                _ => None,
+            };
+            let (bound, insides): (Vec<Id>, Vec<Id>) =
+                set.iter().filter_map(|id| Some((*id, inside(id)?))).unzip();
+            if bound.len() < 2 {
+                continue;
+            }
+            let together = self.chain(sign, insides);
+            let quantified = match sign {
+                Sign::Or => self.some(together, variable),
+                Sign::And => self.all(together, variable),
+            };
+            set.retain(|id| !bound.contains(id));
+            set.extend(self.elements(quantified, sign));
+        }
+        set
     }
 
     fn some(&mut self, id: Id, bound: Variable) -> Id {

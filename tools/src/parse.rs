@@ -8,6 +8,7 @@ use crate::compile::{compile, Compiled};
 use crate::fault::{nearest, quoted, Fault};
 use crate::formula::{read_nodes, Formula, Node, MOST_NODES};
 use crate::names::{Area, Named, Names, Point};
+use crate::print::{print_policy, whole_records};
 use crate::templates::read_sentence;
 use crate::tokens::{statements, Place, Statement, Token};
 use crate::widths::{read_pattern, Widths};
@@ -18,6 +19,8 @@ use crate::{record, Record, RECORD};
 const MOST_ACTIONS: usize = 4;
 /// The most policies of a network.
 const MOST_POLICIES: u8 = 8;
+/// The most characters of a policy's name.
+const MOST_NAME: usize = 60;
 /// The most faults that are told at once.
 pub const MOST_FAULTS: usize = 20;
 
@@ -97,10 +100,47 @@ impl Parsed {
     }
 }
 
-/// The text with every policy as a formula of the raw forms.
+/// The text with every policy of fields or a sentence as a comment, and below it the formula of raw
+/// forms that it becomes. It gives the same records.
 pub fn expand(text: &str) -> Result<String, Vec<Fault>> {
-    parse(text)?;
-    Ok(text.to_string())
+    let parsed = parse(text)?;
+    let (records, _) = whole_records(&parsed.bytes);
+    let Some(widths) = parsed.names.widths else { return Ok(text.to_string()) };
+    let mut reader = Reader::with(widths, Names::default());
+    let mut raw = |number: u8, name: Option<&str>| {
+        let is_its = |record: &&Record| record[0] == 5 && record[1] == number;
+        let nodes: Vec<Record> = records.iter().filter(is_its).copied().collect();
+        let name = name.map_or_else(String::new, |name| format!(" \"{name}\""));
+        print_policy(&mut reader, &format!("policy {number}{name}"), &nodes).unwrap_or_default()
+    };
+    let found = statements(text);
+    let is_policy = |statement: &&Statement| statement.peek().text == "policy";
+    let policies: Vec<&Statement> = found.iter().filter(is_policy).collect();
+    let mut lines: Vec<String> = text.lines().map(String::from).collect();
+    for (number, policy) in policies.iter().enumerate() {
+        let [first, last] = [policy.line() - 1, policy.last_line() - 1];
+        let number = number as u8;
+        let below = raw(number, parsed.names.policy(number));
+        if is_as_written(&lines[first..=last], &below) {
+            continue;
+        }
+        lines[first..=last].iter_mut().for_each(|line| *line = format!("# {line}"));
+        lines[last] += &format!("\n{}", below.trim_end());
+    }
+    let own = policies.len() as u8;
+    for part in parsed.policies.iter().filter(|policy| policy.number >= own) {
+        let below = raw(part.number, None);
+        let last = policies[policies.len() - 1].last_line() - 1;
+        lines[last] +=
+            &format!("\n# More of the policy in line {}\n{}", part.line, below.trim_end());
+    }
+    Ok(lines.join("\n") + "\n")
+}
+
+/// Whether lines of a text say the same as others but for spaces.
+fn is_as_written(lines: &[String], below: &str) -> bool {
+    let words = |text: &str| text.split_whitespace().collect::<String>();
+    words(&lines.concat()) == words(below)
 }
 
 /// The record of one command line.
@@ -557,6 +597,9 @@ impl Reader {
         let token = statement.peek();
         let Some(name) = token.text.strip_prefix('"') else { return Ok(None) };
         let name = name.strip_suffix('"').unwrap_or(name);
+        if name.is_empty() || name.chars().count() > MOST_NAME {
+            return Err(token.fault(format!("a policy's name has 1 to {MOST_NAME} characters")));
+        }
         if let Some(other) = self.names.policy_named(name) {
             let line = self.numbers[usize::from(other)].1;
             let message = format!("policy {other} has this name (line {line})");

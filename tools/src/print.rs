@@ -54,7 +54,8 @@ fn first_statement(reader: &mut Reader, records: &[Record]) -> (usize, String) {
     if first[0] == 5 {
         let same = |record: &&Record| record[..2] == first[..2];
         let policy: Vec<Record> = records.iter().take_while(same).copied().collect();
-        if let Some(text) = print_policy(reader, &policy) {
+        let title = format!("policy {}", first[1]);
+        if let Some(text) = print_policy(reader, &title, &policy) {
             return (policy.len(), text);
         }
     }
@@ -121,20 +122,20 @@ fn print_actions(of: Widths, record: &Record) -> Option<String> {
     Some(actions?.join(", "))
 }
 
-/// The nodes of one policy: as a formula if that gives the same nodes, otherwise as a node list
-/// with the formula as a comment.
-fn print_policy(reader: &mut Reader, records: &[Record]) -> Option<String> {
-    let number = records[0][1];
+/// The nodes of one policy under its title: as a formula if that gives the same nodes, otherwise as a
+/// node list with the formula as a comment.
+pub fn print_policy(reader: &mut Reader, title: &str, records: &[Record]) -> Option<String> {
     let nodes: Vec<Node> = records.iter().map(|node| [node[2], node[3], node[4]]).collect();
     let bytes = records.concat();
     let formula = print_formula(&nodes);
     if let Some(formula) = &formula {
-        let text = wrapped("", &format!("policy {number}: {formula}"), " ");
+        let text = wrapped("", &format!("{title}: {formula}"), " ");
         if gives(reader, &text, &bytes) {
             return Some(text);
         }
     }
-    let list = wrapped("", &format!("policy {number} nodes: {}", print_nodes(&nodes)?), "; ");
+    let list = wrapped("", &format!("{title} nodes: {}", print_nodes(&nodes)?), "; ");
+    let number = records[0][1];
     let comment =
         formula.map(|formula| wrapped("# ", &format!("policy {number} is {formula}"), " "));
     gives(reader, &list, &bytes).then(|| comment.unwrap_or_default() + &list)

@@ -150,6 +150,11 @@ impl<'a> Statement<'a> {
         self.start.line
     }
 
+    /// The line on which the statement ends.
+    pub fn last_line(&self) -> usize {
+        self.end.line
+    }
+
     /// What is wrong with its characters or its lines, if anything is.
     pub fn sound(&self) -> Result<(), Fault> {
         match &self.fault {
