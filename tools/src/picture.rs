@@ -1,8 +1,7 @@
 //! A network as a graph for Graphviz.
 
-use crate::print::print_record;
 use crate::source::Source;
-use crate::widths::Widths;
+use crate::words::record_words;
 use crate::Record;
 
 /// The switches and links of a network that no row refuses; with `rules`, each switch lists them.
@@ -10,7 +9,7 @@ pub fn picture(source: &Source, rules: bool) -> Option<String> {
     let of = source.widths()?;
     let mut graph = String::from("graph network {\n    node [shape=box];\n");
     for switch in 0..=of.switches() {
-        let label = switch_label(source, of, switch, rules);
+        let label = switch_label(source, switch, rules);
         graph += &format!("    s{switch} [label=\"{label}\"];\n");
     }
     for link in source.network.iter().filter(|record| record[0] == 2) {
@@ -20,7 +19,7 @@ pub fn picture(source: &Source, rules: bool) -> Option<String> {
     Some(graph)
 }
 
-fn switch_label(source: &Source, of: Widths, switch: u8, rules: bool) -> String {
+fn switch_label(source: &Source, switch: u8, rules: bool) -> String {
     let name = source.names.switch(switch);
     let mut label = match name == switch.to_string() {
         true => format!("switch {switch}"),
@@ -30,8 +29,8 @@ fn switch_label(source: &Source, of: Widths, switch: u8, rules: bool) -> String 
         label += "\\n";
         let of_switch = |record: &&Record| matches!(record[0], 3 | 4) && record[1] == switch;
         for record in source.network.iter().filter(of_switch) {
-            // The switch's number stands above already; lines end with the mark for the left side.
-            let text = print_record(Some(of), record).replacen(&format!(" {switch}"), "", 1);
+            // The switch stands above already; lines end with the mark for the left side.
+            let text = record_words(source, record).replacen(&format!(" {name}"), "", 1);
             label += &format!("{}\\l", escaped(&text));
         }
     }

@@ -127,31 +127,10 @@ impl<'a> Network<'a> {
         copies
     }
 
-    /// A shortest way of one or more steps from one state to another, both included.
-    pub fn route(&self, from: usize, to: usize) -> Option<Vec<usize>> {
-        let mut before: Vec<Option<usize>> = vec![None; self.states()];
-        let mut reached = vec![from];
-        let mut done = 0;
-        while before[to].is_none() {
-            let state = *reached.get(done)?;
-            done += 1;
-            for next in self.next(State::numbered(state, self.widths)) {
-                let next = next.number(self.widths);
-                if before[next].is_none() {
-                    before[next] = Some(state);
-                    reached.push(next);
-                }
-            }
-        }
-        let mut route = vec![to];
-        let mut last = before[to]?;
-        while last != from {
-            route.push(last);
-            last = before[last]?;
-        }
-        route.push(from);
-        route.reverse();
-        Some(route)
+    /// Whether one state steps to another.
+    pub fn steps(&self, from: usize, to: usize) -> bool {
+        let next = self.next(State::numbered(from, self.widths));
+        next.iter().any(|state| state.number(self.widths) == to)
     }
 }
 

@@ -111,28 +111,138 @@ impl<'a> Truth<'a> {
         self.planes.last().is_some_and(|plane| plane.has(x, 0))
     }
 
-    /// The lowest Y that goes with a state that breaks the policy: of an `exists Y.` that stands in
-    /// a conjunction, or in a disjunct that is true, or as the opposite of a `forall Y.`.
-    pub fn witness(&self, x: usize) -> Option<usize> {
-        self.witness_of(self.nodes.len().checked_sub(1)?, x, true)
+    /// Why a state breaks the policy: first what is so of the state alone, then for each `exists Y.`
+    /// the lowest Y that goes with it.
+    pub fn reasons(&self, x: usize) -> Vec<Reason> {
+        let mut search = Search { truth: self, seen: vec![], reasons: vec![Reason::default()] };
+        if let Some(last) = self.nodes.len().checked_sub(1) {
+            search.explore(Sight { node: last, at: [x, 0], truth: true }, None);
+        }
+        search.reasons
     }
 
-    /// The Y by which a node, in which Y is not free, is true or false.
-    fn witness_of(&self, node: usize, x: usize, truth: bool) -> Option<usize> {
-        let [kind, one, other] = self.nodes[node];
+    /// A shortest walk of one or more pairs of a node's plane, both ends included.
+    fn walk(&self, node: usize, from: usize, to: usize) -> Option<Vec<usize>> {
+        let plane = &self.planes[node];
+        let mut before: Vec<Option<usize>> = vec![None; plane.0.len()];
+        let mut reached = vec![from];
+        let mut done = 0;
+        while before[to].is_none() {
+            let state = *reached.get(done)?;
+            done += 1;
+            for next in (0..plane.0.len()).filter(|next| plane.has(state, *next)) {
+                if before[next].is_none() {
+                    before[next] = Some(state);
+                    reached.push(next);
+                }
+            }
+        }
+        let mut walk = vec![to];
+        let mut last = before[to]?;
+        while last != from {
+            walk.push(last);
+            last = before[last]?;
+        }
+        walk.push(from);
+        walk.reverse();
+        Some(walk)
+    }
+}
+
+/// A part of why a state breaks a policy.
+#[derive(Clone, Debug, Default, PartialEq, Eq)]
+pub struct Reason {
+    /// The lowest Y that goes with the state.
+    pub y: Option<usize>,
+    /// Walks between the states, each from state to state.
+    pub walks: Vec<Vec<usize>>,
+}
+
+impl Reason {
+    /// Adds a walk, to the last one if it goes on from there.
+    fn add(&mut self, walk: Vec<usize>) {
+        match self.walks.last_mut() {
+            Some(before) if before.last() == walk.first() => before.extend(&walk[1..]),
+            _ => self.walks.push(walk),
+        }
+    }
+}
+
+/// The most places that are looked at for reasons; formulas that people write have far fewer.
+const MOST_SEEN: usize = 1_000;
+
+/// A node that is true, or false, for a pair of states as X and Y.
+#[derive(Clone, Copy, PartialEq, Eq)]
+struct Sight {
+    node: usize,
+    at: [usize; 2],
+    truth: bool,
+}
+
+struct Search<'t> {
+    truth: &'t Truth<'t>,
+    seen: Vec<Sight>,
+    reasons: Vec<Reason>,
+}
+
+impl Search<'_> {
+    /// Goes through the parts by which a node is true or false. Within an `exists Y.` it is known
+    /// for which reason.
+    fn explore(&mut self, sight: Sight, reason: Option<usize>) {
+        if self.seen.contains(&sight) || self.seen.len() == MOST_SEEN {
+            return;
+        }
+        self.seen.push(sight);
+        let Sight { node, at, truth } = sight;
+        let [kind, one, other] = self.truth.nodes[node];
         let operands = [one, other].map(usize::from);
         match (kind, truth) {
-            (3, _) => self.witness_of(operands[0], x, !truth),
-            (4, _) | (5, _) => {
-                let agrees = |operand: &usize| self.planes[*operand].has(x, 0) == truth;
-                let mut agreeing = operands.into_iter().filter(agrees);
-                agreeing.find_map(|operand| self.witness_of(operand, x, truth))
+            (1, true) => self.add(reason, operands.map(|variable| at[variable]).to_vec()),
+            (3, _) => self.explore(Sight { node: operands[0], at, truth: !truth }, reason),
+            (4, true) | (5, false) => {
+                for node in operands {
+                    self.explore(Sight { node, at, truth }, reason);
+                }
             }
-            (6, true) | (7, false) if other == 1 => {
-                let plane = &self.planes[operands[0]];
-                (0..plane.0.len()).find(|y| plane.has(x, *y) == truth)
+            (4, false) | (5, true) => {
+                let agrees = |node: &usize| self.truth.planes[*node].has(at[0], at[1]) == truth;
+                if let Some(node) = operands.into_iter().find(agrees) {
+                    self.explore(Sight { node, at, truth }, reason);
+                }
             }
-            _ => None,
+            (6, true) | (7, false) => self.choose(sight, operands[0], operands[1], reason),
+            (8, true) => {
+                let [from, to] = [at[operands[1] / 2], at[operands[1] % 2]];
+                if let Some(walk) = self.truth.walk(operands[0], from, to) {
+                    self.add(reason, walk);
+                }
+            }
+            _ => {}
         }
+    }
+
+    fn add(&mut self, reason: Option<usize>, walk: Vec<usize>) {
+        self.reasons[reason.unwrap_or(0)].add(walk);
+    }
+
+    /// Chooses the lowest state for the variable. An outermost `exists X.` is not about the state
+    /// that breaks the policy.
+    fn choose(&mut self, sight: Sight, node: usize, variable: usize, reason: Option<usize>) {
+        if reason.is_none() && variable == 0 {
+            return;
+        }
+        let plane = &self.truth.planes[node];
+        let mut at = sight.at;
+        let is_it = |state: &usize| {
+            at[variable] = *state;
+            plane.has(at[0], at[1]) == sight.truth
+        };
+        let Some(state) = (0..plane.0.len()).find(is_it) else { return };
+        at[variable] = state;
+        let reason = reason.unwrap_or_else(|| {
+            self.reasons.push(Reason { y: Some(state), walks: vec![] });
+            self.reasons.len() - 1
+        });
+        self.explore(Sight { node, at, ..sight }, Some(reason));
     }
 }

@@ -2,12 +2,13 @@
 
 use crate::book::Book;
 use crate::causes::{command_cause, kind_words, network_cause, Cause};
+use crate::formula::Node;
 use crate::json::Object;
 use crate::names::Names;
 use crate::print::print_record;
 use crate::source::{Given, Source};
 use crate::steps::{Network, State};
-use crate::truth::Truth;
+use crate::truth::{Reason, Truth};
 use crate::widths::Widths;
 use crate::Record;
 use wegbaro::{work_bytes, Checked, Commanded, Refusal};
@@ -74,14 +75,6 @@ pub struct Teller<'a> {
     pub form: Form,
     /// The bytes of work that the answering gate has, if they are not as many as are needed.
     pub work: Option<usize>,
-}
-
-/// What is known of how a state breaks a policy.
-struct Broken {
-    /// The lowest Y that goes with it.
-    y: Option<usize>,
-    /// The states on a shortest way to Y, or back to the state if the policy is about loops.
-    route: Vec<usize>,
 }
 
 impl Teller<'_> {
@@ -214,8 +207,12 @@ impl Teller<'_> {
         }
     }
 
+    fn record_words(&self, record: &Record) -> String {
+        record_words(self.source, record)
+    }
+
     fn command_words(&self, number: usize, given: &Given) -> String {
-        let command = print_record(self.source.widths(), &given.record);
+        let command = self.record_words(&given.record);
         match given.line {
             Some(line) => format!("command {number} ({command}), line {line}"),
             None => format!("command {number} ({command})"),
@@ -227,27 +224,44 @@ impl Teller<'_> {
             .text("subject", "command")
             .number("number", number)
             .maybe(given.line, |object, line| object.number("line", line))
-            .text("command", &print_record(self.source.widths(), &given.record))
+            .text("command", &self.record_words(&given.record))
     }
 
     fn broken_words(&self, left: &Book, policy: usize, state: usize) -> String {
         let Some(network) = Network::new(&left.records) else { return String::new() };
-        let broken = broken(network, policy, state);
-        let name = |state| self.state_words(network.widths, state);
         let mut words = format!(
             "policy {policy}{} is broken by state {state} ({})",
             self.policy_words(policy),
-            name(state)
+            self.state_words(network.widths, state)
         );
-        let hops = self.hops(left, network, &broken.route);
-        let way = if hops.is_empty() { "" } else { ", by this way:" };
-        match broken.y {
-            Some(y) => words += &format!("\n    with Y = state {y} ({}){way}", name(y)),
-            None if !hops.is_empty() => words += "\n    back to itself by this way:",
-            None => {}
+        for reason in reasons(network, policy, state) {
+            let hops: Vec<String> =
+                reason.walks.iter().flat_map(|walk| self.hops(left, network, walk)).collect();
+            words += &self.reason_words(network.widths, state, &reason, hops);
         }
-        for hop in hops {
+        words
+    }
+
+    /// A reason in words: Y, and the ways between the states.
+    fn reason_words(&self, of: Widths, x: usize, reason: &Reason, hops: Vec<String>) -> String {
+        let start = reason.walks.first().and_then(|walk| walk.first());
+        let mut words = match reason.y {
+            Some(y) => format!("\n    with Y = state {y} ({})", self.state_words(of, y)),
+            None if hops.is_empty() => return String::new(),
+            None => "\n    back to itself".to_string(),
+        };
+        words += match hops.is_empty() {
+            true => "",
+            false if reason.y.is_some() && start != Some(&x) => ", from there by this way:",
+            false if reason.y.is_some() => ", by this way:",
+            false => " by this way:",
+        };
+        let more = hops.len().saturating_sub(MOST_HOPS);
+        for hop in hops.iter().take(MOST_HOPS) {
             words += &format!("\n    - {hop}");
+        }
+        if more > 0 {
+            words += &format!("\n    - and so on, {more} more");
         }
         words
     }
@@ -255,17 +269,16 @@ impl Teller<'_> {
     fn broken_object(&self, object: Object, left: &Book, policy: usize, state: usize) -> Object {
         let object = object.number("policy", policy);
         let Some(network) = Network::new(&left.records) else { return object };
-        let Broken { y, route } = broken(network, policy, state);
         let text = self.source.policy(policy);
         let name = text.and_then(|policy| policy.name.as_deref());
         let of = network.widths;
-        let route = (!route.is_empty()).then_some(route);
+        let reason = reasons(network, policy, state).into_iter().next().unwrap_or_default();
         object
             .maybe(name, |object, name| object.text("policy_name", name))
             .maybe(text, |object, policy| object.number("policy_line", policy.line))
             .object("state", self.state_object(of, state))
-            .maybe(y, |object, y| object.object("y", self.state_object(of, y)))
-            .maybe(route, |object, route| object.numbers("route", &route))
+            .maybe(reason.y, |object, y| object.object("y", self.state_object(of, y)))
+            .maybe(reason.walks.first(), |object, route| object.numbers("route", route))
     }
 
     /// The name and the line of a policy.
@@ -308,7 +321,7 @@ impl Teller<'_> {
             let Some(place) = network.acting(from) else { continue };
             let [switch, port, header] = field_names(&self.source.names, from);
             let [_, out, header_out] = field_names(&self.source.names, to);
-            let rule = print_record(Some(of), &left.records[place]);
+            let rule = self.record_words(&left.records[place]);
             let origin = &left.origins[place];
             let header = match from.header == to.header {
                 true => header,
@@ -319,10 +332,11 @@ impl Teller<'_> {
                  {rule})"
             ));
         }
-        if hops.len() > MOST_HOPS {
-            let more = hops.len() - MOST_HOPS;
-            hops.truncate(MOST_HOPS);
-            hops.push(format!("and so on, {more} more"));
+        let end = route.last().filter(|end| route.first() != Some(end));
+        let end = end.map(|end| State::numbered(*end, of)).filter(|end| !end.departing);
+        if let Some(end) = end {
+            let [switch, port, header] = field_names(&self.source.names, end);
+            hops.push(format!("switch {switch}: in at port {port}, header {header}"));
         }
         hops
     }
@@ -340,6 +354,30 @@ pub fn origin(number: usize, given: &Given) -> String {
         Some(line) => format!("line {line}"),
         None => format!("command {number}"),
     }
+}
+
+/// A record as its statement, with the names that the source gives.
+pub fn record_words(source: &Source, record: &Record) -> String {
+    let text = print_record(source.widths(), record);
+    let names = &source.names;
+    let mut words: Vec<String> = vec![];
+    for word in text.split(' ') {
+        let (number, sign) = match word.strip_suffix([':', ',']) {
+            Some(number) => (number, &word[number.len()..]),
+            None => (word, ""),
+        };
+        let before = words.last().map(String::as_str);
+        let name = match (before, number.parse()) {
+            (Some("rule" | "miss" | "add" | "modify" | "delete"), Ok(switch)) => {
+                names.switch(switch)
+            }
+            (Some("port" | "output"), Ok(port)) => names.port(record[1], port),
+            (Some("header" | "set"), Ok(header)) => names.header(header),
+            _ => number.to_string(),
+        };
+        words.push(name + sign);
+    }
+    words.join(" ")
 }
 
 fn refused_words(refusal: Refusal, cause: Option<&Cause>) -> String {
@@ -377,16 +415,16 @@ fn field_names(names: &Names, state: State) -> [String; 3] {
     ]
 }
 
-/// What is known of how a state breaks a policy.
-fn broken(network: Network, policy: usize, state: usize) -> Broken {
+/// What is known of why a state breaks a policy. Walks are told only if they are the network's.
+fn reasons(network: Network, policy: usize, state: usize) -> Vec<Reason> {
     let is_node = |record: &&Record| record[0] == 5 && usize::from(record[1]) == policy;
     let records = network.records.iter().filter(is_node);
-    let nodes: Vec<[u8; 3]> = records.map(|node| [node[2], node[3], node[4]]).collect();
-    let y = Truth::of(network, &nodes).witness(state);
-    let is_loop = |[kind, operand, pair]: &[u8; 3]| {
-        *kind == 8 && *pair == 0 && nodes[usize::from(*operand)][0] == 1
-    };
-    let end = y.or_else(|| nodes.iter().any(is_loop).then_some(state));
-    let route = end.and_then(|end| network.route(state, end)).unwrap_or_default();
-    Broken { y, route }
+    let nodes: Vec<Node> = records.map(|node| [node[2], node[3], node[4]]).collect();
+    let is_way = |walk: &Vec<usize>| walk.windows(2).all(|pair| network.steps(pair[0], pair[1]));
+    let mut reasons = Truth::of(network, &nodes).reasons(state);
+    for reason in &mut reasons {
+        reason.walks.retain(is_way);
+    }
+    reasons.retain(|reason| reason.y.is_some() || !reason.walks.is_empty());
+    reasons
 }

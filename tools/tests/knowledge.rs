@@ -13,8 +13,11 @@ use wegbaro_tests::second::{self, Second};
 use wegbaro_tools::book::Book;
 use wegbaro_tools::causes::{command_cause, network_cause};
 use wegbaro_tools::formula::Node;
+use wegbaro_tools::parse::{parse, parse_command};
+use wegbaro_tools::source::Source;
 use wegbaro_tools::steps::{Network, State};
 use wegbaro_tools::truth::Truth;
+use wegbaro_tools::words::record_words;
 use wegbaro_tools::Record;
 
 const SMALL: Widths = Widths { h: 1, p: 2, w: 1 };
@@ -96,6 +99,11 @@ fn random_pair(random: &mut Random, bits: u8) -> Vec<Node> {
     nodes
 }
 
+/// The Y of the first `exists Y.`.
+fn first_y(truth: &Truth, x: usize) -> Option<usize> {
+    truth.reasons(x).iter().find_map(|reason| reason.y)
+}
+
 /// Whether a formula is true for a pair of states, by the second implementation.
 fn is_true(bare: &[Record], nodes: &[Node], x: usize, y: usize) -> bool {
     let bits = network(bare).widths.bits();
@@ -128,7 +136,7 @@ fn the_witness_is_the_lowest() {
         };
         let truth = Truth::of(network(&bare), &nodes);
         let Some(x) = (0..16).rev().find(|state| truth.breaks(*state)) else { continue };
-        let y = truth.witness(x).unwrap();
+        let y = first_y(&truth, x).unwrap();
         assert!(is_true(&bare, &inner, x, y), "{inner:?}");
         assert!((0..y).all(|lower| !is_true(&bare, &inner, x, lower)), "{inner:?}");
         found += usize::from(y > 0);
@@ -139,7 +147,7 @@ fn the_witness_is_the_lowest() {
 #[test]
 fn no_witness_where_no_y_is_chosen() {
     let bare = random_network(&mut Random::new(4), SMALL, BARE);
-    let of = |nodes: &[Node]| Truth::of(network(&bare), nodes).witness(31);
+    let of = |nodes: &[Node]| first_y(&Truth::of(network(&bare), nodes), 31);
     let [bit, some_y, all_y] = [[0, 1, 3], [6, 0, 1], [7, 0, 1]];
     assert_eq!(of(&[bit, some_y]), Some(8));
     // Not for all Y: the lowest for which it is false.
@@ -150,36 +158,54 @@ fn no_witness_where_no_y_is_chosen() {
     assert_eq!(of(&[bit, some_y, [3, 1, 0], [3, 2, 0]]), Some(8));
 }
 
-/// A route leads by steps from the first state to the last, and none is shorter.
+/// The walk of a policy about what is reached leads by steps from X to Y, and none is shorter.
 #[test]
-fn routes() {
+fn walks() {
     let mut random = Random::new(5);
-    let mut far = 0;
+    let mut longest = 0;
     for _ in 0..60 {
-        let records = random_network(&mut random, SMALL, Sizes { links: 3, ..BARE });
+        let records = random_network(&mut random, SMALL, BARE);
         let network = network(&records);
-        let steps_to = |from: usize| -> Vec<usize> {
-            let next = network.next(State::numbered(from, network.widths));
-            next.iter().map(|state| state.number(network.widths)).collect()
-        };
         let from = random.below(32);
-        let mut reached = steps_to(from);
+        let mut reached = vec![from];
         for distance in 1..32 {
-            for to in 0..32 {
-                let is_new = network.route(from, to).is_some_and(|it| it.len() == distance + 1);
-                assert_eq!(is_new, reached.contains(&to), "{from} to {to}");
+            let steps = |to: &usize| reached.iter().any(|state| network.steps(*state, *to));
+            let next: Vec<usize> = (0..32).filter(steps).collect();
+            for to in &next {
+                let walk = walk_to(network, from, *to);
+                assert!(walk.len() <= distance + 1 && walk[0] == from);
+                assert_eq!(walk.last(), Some(to));
+                assert!(walk.windows(2).all(|pair| network.steps(pair[0], pair[1])));
+                longest = longest.max(walk.len());
             }
-            far = far.max(if reached.is_empty() { 0 } else { distance });
-            let next: Vec<usize> = reached.iter().flat_map(|state| steps_to(*state)).collect();
-            let before = |to: &usize| network.route(from, *to).unwrap().len() <= distance + 1;
-            reached = next.into_iter().filter(|to| !before(to)).collect();
-        }
-        let route = (0..32).filter_map(|to| network.route(from, to)).max_by_key(Vec::len);
-        for pair in route.unwrap_or_default().windows(2) {
-            assert!(steps_to(pair[0]).contains(&pair[1]));
+            reached = next;
         }
     }
-    assert!(far > 3, "{far}");
+    assert!(longest > 4, "{longest}");
+}
+
+/// The walk from a state to another, which is reached.
+fn walk_to(network: Network, from: usize, to: usize) -> Vec<usize> {
+    let mut nodes = vec![[1, 0, 1], [8, 0, 1]];
+    let is_y = push_is_state(&mut nodes, Y, to, 5);
+    let both = push(&mut nodes, and(is_y, 1));
+    push(&mut nodes, some(both, Y));
+    let reasons = Truth::of(network, &nodes).reasons(from);
+    assert_eq!(reasons.len(), 2);
+    assert_eq!(reasons[1].y, Some(to));
+    reasons[1].walks[0].clone()
+}
+
+/// What many shared nodes are made of is looked at once.
+#[test]
+fn reasons_of_shared_nodes() {
+    let bare = random_network(&mut Random::new(8), SMALL, BARE);
+    let mut nodes = vec![[0, 1, 3], [6, 0, 1]];
+    for last in 1..31 {
+        push(&mut nodes, and(last, last));
+    }
+    let reasons = Truth::of(network(&bare), &nodes).reasons(31);
+    assert_eq!(reasons.iter().filter(|reason| reason.y == Some(8)).count(), 1);
 }
 
 /// The book goes with the gate's store through a series of commands.
@@ -254,4 +280,19 @@ fn every_refusal_has_a_cause() {
     for row in [3, 4, 5, 6, 7, 9, 12] {
         assert!(words[row].len() > 1, "row {row}: {:?}", words[row]);
     }
+}
+
+/// A command in words, with the names of its text, is read as the same command.
+#[test]
+fn commands_in_words_are_read_back() {
+    let text = include_str!("../../examples/templates/network.txt");
+    let source = Source::of_text(parse(text).unwrap());
+    let of = source.widths().unwrap();
+    let mut named = 0;
+    for given in &source.commands {
+        let words = record_words(&source, &given.record);
+        assert_eq!(parse_command(&words, of, &source.names), Ok(given.record), "{words}");
+        named += usize::from(words.contains("edge"));
+    }
+    assert!(named > 5, "{named}");
 }

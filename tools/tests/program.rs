@@ -409,7 +409,7 @@ fn pictures() {
     expect(&["picture", "-"], &records, 0, plain);
     let ran = wegbaro(&["picture", "--rules", "-"], &records);
     let label =
-        "s0 [label=\"switch 0\\nmiss: output 0\\lrule priority 10 port 1 header 0: output 2\\l\"]";
+        "s0 [label=\"switch 0\\nmiss: output drop\\lrule priority 10 port 1 header 0: output 2\\l\"]";
     assert!(ran.text().contains(label), "{}", ran.text());
     complains(&["picture", "-"], &records[..48], 1, "the network is refused");
     let named = b"widths H 1 P 2 W 1\nname switch 1 core\nname port 1:1 up\nlink 0:2 - 1:1\n\

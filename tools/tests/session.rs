@@ -195,7 +195,7 @@ fn names_of_the_text() {
     let file = file("names", text.as_bytes());
     let ran = wegbaro(&["session", &file], b"add core priority 3 header pump: output 2\n");
     let line = ran.text().lines().nth(1).unwrap();
-    let words = "command 1 (add 1 priority 3 port ** header 1: output 2): blocked: policy 0 \
+    let words = "command 1 (add core priority 3 port ** header pump: output 2): blocked: policy 0 \
                  \"pumps stay\", line 7, is broken by state 21 (switch core (1), port 1, arriving, \
                  header pump (1))";
     assert_eq!(line, words, "{}", ran.said);
