@@ -217,12 +217,22 @@ impl Parts {
         }
     }
 
+    /// The negation of a part; of a chain with negated members it is the other chain, so that it has
+    /// one form and one NOT less.
     fn not(&mut self, id: Id) -> Id {
-        match self.parts[id] {
+        match self.parts[id].clone() {
             Part::Constant(truth) => self.id(Part::Constant(!truth)),
             Part::Not(inside) => inside,
+            Part::Chain(sign, ids) if ids.iter().any(|id| self.is_negated(*id)) => {
+                let ids: Vec<Id> = ids.into_iter().map(|id| self.not(id)).collect();
+                self.chain(sign.other(), ids)
+            }
             _ => self.id(Part::Not(id)),
         }
+    }
+
+    fn is_negated(&self, id: Id) -> bool {
+        matches!(self.parts[id], Part::Not(_))
     }
 
     /// What a part is a chain of, if it were one of this sign.
@@ -262,7 +272,7 @@ impl Parts {
         match ids[..] {
             [] => idle,
             [id] => id,
-            _ if ids.iter().all(|id| matches!(self.parts[*id], Part::Not(_))) => {
+            _ if ids.iter().all(|id| self.is_negated(*id)) => {
                 let inside: Vec<Id> = ids.into_iter().map(|id| self.not(id)).collect();
                 let chain = self.chain(sign.other(), inside);
                 self.not(chain)
@@ -645,8 +655,8 @@ impl Gates<'_> {
             | Part::All(inside, _)
             | Part::Closure(inside, ..) => self.gather(inside),
             Part::Chain(sign, ids) => {
-                let is_negated = |id: &Id| matches!(self.parts.parts[*id], Part::Not(_));
-                let (negated, mut set): (Vec<Id>, Vec<Id>) = ids.into_iter().partition(is_negated);
+                let (negated, mut set): (Vec<Id>, Vec<Id>) =
+                    ids.into_iter().partition(|id| self.parts.is_negated(*id));
                 if !negated.is_empty() {
                     // Of two or more, the chain is one part: not one of those that are negated.
                     set.push(self.parts.chain(sign, negated));

@@ -151,6 +151,7 @@ pub fn parse_command(line: &str, widths: Widths, names: &Names) -> Result<Record
     let [statement] = &mut found[..] else {
         return Err(vec![place.fault(1, "expected one command")]);
     };
+    statement.sound().map_err(|fault| vec![fault])?;
     let keyword = statement.peek();
     if !["add", "modify", "delete", "bytes"].contains(&keyword.text) {
         return Err(vec![statement.expected("a command (add, modify, delete or bytes)")]);
@@ -484,6 +485,10 @@ impl Reader {
             false => self.formula(of, policy, statement)?,
         };
         statement.finish()?;
+        if !all_are_used(&nodes) {
+            let what = "has nodes that are no part of its last one";
+            self.note(format!("line {line}: policy {policy} {what}"));
+        }
         if let Some(formula) = Formula::of(&nodes) {
             self.policies.push(PolicyText { number: policy, name, line, source, formula });
         }
@@ -696,6 +701,11 @@ impl Reader {
         }
     }
 
+    /// Whether every ordinary port of a switch is linked.
+    pub(crate) fn is_linked_whole(&self, of: Widths, switch: u8) -> bool {
+        (1..of.controller()).all(|port| self.link_line([switch, port]).is_some())
+    }
+
     /// The line of the link that ends at a point.
     pub(crate) fn link_line(&self, point: Point) -> Option<usize> {
         self.links.iter().find(|(end, _)| *end == point).map(|(_, line)| *line)
@@ -833,6 +843,16 @@ impl Reader {
 fn policy_bytes(policy: u8, nodes: &[Node]) -> Vec<u8> {
     let node = |[kind, one, other]: &Node| record(&[5, policy, *kind, *one, *other]);
     nodes.iter().flat_map(node).collect()
+}
+
+/// Whether every node but the last is an operand of a later one.
+fn all_are_used(nodes: &[Node]) -> bool {
+    let uses = |[kind, one, other]: &Node, number: usize| match kind {
+        3 | 6..=8 => usize::from(*one) == number,
+        4 | 5 => [one, other].iter().any(|operand| usize::from(**operand) == number),
+        _ => false,
+    };
+    (1..nodes.len()).all(|later| nodes[later..].iter().any(|node| uses(node, later - 1)))
 }
 
 fn is_name(word: &str) -> bool {

@@ -194,8 +194,15 @@ impl Sentence<'_, '_, '_> {
     /// At a linked point, at drop and at the controller nothing enters or leaves, so a sentence about
     /// that would hold whatever the network does.
     fn is_outside(&self, area: &Area, start: Token) -> Result<(), Fault> {
-        let Area::Point(point) = area else { return Ok(()) };
         let name = self.in_words(area);
+        let point = match area {
+            Area::Point(point) => point,
+            Area::Switch(switch) if self.reader.is_linked_whole(self.of, *switch) => {
+                let message = format!("nothing enters or leaves at {name}: its ports are linked");
+                return Err(start.fault(message));
+            }
+            Area::Switch(_) => return Ok(()),
+        };
         if point[1] == 0 || point[1] == self.of.controller() {
             let message = format!("nothing enters or leaves at {name}, which is no ordinary port");
             return Err(start.fault(message));
