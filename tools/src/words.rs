@@ -2,6 +2,7 @@
 
 use crate::book::Book;
 use crate::causes::{command_cause, kind_words, network_cause, Cause};
+use crate::fault::quoted;
 use crate::formula::Node;
 use crate::json::Object;
 use crate::names::Names;
@@ -375,7 +376,7 @@ pub fn record_words(source: &Source, record: &Record) -> String {
             (Some("header" | "set"), Ok(header)) => names.header(header),
             _ => number.to_string(),
         };
-        words.push(name + sign);
+        words.push(quoted(&name) + sign);
     }
     words.join(" ")
 }
@@ -406,7 +407,7 @@ fn field_names(names: &Names, state: State) -> [String; 3] {
     let [switch, port] = state.point;
     let both = |name: String, number: u8| match name == number.to_string() {
         true => name,
-        false => format!("{name} ({number})"),
+        false => format!("{} ({number})", quoted(&name)),
     };
     [
         both(names.switch(switch), switch),

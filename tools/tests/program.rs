@@ -303,6 +303,32 @@ fn faults_of_a_text() {
     }
 }
 
+/// A long word or name is cut, wherever it is told.
+#[test]
+fn long_words() {
+    let word = "a".repeat(1_000_000);
+    let texts = [
+        format!("{word}\n"),
+        format!("widths H 1 P 2 W 0\nmiss 0: output {word}\n"),
+        format!(
+            "widths H 1 P 2 W 0\nname switch 0 {word}\nmiss {word}: output 1\npolicy 0: R(X,X)\n"
+        ),
+        format!(
+            "widths H 1 P 2 W 0\nname switch 0 {word}\nmiss 0: output 1\n\
+                 policy 0: exists Y. R(X,Y)\n"
+        ),
+        format!("widths H 1 P 2 W 0\nmiss 0: output 1\npolicy 0 \"{word}\": E(X)\n"),
+    ];
+    for text in texts {
+        let ran = wegbaro(&["check", "-"], text.as_bytes());
+        assert!(ran.text().len() + ran.said.len() < 1_000, "{}", ran.said.len());
+    }
+    let ran = wegbaro(&["session", "--gate", K], word.as_bytes());
+    assert!(ran.status == Some(2) && ran.said.len() < 1_000);
+    let ran = wegbaro(&["explain", K], word.as_bytes());
+    assert!(ran.status == Some(2) && ran.said.len() < 1_000);
+}
+
 #[test]
 fn reading_fails() {
     let folder = env!("CARGO_MANIFEST_DIR");

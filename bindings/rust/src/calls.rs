@@ -27,17 +27,30 @@ extern "C" {
 pub enum Checked {
     /// No policy's forbidden condition is true for any state.
     Holds,
-    /// The lowest broken policy, and the lowest state that breaks it.
-    Violated { policy: usize, state: usize },
+    /// Some policy's is.
+    Violated {
+        /// The lowest broken policy.
+        policy: usize,
+        /// The lowest state that breaks it.
+        state: usize,
+    },
 }
 
 /// The verdict on a command.
 #[derive(Clone, Copy, Debug, PartialEq, Eq, Hash)]
 pub enum Commanded {
-    /// The network that the command leaves holds, and is in the store: its count of records.
-    Forwarded { count: usize },
-    /// It would not hold: the lowest policy broken then, and the lowest state that breaks it.
-    Blocked { policy: usize, state: usize },
+    /// The network that the command leaves holds, and is in the store.
+    Forwarded {
+        /// Its count of records.
+        count: usize,
+    },
+    /// It would not hold, and nothing is changed.
+    Blocked {
+        /// The lowest policy that would be broken.
+        policy: usize,
+        /// The lowest state that would break it.
+        state: usize,
+    },
 }
 
 /// The check call: judges the first `n` records of the store.

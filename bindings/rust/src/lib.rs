@@ -53,6 +53,8 @@
 //! The static library `libwegbaro.a` is taken from `target/staticlib` of the project, or from the
 //! folder that the environment variable `WEGBARO_LIB_DIR` names when this crate is built.
 
+#![deny(missing_docs)]
+
 mod calls;
 mod gate;
 mod refusal;
