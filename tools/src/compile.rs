@@ -5,7 +5,7 @@
 //! doubles and complements go, `!a & !b` is `!(a | b)`, what alternatives have in common is put
 //! before them, and pairs that stand in several chains are one node.
 
-use crate::formula::{Node, Variable, MOST_NODES};
+use crate::formula::{Node, Variable, MOST_NODES, MOST_POLICIES};
 use crate::widths::Widths;
 use crate::written::{Field, Written};
 use std::collections::{BTreeMap, BTreeSet, HashMap};
@@ -177,6 +177,8 @@ struct Parts {
     ids: HashMap<Part, Id>,
     /// For each part whether X and whether Y matters.
     free: Vec<[bool; 2]>,
+    /// The negations of chains with negated members.
+    negations: HashMap<Id, Id>,
     tricks: Tricks,
 }
 
@@ -224,10 +226,23 @@ impl Parts {
             Part::Constant(truth) => self.id(Part::Constant(!truth)),
             Part::Not(inside) => inside,
             Part::Chain(sign, ids) if ids.iter().any(|id| self.is_negated(*id)) => {
+                if let Some(known) = self.negations.get(&id) {
+                    return *known;
+                }
                 let ids: Vec<Id> = ids.into_iter().map(|id| self.not(id)).collect();
-                self.chain(sign.other(), ids)
+                let negation = self.chain(sign.other(), ids);
+                self.negations.insert(id, negation);
+                negation
             }
             _ => self.id(Part::Not(id)),
+        }
+    }
+
+    /// The negation of a part, if there is one so far.
+    fn opposite(&self, id: Id) -> Option<Id> {
+        match self.parts[id] {
+            Part::Not(inside) => Some(inside),
+            _ => self.ids.get(&Part::Not(id)).or(self.negations.get(&id)).copied(),
         }
     }
 
@@ -294,13 +309,8 @@ impl Parts {
             if alternatives.iter().any(|one| set.contains(one)) {
                 continue;
             }
-            let mut left = vec![];
-            for one in &alternatives {
-                let opposite = self.not(*one);
-                if !set.contains(&opposite) {
-                    left.push(*one);
-                }
-            }
+            let is_left = |one: &Id| !self.opposite(*one).is_some_and(|it| set.contains(&it));
+            let left: Vec<Id> = alternatives.iter().copied().filter(is_left).collect();
             if left.len() == alternatives.len() {
                 kept.insert(*id);
             } else {
@@ -592,6 +602,8 @@ fn split(parts: &mut Parts, whole: Id) -> Option<Vec<Vec<Node>>> {
         if nodes.len() <= MOST_NODES {
             policies.pop();
             policies.push((joined, nodes));
+        } else if policies.len() == MOST_POLICIES {
+            return None;
         } else {
             policies.push((vec![alternative], fewest(parts, alternative)));
         }
@@ -609,7 +621,8 @@ fn short_alternatives(parts: &mut Parts, whole: Id) -> Option<Vec<Id>> {
             continue;
         }
         let mut alternatives = parts.alternatives(id);
-        if alternatives.len() < 2 || alternatives.len() + waiting.len() > MOST_ALTERNATIVES {
+        let count = short.len() + waiting.len() + alternatives.len();
+        if alternatives.len() < 2 || count > MOST_ALTERNATIVES {
             return None;
         }
         alternatives.reverse();

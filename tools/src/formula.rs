@@ -80,6 +80,8 @@ impl Formula {
     }
 }
 
+/// The most policies of a network.
+pub const MOST_POLICIES: usize = 8;
 /// The most nodes of a policy.
 pub const MOST_NODES: usize = 32;
 /// The most characters that a printed formula has.

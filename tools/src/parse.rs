@@ -6,7 +6,7 @@
 
 use crate::compile::{compile, Compiled};
 use crate::fault::{nearest, quoted, Fault};
-use crate::formula::{read_nodes, Formula, Node, MOST_NODES};
+use crate::formula::{read_nodes, Formula, Node, MOST_NODES, MOST_POLICIES};
 use crate::names::{Area, Named, Names, Point};
 use crate::print::{print_policy, whole_records};
 use crate::templates::read_sentence;
@@ -17,8 +17,6 @@ use crate::{record, Record, RECORD};
 
 /// The most actions of a rule.
 const MOST_ACTIONS: usize = 4;
-/// The most policies of a network.
-const MOST_POLICIES: u8 = 8;
 /// The most characters of a policy's name.
 const MOST_NAME: usize = 60;
 /// The most faults that are told at once.
@@ -106,33 +104,36 @@ pub fn expand(text: &str) -> Result<String, Vec<Fault>> {
     let parsed = parse(text)?;
     let (records, _) = whole_records(&parsed.bytes);
     let Some(widths) = parsed.names.widths else { return Ok(text.to_string()) };
-    let mut reader = Reader::with(widths, Names::default());
-    let mut raw = |number: u8, name: Option<&str>| {
+    let raw = |number: u8, name: Option<&str>| {
         let is_its = |record: &&Record| record[0] == 5 && record[1] == number;
         let nodes: Vec<Record> = records.iter().filter(is_its).copied().collect();
         let name = name.map_or_else(String::new, |name| format!(" \"{name}\""));
-        print_policy(&mut reader, &format!("policy {number}{name}"), &nodes).unwrap_or_default()
-    };
-    let found = statements(text);
-    let is_policy = |statement: &&Statement| statement.peek().text == "policy";
-    let policies: Vec<&Statement> = found.iter().filter(is_policy).collect();
-    let mut lines: Vec<String> = text.lines().map(String::from).collect();
-    for (number, policy) in policies.iter().enumerate() {
-        let [first, last] = [policy.line() - 1, policy.last_line() - 1];
-        let number = number as u8;
-        let below = raw(number, parsed.names.policy(number));
-        if is_as_written(&lines[first..=last], &below) {
-            continue;
+        let mut reader = Reader::with(widths, Names::default());
+        if let Some(before) = number.checked_sub(1) {
+            reader.note_record(&record(&[5, before]), 0);
         }
-        lines[first..=last].iter_mut().for_each(|line| *line = format!("# {line}"));
-        lines[last] += &format!("\n{}", below.trim_end());
+        print_policy(&mut reader, &format!("policy {number}{name}"), &nodes)
+    };
+    let mut lines: Vec<String> = text.lines().map(String::from).collect();
+    let mut last = 0;
+    let mut own = vec![];
+    for statement in statements(text).iter().filter(|it| it.peek().text == "policy") {
+        let first = statement.line() - 1;
+        last = statement.last_line() - 1;
+        let Ok(number) = statement.ahead(1).text.parse::<u8>() else { continue };
+        own.push(number);
+        let name = parsed.names.policy(number);
+        let is_list = statement.ahead(2 + usize::from(name.is_some())).text == "nodes";
+        let Some(below) = raw(number, name).filter(|_| !is_list) else { continue };
+        if !is_as_written(&lines[first..=last], &below) {
+            lines[first..=last].iter_mut().for_each(|line| *line = format!("# {line}"));
+            lines[last] += &format!("\n{}", below.trim_end());
+        }
     }
-    let own = policies.len() as u8;
-    for part in parsed.policies.iter().filter(|policy| policy.number >= own) {
-        let below = raw(part.number, None);
-        let last = policies[policies.len() - 1].last_line() - 1;
-        lines[last] +=
-            &format!("\n# More of the policy in line {}\n{}", part.line, below.trim_end());
+    for part in parsed.policies.iter().filter(|policy| !own.contains(&policy.number)) {
+        let below = raw(part.number, None).unwrap_or_default();
+        let more = format!("\n# More of the policy in line {}\n{}", part.line, below.trim_end());
+        lines[last] += &more;
     }
     Ok(lines.join("\n") + "\n")
 }
@@ -545,7 +546,7 @@ impl Reader {
             let mut numbers = vec![];
             for part in parts {
                 let number = self.numbers.last().map_or(0, |(last, _)| last.saturating_add(1));
-                if number >= MOST_POLICIES {
+                if usize::from(number) >= MOST_POLICIES {
                     let message = format!(
                         "the policy has {nodes} nodes, where {MOST_NODES} are the most; as {count} \
                          policies there would be more than {MOST_POLICIES}"

@@ -24,6 +24,7 @@ policy 0 \"inside\": header 1 never leaves
 policy 1: switch(X) = core
     and loops(X) # no loops at the core
 policy 2: bit(X,3) & tc(R(X,Y))(X,X)
+policy 3 \"by hand\" nodes: E X; NOT 0
 add core priority 1: output drop
 ";
     let raw = "\
@@ -33,11 +34,21 @@ policy 0 \"inside\": E(X) & !bit(X,4) & exists Y. tc(R(X,Y))(X,Y) & E(Y) & bit(Y
 #     and loops(X) # no loops at the core
 policy 1: bit(X,3) & tc(R(X,Y))(X,X)
 policy 2: bit(X,3) & tc(R(X,Y))(X,X)
+policy 3 \"by hand\" nodes: E X; NOT 0
 add core priority 1: output drop
 ";
     let text = format!("{WARD}{policies}");
     assert_eq!(expanded(&text), format!("{WARD}{raw}"));
     assert_eq!(parsed(&expanded(&text)).bytes, parsed(&text).bytes);
+}
+
+/// A policy behind one that is given by bytes.
+#[test]
+fn behind_bytes() {
+    let node = format!("bytes 05 00 02{}\n", " 00".repeat(21));
+    let text = format!("{WARD}{node}policy 1: loops(X)\n");
+    let raw = "# policy 1: loops(X)\npolicy 1: tc(R(X,Y))(X,X)\n";
+    assert_eq!(expanded(&text), format!("{WARD}{node}{raw}"));
 }
 
 /// Every example gives the same records when it is expanded, and so does a policy that is split.
