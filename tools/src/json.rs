@@ -32,6 +32,12 @@ impl Object {
         self.raw(name, &format!("[{}]", values.join(",")))
     }
 
+    /// The fields of another object behind these.
+    pub fn and(mut self, other: Object) -> Object {
+        self.fields.extend(other.fields);
+        self
+    }
+
     /// A field if it is known.
     pub fn maybe<T>(self, value: Option<T>, add: impl FnOnce(Object, T) -> Object) -> Object {
         match value {
@@ -84,8 +90,9 @@ mod tests {
             .number("n", 7)
             .object("o", inner)
             .numbers("l", &[1, 2])
+            .and(Object::new().number("m", 8))
             .maybe(None, |object, value| object.number("no", value));
-        let line = r#"{"a\"b":"c\\d\n\t\r\u0001\u007fä","n":7,"o":{"is":true},"l":[1,2]}"#;
+        let line = r#"{"a\"b":"c\\d\n\t\r\u0001\u007fä","n":7,"o":{"is":true},"l":[1,2],"m":8}"#;
         assert_eq!(object.to_string(), line);
     }
 }

@@ -2,6 +2,7 @@
 
 use crate::book::Book;
 use crate::fault::quoted;
+use crate::json::Object;
 use crate::parse::parse_command;
 use crate::source::{fault_trouble, Given, Source};
 use crate::standard;
@@ -203,9 +204,13 @@ impl<'a> Judging<'a> {
         match self.teller.form {
             Form::Words => standard::write(trouble.words.as_bytes()),
             Form::Json => {
-                let objects = trouble.objects.into_iter();
-                let object = |object| format!("{object}\n");
-                standard::write(objects.map(object).collect::<String>().as_bytes())
+                let command = || Object::new().text("subject", "command");
+                let line = |object| {
+                    let object = command().number("number", self.answered).and(object);
+                    format!("{object}\n")
+                };
+                let lines: String = trouble.objects.into_iter().map(line).collect();
+                standard::write(lines.as_bytes())
             }
             Form::Gate => {
                 standard::say(&trouble.words);

@@ -133,7 +133,9 @@ fn lines_of_the_gate_and_objects() {
     let first = session.ask(b"add 0 priority 5: output 2\n");
     assert!(first.starts_with(r#"{"subject":"command","number":1,"command":"add "#), "{first}");
     let second = session.ask(b"\x07\n");
-    assert!(second.starts_with(r#"{"answer":"faulty","file":"command 2","line":1,"#), "{second}");
+    let faulty =
+        r#"{"subject":"command","number":2,"answer":"faulty","file":"command 2","line":1,"#;
+    assert!(second.starts_with(faulty), "{second}");
     assert_eq!(session.end(), (Some(2), String::new()));
 }
 
