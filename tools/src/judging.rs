@@ -54,9 +54,9 @@ pub fn explain(source: &Source, form: Form, output: &str) -> Result<Status, Trou
     let mut judging = Judging::new(source, form, Some(GATE_WORK));
     judging.all(&mut |answer, told| {
         number += 1;
-        let expected = answer.line();
+        let expected = format!("the gate's answer about this file is `{}`", answer.line());
         match lines.next() {
-            Some(line) if line == expected => standard::write(told.as_bytes()),
+            Some(line) if line == answer.line() => standard::write(told.as_bytes()),
             Some(line) => Err(other_answer(number, &format!("is `{}`", quoted(line)), &expected)),
             None => Err(other_answer(number, "is missing", &expected)),
         }
@@ -64,7 +64,7 @@ pub fn explain(source: &Source, form: Form, output: &str) -> Result<Status, Trou
     match lines.next() {
         Some(line) => {
             let found = format!("is `{}`", quoted(line));
-            Err(other_answer(number + 1, &found, "the end"))
+            Err(other_answer(number + 1, &found, "the gate has no more answers about this file"))
         }
         None => Ok(judging.status),
     }
@@ -72,16 +72,17 @@ pub fn explain(source: &Source, form: Form, output: &str) -> Result<Status, Trou
 
 fn other_answer(number: usize, found: &str, expected: &str) -> Trouble {
     Trouble::faulty(format!(
-        "line {number} of the answers {found}, and the gate's answer about this file is \
-         `{expected}`: these are not the answers about this file"
+        "line {number} of the answers {found}, and {expected}: these are not the answers about \
+         this file"
     ))
 }
 
-/// Judges a network and its commands, then commands as they come in on standard input.
+/// Judges a network and its commands, then commands as they come in on standard input. There is no
+/// session where the network does not hold or the file is cut.
 pub fn session(source: &Source, form: Form, records: bool) -> Result<Status, Trouble> {
     let mut judging = Judging::new(source, form, None);
     judging.all(&mut tell)?;
-    if judging.gate.is_none() {
+    if judging.gate.is_none() || !source.rest.is_empty() {
         judging.note_unjudged();
         return Ok(judging.status);
     }

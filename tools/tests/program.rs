@@ -458,7 +458,7 @@ fn answers_about_another_file() {
         ("start holds\n", "line 2 of the answers is missing"),
         (
             &format!("{K_LINES}3 forwarded 21\n"),
-            "is `3 forwarded 21`, and the gate's answer about this file is `the end`",
+            "is `3 forwarded 21`, and the gate has no more answers about this file",
         ),
         ("start refused 1 0\n", "line 1 of the answers is `start refused 1 0`"),
         ("start \u{1b}[31m\n", "line 1 of the answers is `start \\x1b[31m`"),

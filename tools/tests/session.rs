@@ -170,7 +170,7 @@ fn commands_of_the_file_come_first() {
 }
 
 #[test]
-fn a_network_that_does_not_hold_has_no_session() {
+fn a_network_that_does_not_hold_and_a_cut_file_have_no_session() {
     let mut broken = k_with_d();
     broken.remove(7);
     let add = b"add 0 priority 8 header 1: output 0\n";
@@ -180,6 +180,8 @@ fn a_network_that_does_not_hold_has_no_session() {
     expect(&["session", "--gate", &refused], add, 1, "start refused 7 2\n");
     let cut = file("cut-network", &k().concat()[..50]);
     expect(&["session", "--gate", &cut], add, 2, "end short\n");
+    let cut = file("cut-command", &[&k().concat()[..], &[6]].concat());
+    expect(&["session", "--gate", &cut], add, 2, "start holds\nend short\n");
     complains(&["session", &file("text-fault", b"widths")], add, 2, ":1:7: expected `H`");
 }
 
