@@ -38,7 +38,7 @@ impl Fault {
 
     /// The fault with its place in the file, the line with a mark under it, and the hint.
     pub fn show(&self, file: &str, text: &str) -> String {
-        let file: String = file.chars().map(plain).collect();
+        let file = whole(file);
         let mut shown = format!("{file}:{}:{}: {}\n", self.line, self.column, self.message);
         if let Some(line) = line_of(text, self.line) {
             let (line, before) = excerpt(line, self.column);
@@ -109,6 +109,11 @@ pub fn quoted(word: &str) -> String {
         Some(_) => format!("{kept}…"),
         None => kept,
     }
+}
+
+/// A text for a message, whole, control characters spelled out.
+pub fn whole(text: &str) -> String {
+    text.chars().map(plain).collect()
 }
 
 /// The known word that is nearest to one that is not known, if one is near.
