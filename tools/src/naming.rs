@@ -51,12 +51,15 @@ impl Reader {
             let message = format!("`{word}` is a word of the language and cannot be a name");
             return Err(name.fault(message));
         }
-        let both_points = matches!(
-            (named, self.names.named(name.text)),
-            (Named::Points(_), Some(Named::Points(_)))
-        );
+        // Ports of several switches may have one name.
+        let of_others = match (named, self.names.named(name.text)) {
+            (Named::Points(mine), Some(Named::Points(its))) => {
+                mine.iter().all(|[switch, _]| its.iter().all(|[other, _]| switch != other))
+            }
+            _ => false,
+        };
         match self.names.line(name.text) {
-            Some(line) if !both_points => {
+            Some(line) if !of_others => {
                 let message = format!("the name `{}` is given in line {line}", quoted(name.text));
                 Err(name.fault(message).earlier(line))
             }

@@ -60,7 +60,7 @@ pub fn parse(text: &str) -> Result<Parsed, Vec<Fault>> {
             faults.push(statement.peek().fault(message));
             break;
         }
-        if !["policy", "name", "ward"].contains(&statement.peek().text) {
+        if ["add", "modify", "delete", "bytes"].contains(&statement.peek().text) {
             faults.extend(parsed.end_policies(&mut reader).err());
         }
         let line = statement.line();

@@ -160,13 +160,16 @@ impl Reader {
         statement: &mut Statement,
     ) -> Result<Option<String>, Fault> {
         let token = statement.peek();
-        let Some(name) = token.text.strip_prefix('"') else { return Ok(None) };
-        let name = name.strip_suffix('"').unwrap_or(name);
+        if !token.text.starts_with('"') {
+            return Ok(None);
+        }
+        let name = token.text.trim_matches('"');
         if name.is_empty() || name.chars().count() > MOST_NAME {
             return Err(token.fault(format!("a policy's name has 1 to {MOST_NAME} characters")));
         }
         if let Some(other) = self.names.policy_named(name) {
-            let line = self.numbers[usize::from(other)].1;
+            let given = self.numbers.iter().find(|(number, _)| *number == other);
+            let line = given.map_or(0, |(_, line)| *line);
             let message = format!("policy {other} has this name (line {line})");
             return Err(token.fault(message).earlier(line));
         }

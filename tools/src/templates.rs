@@ -20,7 +20,7 @@ pub fn read_sentence(
     let [first, second] = [0, 1].map(|by| statement.ahead(by).text);
     let is_area = ["ward", "switch"].contains(&first) && second != "("
         || second == ":"
-        || first != "R" && first != "E" && reader.names.named(first).is_some();
+        || reader.names.named(first).is_some();
     let mut sentence = Sentence { reader, statement, of };
     Ok(Some(match first {
         "no" => sentence.no()?,

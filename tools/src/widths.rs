@@ -82,10 +82,14 @@ pub fn pattern_word(value: u8, care: u8, width: u8) -> String {
     }
 }
 
-/// Value and care of a word: as many 0, 1 and star characters as the width, or a shorter decimal
-/// number without leading zeros. A number within a width above 1 is always shorter than the width.
+/// Value and care of a word: as many 0, 1 and star characters as the width, a shorter decimal number
+/// without leading zeros, or one star for stars only. A number within a width above 1 is always
+/// shorter than the width.
 pub fn read_pattern(word: &str, width: u8) -> Option<[u8; 2]> {
     let full = (1 << width) - 1;
+    if word == "*" {
+        return Some([0, 0]);
+    }
     if word.len() < usize::from(width) {
         let value = word.parse::<u8>().ok()?;
         return (value <= full && word == value.to_string()).then_some([value, full]);

@@ -132,7 +132,7 @@ impl Sign {
 }
 
 /// What starts a part of a formula.
-const STARTS: [&str; 19] = [
+const STARTS: [&str; 17] = [
     "not",
     "exists",
     "forall",
@@ -150,9 +150,10 @@ const STARTS: [&str; 19] = [
     "steps",
     "reaches",
     "loops",
-    "and",
-    "or",
 ];
+
+/// Other words of policies: signs, and what starts a sentence.
+const OTHERS: [&str; 7] = ["and", "or", "no", "nothing", "what", "everything", "ward"];
 
 /// What others write for what is written otherwise here.
 const HABITS: [(&str, &str); 9] = [
@@ -236,18 +237,20 @@ impl FormulaReader<'_, '_, '_> {
     fn part_inside(&mut self, sign: Option<Sign>) -> Result<Written, Fault> {
         let token = self.statement.peek();
         let word = token.text;
-        let known = ["!", "("].contains(&word) || STARTS[..17].contains(&word);
+        let known = ["!", "("].contains(&word) || STARTS.contains(&word);
         if !known {
             return Err(self.no_formula());
         }
         self.statement.take();
         match word {
             "!" | "not" => Ok(self.part(sign)?.negated()),
-            "exists" => Ok(self.quantified(sign)?.0),
+            "exists" => {
+                let (inside, variable) = self.quantified(sign)?;
+                Ok(inside.exists(variable))
+            }
             "forall" => {
-                let (some, variable) = self.quantified(sign)?;
-                let Written::Some(inside, _) = some else { unreachable!("just put together") };
-                Ok(Written::All(inside, variable))
+                let (inside, variable) = self.quantified(sign)?;
+                Ok(Written::All(Box::new(inside), variable))
             }
             "(" => {
                 let inside = self.chain(None)?;
@@ -330,11 +333,20 @@ impl FormulaReader<'_, '_, '_> {
         Ok(if differs { held.negated() } else { held })
     }
 
-    /// A quantifier's variable and what it is about, as `exists`.
+    /// What a quantifier is about, and its variable.
     fn quantified(&mut self, sign: Option<Sign>) -> Result<(Written, Variable), Fault> {
+        let quantifier = self.statement.last();
         let variable = self.variable()?;
         self.statement.expect(".")?;
-        Ok((self.chain(sign)?.exists(variable), variable))
+        let inside = self.chain(sign)?;
+        if !inside.free()[usize::from(variable.number())] {
+            let Token { text, place } = quantifier;
+            self.reader.note(format!(
+                "line {}: `{text} {variable:?}` says nothing, as nothing in it is about {variable:?}",
+                place.line
+            ));
+        }
+        Ok((inside, variable))
     }
 
     fn pair(&mut self) -> Result<[Variable; 2], Fault> {
@@ -406,7 +418,7 @@ impl FormulaReader<'_, '_, '_> {
         if let Some((_, hint)) = habit {
             return fault.hint(*hint);
         }
-        match nearest(word, STARTS) {
+        match nearest(word, STARTS.into_iter().chain(OTHERS)) {
             Some(near) if near != word => fault.hint(format!("did you mean `{near}`?")),
             _ => fault,
         }

@@ -170,6 +170,7 @@ fn hints() {
     hinted("policy 0: NOT E(X)", 11, "did you mean `not`?");
     hinted("policy 0: E(X) AND E(X)", 16, "did you mean `and`?");
     hinted("policy 0: ariving(X)", 11, "did you mean `arriving`?");
+    hinted("policy 0: nothin from 0:1 is dropped", 11, "did you mean `nothing`?");
     hinted("policy 0: E(x)", 13, "write `X`");
     hinted("policy 0: R(X,y)", 15, "write `Y`");
     hinted("policy 0: header(X) == 1", 21, "write `=`");
@@ -231,6 +232,12 @@ fn statements_against_earlier_ones() {
         &format!("{ONE}{node}\npolicy 0: E(X)\n"),
         3,
         "line 4, column 8: policy 0 is given already, in line 3",
+    );
+    let third = format!("bytes 05 03 02{}", " 00".repeat(21));
+    against_earlier(
+        &format!("{ONE}{third}\npolicy 4 \"a\": E(X)\npolicy 5 \"a\": E(X)\n"),
+        4,
+        "line 5, column 10: policy 4 has this name (line 4)",
     );
     against_earlier(
         &format!("{ONE}add 0 priority 1: output 0\npolicy 0: E(X)\n"),

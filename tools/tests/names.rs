@@ -90,6 +90,7 @@ fn names_that_do_not_fit() {
         Some("did you mean `near`?"),
     );
     fault("name switch 1 core", "column 15: the name `core` is given in line 2", None);
+    fault("name port core:5 pump", "column 18: the name `pump` is given in line 4", None);
     fault("name switch 2 centre", "column 15: this switch has the name `core` (line 2)", None);
     fault("name port core:3 drip", "column 18: this port has the name `pump` (line 4)", None);
     fault(
@@ -217,6 +218,10 @@ fn policies_that_say_nothing() {
     assert_eq!(notes("header(X) = 1 & header(X) = 0"), nothing);
     assert_eq!(notes("header(X) != *"), nothing);
     assert_eq!(notes("header(X) = 1"), Vec::<String>::new());
+    assert_eq!(
+        notes("header(X) = 1 & exists Y. loops(X)"),
+        ["line 3: `exists Y` says nothing, as nothing in it is about Y"]
+    );
     let text = "widths H 1 P 2 W 0\nmiss 0: output 0\npolicy 0 nodes: E X; BIT X 1; NOT 1\n";
     assert_eq!(parsed(text).notes, ["line 3: policy 0 has nodes that are no part of its last one"]);
 }
