@@ -25,7 +25,7 @@ pub fn read_sentence(
     Ok(Some(match first {
         "no" => sentence.no()?,
         "nothing" => sentence.nothing()?,
-        "what" => sentence.what()?,
+        "what" | "everything" => sentence.what()?,
         "header" if second != "(" => sentence.header()?,
         _ if is_area => sentence.apart()?,
         _ => return Ok(None),
@@ -91,9 +91,12 @@ impl Sentence<'_, '_, '_> {
         Ok(Written::And([&enters[..], &[Written::And(out).exists(Y)]].concat()))
     }
 
-    /// `what enters [at AREAS] [with header PATTERN]`, and what is then said of it.
+    /// `what enters [at AREAS] [with header PATTERN]`, and what is then said of it; also with
+    /// `everything that` for `what`.
     fn what(&mut self) -> Result<Written, Fault> {
-        self.statement.take();
+        if self.statement.take().text == "everything" {
+            self.words(&["that"])?;
+        }
         self.words(&["enters"])?;
         let mut frames = self.frames("at")?;
         if self.statement.accept("reaches") {

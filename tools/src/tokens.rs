@@ -163,6 +163,21 @@ impl<'a> Statement<'a> {
         }
     }
 
+    /// The words and symbols, read or not.
+    pub fn words(&self) -> impl Iterator<Item = &'a str> + '_ {
+        self.tokens.iter().map(|token| token.text)
+    }
+
+    /// The first word; an empty one if there is none.
+    pub fn first(&self) -> &'a str {
+        self.words().next().unwrap_or_default()
+    }
+
+    /// The word or symbol at a place.
+    pub fn word_at(&self, place: Place) -> Option<&'a str> {
+        self.tokens.iter().find(|token| token.place == place).map(|token| token.text)
+    }
+
     /// The next token; an empty one at the end.
     pub fn peek(&self) -> Token<'a> {
         self.ahead(0)

@@ -292,6 +292,11 @@ fn several_faults() {
     // Without the widths, no more is said of what needs them.
     let places = |text: &str| parse(text).unwrap_err().len();
     assert_eq!(places("widths H 9\nlink 0:1 - 0:2\npolicy 0: E(Z)\nlnik\n"), 2);
+    assert_eq!(places("link 0:1 - 0:2\npolicy 0: E(Z)\nmiss 0: output 0\n"), 1);
+    // A name that a faulty statement would have given is not missed again.
+    let names =
+        "name switch 9 core\nward far: switch 9\nmiss core: output 0\npolicy 0: at(X, far)\n";
+    assert_eq!(places(&format!("{ONE}{names}miss cora: output 0\n")), 3);
 }
 
 #[test]

@@ -67,6 +67,22 @@ fn equal_parts_are_one_node() {
 }
 
 #[test]
+fn fields_are_few_nodes() {
+    let [header, low, high, switch, direction] = [0, 1, 2, 3, 4].map(|number| bit(X, number));
+    assert_eq!(compiled("switch(X) = 1"), [switch]);
+    assert_eq!(compiled("header(X) = * & departing(X)"), [direction]);
+    let neither = [direction, header, or(0, 1), not(2)];
+    assert_eq!(compiled("arriving(X) & header(X) = 0"), neither);
+    assert_eq!(compiled("!(departing(X) | header(X) != 0)"), neither);
+    // Three points of four ports: the switch once, and a port that is not 0.
+    let points = compiled("at(X, 1:1, 1:2, 1:3)");
+    assert_eq!(points, [switch, high, low, or(1, 2), and(0, 3)]);
+    let common = "(switch(X) = 1 & loops(X)) | (external(X) & switch(X) = 1)";
+    assert_eq!(compiled(common), [switch, r(X, Y), tc(1, X, X), external(X), or(2, 3), and(0, 4)]);
+    assert_eq!(compiled("header 1 never leaves").len(), 14);
+}
+
+#[test]
 fn printed_formulas_compile_to_themselves() {
     let mut random = Random::new(6);
     let mut same = 0;
