@@ -1,17 +1,32 @@
-/* Wegbaro: the check call and the command call for C and C++. Link with target/staticlib/libwegbaro.a.
+/* Wegbaro: the check call and the command call, for C (C89 and later) and C++. Link with -lwegbaro.
  *
- * The words used here (record, policy, state, row) are those of document 01. Neither call keeps a pointer, allocates, or
- * has any memory of an earlier call: everything is in the buffers, which are lent for the call alone.
+ * The words used here (record, policy, state, row) are explained in docs/FORMAT.md, installed in share/doc/wegbaro.
  *
  * Every length, every content and every n is allowed: what is wrong with them is answered as a refusal. Asked of the
  * caller is only what C asks of any function: each pointer is not null, even with length 0, and has its length in bytes
- * behind it; and the buffers of one call do not overlap. */
+ * behind it; and the buffers of one call do not overlap.
+ *
+ * Memory: everything is in the buffers, which are lent for the call alone. Neither call keeps a pointer, allocates, or
+ * remembers an earlier call. On the stack a call needs at most WEGBARO_STACK_BYTES.
+ *
+ * Threads: the library has no data of its own and calls no function but memcpy, memmove and memset. Calls that have
+ * different buffers may run at the same time, in any thread or signal handler. Check calls at the same time may share a
+ * store, which they only read; each needs a work buffer of its own. A command call shares its store with no other. */
 
 #ifndef WEGBARO_H
 #define WEGBARO_H
 
+#include <limits.h>
 #include <stddef.h>
-#include <stdint.h>
+
+/* The library is for x86-64 Linux, where unsigned long has 64 bits and is what <stdint.h>, which C89 has not, calls
+ * uint64_t; likewise unsigned char is uint8_t. */
+#if ULONG_MAX >> 31 >> 31 != 3
+#error "wegbaro.h: unsigned long must have 64 bits, as on x86-64 Linux"
+#endif
+
+/* The version of the library. */
+#define WEGBARO_VERSION "0.2.0"
 
 /* ---- Sizes ---- */
 
@@ -30,6 +45,9 @@
 
 /* Bytes of work that are enough for every network: 4,456,448. */
 #define WEGBARO_MOST_WORK_BYTES WEGBARO_WORK_BYTES(32, 10)
+
+/* Bytes of stack that are enough for either call on every input. docs/SPEED.md says how they were measured. */
+#define WEGBARO_STACK_BYTES 65536
 
 /* ---- Answers ---- */
 
@@ -63,24 +81,29 @@
  * number of 3 to 10 that is so of it, then 11 to 13. */
 #define WEGBARO_REFUSED 2 /* number, place */
 
+/* An answer of either call: its case and its two numbers in 64 bits. */
+typedef unsigned long wegbaro_answer;
+
 #ifdef __cplusplus
 extern "C" {
 #endif
 
-/* The case of an answer: bits 0 and 1. */
-static inline unsigned int wegbaro_case(uint64_t answer)
+/* The next three are `__inline__`, not `inline`, for C89's sake.
+ *
+ * The case of an answer: bits 0 and 1. */
+static __inline__ unsigned int wegbaro_case(wegbaro_answer answer)
 {
     return (unsigned int)(answer & 3);
 }
 
 /* The first number of an answer: bits 2 to 17. */
-static inline unsigned int wegbaro_first(uint64_t answer)
+static __inline__ unsigned int wegbaro_first(wegbaro_answer answer)
 {
     return (unsigned int)(answer >> 2 & 65535);
 }
 
 /* The second number of an answer: bits 18 to 33. */
-static inline unsigned int wegbaro_second(uint64_t answer)
+static __inline__ unsigned int wegbaro_second(wegbaro_answer answer)
 {
     return (unsigned int)(answer >> 18 & 65535);
 }
@@ -95,7 +118,8 @@ static inline unsigned int wegbaro_second(uint64_t answer)
  *
  * The store is only read. If refused, the work buffer is untouched. Otherwise its first WEGBARO_WORK_BYTES of this network
  * are all zero, and the rest of it is untouched. What is in it before the call does not matter. */
-uint64_t wegbaro_check(const uint8_t *store, size_t store_len, size_t n, uint8_t *work, size_t work_len);
+wegbaro_answer wegbaro_check(const unsigned char *store, size_t store_len, size_t n, unsigned char *work,
+                             size_t work_len);
 
 /* The command call: judges the whole network that the command `given` would leave of the first n records of the store,
  * and carries the command out only if that network holds. Start with n records that the check call said hold, and from
@@ -109,8 +133,8 @@ uint64_t wegbaro_check(const uint8_t *store, size_t store_len, size_t n, uint8_t
  *
  * An add of a rule that is there replaces it; a modify or a delete of a rule that is not there changes nothing, and is
  * judged like any command. The command is only read. The work buffer is left as by the check call. */
-uint64_t wegbaro_command(uint8_t *store, size_t store_len, size_t n, uint8_t *work, size_t work_len,
-                         const uint8_t *given, size_t given_len);
+wegbaro_answer wegbaro_command(unsigned char *store, size_t store_len, size_t n, unsigned char *work, size_t work_len,
+                               const unsigned char *given, size_t given_len);
 
 #ifdef __cplusplus
 }

@@ -1,6 +1,5 @@
-/* Network K of document 01: the check call, then its two adds, with a line for each answer as the program prints it. */
+/* Network K of docs/FORMAT.md: the check call, then its two adds, with a line for each answer as the program prints it. */
 
-#include <stdint.h>
 #include <stdio.h>
 #include <string.h>
 
@@ -9,7 +8,7 @@
 #define COUNT(array) (sizeof(array) / sizeof(array)[0])
 
 /* The records of network K. Bytes left out are zero. */
-static const uint8_t network[][WEGBARO_RECORD_BYTES] = {
+static const unsigned char network[][WEGBARO_RECORD_BYTES] = {
     {1, 1, 2, 1}, /* widths: H 1, P 2, W 1 */
     {2, 0, 2, 1, 1}, /* link (switch 0, port 2) to (1, 1) */
     {3, 0, 0, 0, 0, 0, 0, 0, 1, 1, 0, 3}, /* miss of switch 0: OUTPUT 0 */
@@ -32,18 +31,18 @@ static const uint8_t network[][WEGBARO_RECORD_BYTES] = {
     {5, 0, 4, 3, 12}, /* 13: AND 3 12 */
 };
 
-static const uint8_t commands[][WEGBARO_RECORD_BYTES] = {
+static const unsigned char commands[][WEGBARO_RECORD_BYTES] = {
     {6, 0, 5, 0, 0, 0, 0, 0, 1, 1, 2, 3}, /* add: switch 0, priority 5, any port, any header, OUTPUT 2 */
     {6, 0, 5, 0, 0, 0, 0, 1, 1, 1, 2, 3}, /* the same with header 0 */
 };
 
-static uint8_t store[WEGBARO_STORE_BYTES];
+static unsigned char store[WEGBARO_STORE_BYTES];
 
 /* K's one policy has 14 nodes, and its N is 1 + 1 + 2 + 1. */
-static uint8_t work[WEGBARO_WORK_BYTES(14, 5)];
+static unsigned char work[WEGBARO_WORK_BYTES(14, 5)];
 
 /* Prints the check call's answer; whether it is that the network holds. */
-static int print_check(uint64_t answer)
+static int print_check(wegbaro_answer answer)
 {
     switch (wegbaro_case(answer)) {
     case WEGBARO_HOLDS:
@@ -59,7 +58,7 @@ static int print_check(uint64_t answer)
 }
 
 /* Prints the command call's answer to a command, numbered from 1. */
-static void print_command(unsigned int number, uint64_t answer)
+static void print_command(unsigned int number, wegbaro_answer answer)
 {
     switch (wegbaro_case(answer)) {
     case WEGBARO_FORWARDED:
@@ -84,7 +83,7 @@ int main(void)
         return 1;
 
     for (i = 0; i < COUNT(commands); i++) {
-        uint64_t answer = wegbaro_command(store, sizeof store, n, work, sizeof work, commands[i], sizeof commands[i]);
+        wegbaro_answer answer = wegbaro_command(store, sizeof store, n, work, sizeof work, commands[i], sizeof commands[i]);
         print_command(i + 1, answer);
         if (wegbaro_case(answer) == WEGBARO_FORWARDED)
             n = wegbaro_first(answer);

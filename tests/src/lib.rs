@@ -3,6 +3,7 @@
 //! A gate to be tested implements [`gate::Gate`]. [`cases`] holds calls with answers written by hand;
 //! [`compare`] runs a gate against another one on generated networks, commands and inputs.
 
+pub mod build;
 pub mod cases;
 pub mod commands;
 pub mod compare;

@@ -1,33 +1,35 @@
 //! The header and the example in C: built without a warning against the static library, and run.
 
-use std::fs;
-use std::path::Path;
-use std::process::{self, Command};
+use std::process::Command;
+use wegbaro_tests::build::{printed_of_k, root, run, Folder, STRICT};
 
-/// What the example prints, as the program does on the same network and commands.
-const PRINTED: &str = "start holds\n1 blocked 0 3\n2 forwarded 21\n";
+/// Builds the example with a compiler in a language of a standard, and runs it.
+fn example_in(compiler: &str, language: &str, standard: &str) {
+    let folder = Folder::new(env!("CARGO_TARGET_TMPDIR"), standard);
+    let example = folder.path().join("check");
+    let mut compiler = Command::new(compiler);
+    compiler.args(STRICT).arg(format!("-std={standard}")).arg("-I").arg(root().join("include"));
+    compiler.args(["-x", language]).arg(root().join("examples/c/check.c")).args(["-x", "none"]);
+    compiler.arg(root().join("target/staticlib/libwegbaro.a")).arg("-o").arg(&example);
+    run(&mut compiler);
+
+    let ran = run(&mut Command::new(&example));
+    assert_eq!(String::from_utf8_lossy(&ran.stdout), printed_of_k(), "{standard}");
+    assert_eq!(String::from_utf8_lossy(&ran.stderr), "", "{standard}");
+}
 
 #[test]
-fn the_example_in_c() {
-    let root = Path::new(env!("CARGO_MANIFEST_DIR")).join("..");
-    let folder = Path::new(env!("CARGO_TARGET_TMPDIR")).join(format!("c-{}", process::id()));
-    fs::create_dir_all(&folder).unwrap();
-    let example = folder.join("check");
+fn the_example_in_every_c() {
+    for standard in ["c89", "c99", "c11", "c17"] {
+        example_in("cc", "c", standard);
+    }
+}
 
-    let built = Command::new("cc")
-        .args(["-std=c99", "-Wall", "-Wextra", "-Werror", "-pedantic", "-I"])
-        .arg(root.join("include"))
-        .arg(root.join("examples/c/check.c"))
-        .arg(root.join("target/staticlib/libwegbaro.a"))
-        .arg("-o")
-        .arg(&example)
-        .output()
-        .expect("a C compiler is installed as `cc`");
-    assert!(built.status.success(), "{}", String::from_utf8_lossy(&built.stderr));
-
-    let ran = Command::new(&example).output().unwrap();
-    fs::remove_dir_all(&folder).unwrap();
-    assert!(ran.status.success(), "{}", ran.status);
-    assert_eq!(String::from_utf8_lossy(&ran.stdout), PRINTED);
-    assert_eq!(String::from_utf8_lossy(&ran.stderr), "");
+#[test]
+fn the_example_in_cpp() {
+    let there = Command::new("c++").arg("--version").output().is_ok();
+    assert!(there, "a C++ compiler is not installed: on Debian, apt-get install g++");
+    for standard in ["c++98", "c++17"] {
+        example_in("c++", "c++", standard);
+    }
 }

@@ -19,10 +19,6 @@ impl Object {
         self.raw(name, &value.to_string())
     }
 
-    pub fn flag(self, name: &str, value: bool) -> Object {
-        self.raw(name, &value.to_string())
-    }
-
     pub fn object(self, name: &str, value: Object) -> Object {
         self.raw(name, &value.to_string())
     }
@@ -84,7 +80,7 @@ mod tests {
 
     #[test]
     fn fields_stand_in_order_and_strings_are_escaped() {
-        let inner = Object::new().flag("is", true);
+        let inner = Object::new().number("i", 1);
         let object = Object::new()
             .text("a\"b", "c\\d\n\t\r\u{1}\u{7f}ä")
             .number("n", 7)
@@ -92,7 +88,7 @@ mod tests {
             .numbers("l", &[1, 2])
             .and(Object::new().number("m", 8))
             .maybe(None, |object, value| object.number("no", value));
-        let line = r#"{"a\"b":"c\\d\n\t\r\u0001\u007fä","n":7,"o":{"is":true},"l":[1,2],"m":8}"#;
+        let line = r#"{"a\"b":"c\\d\n\t\r\u0001\u007fä","n":7,"o":{"i":1},"l":[1,2],"m":8}"#;
         assert_eq!(object.to_string(), line);
     }
 }

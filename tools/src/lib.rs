@@ -2,6 +2,7 @@
 //! in words. `README.md` describes the text and the program.
 
 pub mod book;
+pub mod breaking;
 pub mod call;
 pub mod causes;
 pub mod compile;

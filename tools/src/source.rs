@@ -3,7 +3,7 @@
 use crate::fault::{whole, Fault};
 use crate::json::Object;
 use crate::names::Names;
-use crate::parse::{parse, Parsed, PolicyText};
+use crate::parse::{parse, Parsed, PolicyText, MOST_FAULTS};
 use crate::print::whole_records;
 use crate::standard;
 use crate::trouble::{Status, Trouble};
@@ -110,7 +110,10 @@ pub fn parsed(file: &OsStr, text: &str) -> Result<Parsed, Trouble> {
 
 /// The faults of a text.
 pub fn fault_trouble(file: &str, text: &str, faults: &[Fault]) -> Trouble {
-    let words: Vec<String> = faults.iter().map(|fault| fault.show(file, text)).collect();
+    let mut words: String = faults.iter().map(|fault| fault.show(file, text)).collect();
+    if faults.len() == MOST_FAULTS {
+        words += &format!("these are the first {MOST_FAULTS} faults\n");
+    }
     let object = |fault: &Fault| {
         Object::new()
             .text("answer", "faulty")
@@ -122,7 +125,7 @@ pub fn fault_trouble(file: &str, text: &str, faults: &[Fault]) -> Trouble {
             .maybe(fault.earlier, |object, line| object.number("earlier", line))
     };
     let objects = faults.iter().map(object).collect();
-    Trouble { status: Status::Faulty, words: words.concat(), objects }
+    Trouble { status: Status::Faulty, words, objects }
 }
 
 /// A command and where it stands.

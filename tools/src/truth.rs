@@ -11,31 +11,26 @@ type Row = [u64; 16];
 pub struct Plane(Vec<Row>);
 
 impl Plane {
+    fn empty(states: usize) -> Plane {
+        Plane(vec![[0; 16]; states])
+    }
+
     fn of(states: usize, is_true: impl Fn(usize, usize) -> bool) -> Plane {
-        let row = |x: usize| {
-            let mut row = [0; 16];
+        let mut plane = Plane::empty(states);
+        for x in 0..states {
             for y in (0..states).filter(|y| is_true(x, *y)) {
-                row[y / 64] |= 1 << (y % 64);
+                plane.add(x, y);
             }
-            row
-        };
-        Plane((0..states).map(row).collect())
+        }
+        plane
+    }
+
+    fn add(&mut self, x: usize, y: usize) {
+        self.0[x][y / 64] |= 1 << (y % 64);
     }
 
     pub fn has(&self, x: usize, y: usize) -> bool {
         self.0[x][y / 64] >> (y % 64) & 1 == 1
-    }
-
-    /// Whether the row, or with `column` the column, of a state has a pair, or has them all.
-    fn some(&self, state: usize, column: bool, all: bool) -> bool {
-        let mut others = 0..self.0.len();
-        let has =
-            |other: usize| if column { self.has(other, state) } else { self.has(state, other) };
-        if all {
-            others.all(has)
-        } else {
-            others.any(has)
-        }
     }
 
     /// Pairs joined by a chain of one or more pairs.
@@ -65,11 +60,10 @@ impl<'a> Truth<'a> {
     pub fn of(network: Network, nodes: &'a [Node]) -> Truth<'a> {
         let states = network.states();
         let state = |number| State::numbered(number, network.widths);
-        let mut steps = Plane(vec![[0; 16]; states]);
+        let mut steps = Plane::empty(states);
         for x in 0..states {
             for next in network.next(state(x)) {
-                let y = next.number(network.widths);
-                steps.0[x][y / 64] |= 1 << (y % 64);
+                steps.add(x, next.number(network.widths));
             }
         }
         let external: Vec<bool> =
@@ -95,7 +89,17 @@ impl<'a> Truth<'a> {
             4 => Plane::of(states, |x, y| operand(one).has(x, y) && operand(other).has(x, y)),
             5 => Plane::of(states, |x, y| operand(one).has(x, y) || operand(other).has(x, y)),
             6 | 7 => {
-                let truth = |state| operand(one).some(state, other == 0, kind == 7);
+                let plane = operand(one);
+                let truth = |free: usize| {
+                    let has = |bound: usize| match other {
+                        0 => plane.has(bound, free),
+                        _ => plane.has(free, bound),
+                    };
+                    match kind {
+                        6 => (0..states).any(has),
+                        _ => (0..states).all(has),
+                    }
+                };
                 let truths: Vec<bool> = (0..states).map(truth).collect();
                 Plane::of(states, |x, y| truths[of(1 - other, x, y)])
             }

@@ -44,24 +44,6 @@ impl Widths {
     pub fn switches(self) -> u8 {
         (1 << self.w) - 1
     }
-
-    /// A state in words.
-    pub fn name(self, state: usize) -> String {
-        let field = |from: u8, width: u8| state >> from & ((1 << width) - 1);
-        let header = field(0, self.h);
-        let port = field(self.h, self.p);
-        let switch = field(self.h + self.p, self.w);
-        let direction = match field(self.bits() - 1, 1) {
-            0 => "arriving",
-            _ => "departing",
-        };
-        let role = match port {
-            0 => " (drop)",
-            _ if port == usize::from(self.controller()) => " (controller)",
-            _ => "",
-        };
-        format!("switch {switch}, port {port}{role}, {direction}, header {header}")
-    }
 }
 
 /// A pattern as 0, 1 and star characters, the most significant first.

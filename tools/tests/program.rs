@@ -303,6 +303,47 @@ fn faults_of_a_text() {
     }
 }
 
+/// A fault is shown with its line, a mark under its column, and a hint.
+#[test]
+fn faults_with_hints() {
+    let ands = "expected `&`, `|` or the end of the policy, found `&&`";
+    let not_seen = "it is not seen on a screen, or it hides what follows; take it out";
+    for (line, column, mark, message, hint) in [
+        ("policy 0: external(X) && arriving(X)", 23, "^^", ands, "write `&` or `and`"),
+        (
+            "policy 0: TC(R(X,Y))(X,X)",
+            11,
+            "^^",
+            "expected a formula, found `TC`",
+            "did you mean `tc`?",
+        ),
+        ("policy 0: E(x)", 13, "^", "expected a variable, `X` or `Y`, found `x`", "write `X`"),
+        ("policy 0: (E(X) & (E(X) & R(X,X))", 11, "^", "this parenthesis is not closed", ""),
+        ("miss 0: \x1b[31m", 9, "^", "the character `\\x1b` may not stand in a text", not_seen),
+    ] {
+        let ran = wegbaro(&["check", "-"], format!("widths H 1 P 2 W 1\n{line}\n").as_bytes());
+        assert_eq!((ran.status, ran.text()), (Some(2), ""));
+        let (line, before) = (line.replace('\x1b', "\\x1b"), " ".repeat(column - 1));
+        let hint = if hint.is_empty() { String::new() } else { format!("  hint: {hint}\n") };
+        let shown =
+            format!("standard input:2:{column}: {message}\n    {line}\n    {before}{mark}\n{hint}");
+        assert_eq!(ran.said, shown);
+    }
+    let twice = b"widths H 1 P 2 W 0\nmiss 0: output drop\npolicy 0: E(X)\npolicy 0: R(X,X)\n";
+    let shown = "standard input:4:8: policy 0 is given already, in line 3\n    policy 0: R(X,X)\n           \
+                 ^\n  earlier: standard input:3:\n    policy 0: E(X)\n";
+    assert_eq!(wegbaro(&["check", "-"], twice).said, shown);
+}
+
+#[test]
+fn the_first_twenty_faults() {
+    let text = format!("widths H 1 P 2 W 1\n{}", "miss x\n".repeat(30));
+    let ran = wegbaro(&["check", "--json", "-"], text.as_bytes());
+    assert_eq!((ran.status, ran.text().lines().count()), (Some(2), 20));
+    assert_eq!(ran.said.matches("standard input:").count(), 20);
+    assert!(ran.said.ends_with("these are the first 20 faults\n"), "{}", ran.said);
+}
+
 /// A long word or name is cut, wherever it is told.
 #[test]
 fn long_words() {

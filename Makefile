@@ -1,0 +1,86 @@
+# Builds and installs Wegbaro. README.md says what has to be there first.
+#
+#   make             proves and builds everything that has changed
+#   make install     installs it under PREFIX, /usr/local if not given; DESTDIR is put in front
+#   make uninstall   removes what `make install` installs
+#   make test        the whole gate, .ci/run
+#
+# `make install` takes what is built and builds only what is not there, so that it needs neither
+# `rt` nor cargo after `make`.
+
+VERSION := $(shell cat VERSION)
+SONAME := libwegbaro.so.$(firstword $(subst ., ,$(VERSION)))
+
+PREFIX ?= /usr/local
+prefix := $(abspath $(PREFIX))
+bindir := $(prefix)/bin
+includedir := $(prefix)/include
+libdir := $(prefix)/lib
+pcdir := $(libdir)/pkgconfig
+docdir := $(prefix)/share/doc/wegbaro
+
+RT ?= rt
+CC ?= cc
+INSTALL ?= install
+
+static := target/staticlib/libwegbaro.a
+shared := target/sharedlib/libwegbaro.so.$(VERSION)
+gate := target/bin/gate
+program := target/rust/release/wegbaro
+
+.PHONY: all proved program shared install uninstall test
+
+all: proved
+	$(MAKE) program shared
+
+# rt finds out itself which crates have changed since they were proved.
+proved:
+	$(RT) staticlib wegbaro
+	$(RT) check gate
+
+# The program is linked with the static library.
+program: $(static)
+	CARGO_TARGET_DIR=target/rust cargo build --release --offline --manifest-path tools/Cargo.toml
+
+shared: $(shared)
+
+$(static):
+	$(RT) staticlib wegbaro
+
+# One after the other: both prove the same crates.
+$(gate): | $(static)
+	$(RT) check gate
+
+$(program):
+	$(MAKE) program
+
+$(shared): $(static) packaging/libwegbaro.map
+	mkdir -p $(@D)
+	$(CC) -shared $(LDFLAGS) -Wl,-soname,$(SONAME) -Wl,--version-script,packaging/libwegbaro.map \
+	    -Wl,-z,defs -Wl,-z,text -Wl,-z,noexecstack -o $@ \
+	    -Wl,--whole-archive $(static) -Wl,--no-whole-archive
+
+install: $(static) $(shared) $(gate) $(program)
+	$(INSTALL) -d $(DESTDIR)$(bindir) $(DESTDIR)$(includedir) $(DESTDIR)$(pcdir) $(DESTDIR)$(docdir)
+	$(INSTALL) -m 755 $(gate) $(DESTDIR)$(bindir)/gate
+	$(INSTALL) -m 755 $(program) $(DESTDIR)$(bindir)/wegbaro
+	$(INSTALL) -m 644 include/wegbaro.h $(DESTDIR)$(includedir)/wegbaro.h
+	$(INSTALL) -m 644 docs/FORMAT.md CHANGELOG.md $(DESTDIR)$(docdir)
+	$(INSTALL) -m 644 $(static) $(DESTDIR)$(libdir)/libwegbaro.a
+	$(INSTALL) -m 755 $(shared) $(DESTDIR)$(libdir)/$(notdir $(shared))
+	ln -sf $(notdir $(shared)) $(DESTDIR)$(libdir)/$(SONAME)
+	ln -sf $(SONAME) $(DESTDIR)$(libdir)/libwegbaro.so
+	sed -e 's|@PREFIX@|$(prefix)|' -e 's|@VERSION@|$(VERSION)|' packaging/wegbaro.pc.in \
+	    > $(DESTDIR)$(pcdir)/wegbaro.pc
+	chmod 644 $(DESTDIR)$(pcdir)/wegbaro.pc
+
+uninstall:
+	rm -f $(DESTDIR)$(bindir)/gate $(DESTDIR)$(bindir)/wegbaro
+	rm -f $(DESTDIR)$(includedir)/wegbaro.h
+	rm -f $(DESTDIR)$(docdir)/FORMAT.md $(DESTDIR)$(docdir)/CHANGELOG.md
+	rm -f $(DESTDIR)$(libdir)/libwegbaro.a $(DESTDIR)$(libdir)/libwegbaro.so
+	rm -f $(DESTDIR)$(libdir)/$(SONAME) $(DESTDIR)$(libdir)/$(notdir $(shared))
+	rm -f $(DESTDIR)$(pcdir)/wegbaro.pc
+
+test:
+	sh .ci/run

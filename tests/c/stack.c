@@ -1,0 +1,82 @@
+/* Measures the stack of the two calls. Reads records as the program `gate` does: a network, then commands. Each call
+ * runs in a thread of its own on a stack filled with a mark, and what it has overwritten is counted down from the frame
+ * of the caller. Prints the bytes of each call, then the bound of the header. */
+
+#include <pthread.h>
+#include <stdio.h>
+#include <stdlib.h>
+#include <string.h>
+
+#include "wegbaro.h"
+
+#define MARK 0xA5
+#define MOST_INPUT (2 * WEGBARO_STORE_BYTES)
+#define STACK_BYTES (16 * WEGBARO_STACK_BYTES)
+
+static unsigned char input[MOST_INPUT];
+static unsigned char store[WEGBARO_STORE_BYTES];
+static unsigned char work[WEGBARO_MOST_WORK_BYTES];
+static unsigned char *stack;
+
+/* A call: the records of the network, and the command, or none for the check call. */
+struct call {
+    size_t n;
+    const unsigned char *command;
+    const unsigned char *frame;
+};
+
+static void *run(void *given)
+{
+    struct call *call = given;
+
+    call->frame = __builtin_frame_address(0);
+    if (call->command)
+        wegbaro_command(store, sizeof store, call->n, work, sizeof work, call->command, WEGBARO_RECORD_BYTES);
+    else
+        wegbaro_check(store, sizeof store, call->n, work, sizeof work);
+    return NULL;
+}
+
+/* The bytes of stack that a call needs. */
+static size_t measured(struct call *call)
+{
+    const unsigned char *lowest = stack;
+    pthread_attr_t attributes;
+    pthread_t thread;
+
+    memset(stack, MARK, STACK_BYTES);
+    if (pthread_attr_init(&attributes) || pthread_attr_setstack(&attributes, stack, STACK_BYTES)
+        || pthread_create(&thread, &attributes, run, call) || pthread_join(thread, NULL)) {
+        fprintf(stderr, "no thread\n");
+        exit(1);
+    }
+    while (*lowest == MARK)
+        lowest++;
+    return (size_t)(call->frame - lowest);
+}
+
+static int is_command(unsigned int kind)
+{
+    return kind >= 6 && kind <= 8;
+}
+
+int main(void)
+{
+    size_t records = fread(input, WEGBARO_RECORD_BYTES, sizeof input / WEGBARO_RECORD_BYTES, stdin);
+    struct call call = {0, NULL, NULL};
+    size_t place;
+
+    if (posix_memalign((void **)&stack, 4096, STACK_BYTES))
+        return 1;
+    while (call.n < records && !is_command(input[call.n * WEGBARO_RECORD_BYTES]))
+        call.n++;
+    memcpy(store, input, sizeof store);
+    printf("check %lu\n", (unsigned long)measured(&call));
+    for (place = call.n; place < records; place++) {
+        memcpy(store, input, sizeof store);
+        call.command = input + place * WEGBARO_RECORD_BYTES;
+        printf("command %lu\n", (unsigned long)measured(&call));
+    }
+    printf("bound %lu\n", (unsigned long)WEGBARO_STACK_BYTES);
+    return 0;
+}

@@ -1,0 +1,59 @@
+//! Programs built and run by tests, in folders of their own.
+
+use std::fs;
+use std::path::{Path, PathBuf};
+use std::process::{self, Command, Output};
+
+/// The flags by which a C compiler accepts nothing doubtful.
+pub const STRICT: [&str; 4] = ["-Wall", "-Wextra", "-Werror", "-pedantic"];
+
+/// The project's root.
+pub fn root() -> PathBuf {
+    Path::new(env!("CARGO_MANIFEST_DIR")).join("..").canonicalize().unwrap()
+}
+
+/// The project's version, from the file VERSION.
+pub fn version() -> String {
+    fs::read_to_string(root().join("VERSION")).unwrap().trim_end().to_owned()
+}
+
+/// What `gate` prints on network K and its two adds, and the example in C likewise.
+pub fn printed_of_k() -> String {
+    fs::read_to_string(root().join("crates/gate/stdout")).unwrap()
+}
+
+/// A new folder under the given one, removed with all that is in it when it goes out of scope.
+pub struct Folder(PathBuf);
+
+impl Folder {
+    pub fn new(under: &str, name: &str) -> Folder {
+        let path = Path::new(under).join(format!("{name}-{}", process::id()));
+        fs::create_dir_all(&path).unwrap();
+        Folder(path.canonicalize().unwrap())
+    }
+
+    pub fn path(&self) -> &Path {
+        &self.0
+    }
+}
+
+impl Drop for Folder {
+    fn drop(&mut self) {
+        // A folder that stays behind does no harm.
+        let _ = fs::remove_dir_all(&self.0);
+    }
+}
+
+/// Runs a command that must end well; what it wrote.
+pub fn run(command: &mut Command) -> Output {
+    let program = command.get_program().to_owned();
+    let out = command.output().unwrap_or_else(|error| panic!("{program:?} must be there: {error}"));
+    let said = String::from_utf8_lossy(&out.stderr);
+    assert!(out.status.success(), "{command:?}: {}\n{said}", out.status);
+    out
+}
+
+/// What a command that must end well wrote on standard output.
+pub fn printed(command: &mut Command) -> String {
+    String::from_utf8(run(command).stdout).unwrap()
+}

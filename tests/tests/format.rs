@@ -1,0 +1,154 @@
+//! What docs/FORMAT.md says of network K: its records, the commands and the changed networks, each
+//! read from the document and held to the proved library.
+
+use std::fs;
+use wegbaro_tests::gate::{Checked, Commanded, Gate, STORE};
+use wegbaro_tests::k::k;
+use wegbaro_tests::library::Library;
+use wegbaro_tests::networks::work_needed;
+use wegbaro_tests::records::{record, Record};
+use wegbaro_tests::second::states::{Direction, Point, State, Widths};
+
+fn document() -> String {
+    let path = concat!(env!("CARGO_MANIFEST_DIR"), "/../docs/FORMAT.md");
+    fs::read_to_string(path).unwrap()
+}
+
+/// The cells of each line of the table whose heading starts with this cell.
+fn table<'a>(document: &'a str, heading: &str) -> Vec<Vec<&'a str>> {
+    let cells = |line: &'a str| line.trim_matches('|').split('|').map(str::trim).collect();
+    let lines = document.lines().skip_while(|line| !line.starts_with(&format!("| {heading} |")));
+    lines.skip(2).take_while(|line| line.starts_with('|')).map(cells).collect()
+}
+
+/// The bytes of words of two hexadecimal digits, up to the first other word.
+fn bytes(text: &str) -> Vec<u8> {
+    let digits = |word: &&str| word.len() == 2;
+    let words = text.split_whitespace().take_while(digits);
+    words.map_while(|word| u8::from_str_radix(word, 16).ok()).collect()
+}
+
+/// The records of a hexadecimal listing whose lines are numbered from 00.
+fn listing(document: &str) -> Vec<Record> {
+    let numbered = |place: usize| format!("    {place:02}  ");
+    let mut found = vec![];
+    for line in document.lines() {
+        if let Some(rest) = line.strip_prefix(&numbered(found.len())) {
+            // Two spaces or more end the bytes.
+            let shown = rest.split("  ").next().unwrap();
+            found.push(record(&bytes(shown)));
+        }
+    }
+    found
+}
+
+fn checked(answer: Checked) -> String {
+    match answer {
+        Checked::Holds => "holds".into(),
+        Checked::Violated { policy, state } => format!("violated {policy} {state}"),
+        Checked::Refused { number, place } => format!("refused {number} {place}"),
+    }
+}
+
+fn commanded(answer: Commanded) -> String {
+    match answer {
+        Commanded::Forwarded { count } => format!("forwarded {count}"),
+        Commanded::Blocked { policy, state } => format!("blocked {policy} {state}"),
+        Commanded::Refused { number, place } => format!("refused {number} {place}"),
+    }
+}
+
+/// The check call's answer to network K changed as the words say.
+fn answer_to(changes: &str) -> String {
+    let mut store = k().concat();
+    let (mut n, mut store_len, mut work_len) = (k().len(), STORE, work_needed(&k()));
+    for change in changes.split(", ") {
+        let (what, value) = change.split_once('=').unwrap();
+        let value: usize = value.parse().unwrap();
+        match (what, what.split_once('.')) {
+            ("n", _) => n = value,
+            ("store", _) => store_len = value,
+            ("work", _) => work_len = value,
+            (_, Some((place, byte))) => {
+                let at: usize = place.parse::<usize>().unwrap() * 24;
+                store[at + byte.parse::<usize>().unwrap()] = value as u8;
+            }
+            _ => panic!("no change: {change}"),
+        }
+    }
+    store.resize(store_len, 0);
+    checked(Library.check(&store, n, &mut vec![0xA5; work_len]))
+}
+
+/// The command call's answer on network K.
+fn answer_on_k(command: &str) -> String {
+    let mut store = k().concat();
+    store.resize(STORE, 0);
+    let mut work = vec![0xA5; work_needed(&k())];
+    commanded(Library.command(&mut store, k().len(), &mut work, &record(&bytes(command))))
+}
+
+#[test]
+fn the_records_of_network_k() {
+    assert_eq!(listing(&document()), k());
+}
+
+/// A state of network K in bits, part by part, and in words.
+fn described(state: State) -> [String; 2] {
+    let State { direction, point: Point { switch, port }, header } = state;
+    let (bit, word) = match direction {
+        Direction::Arriving => (0, "arriving"),
+        Direction::Departing => (1, "departing"),
+    };
+    [
+        format!("`{bit} {switch} {port:02b} {header}`"),
+        format!("{word}, switch {switch}, port {port}, header {header}"),
+    ]
+}
+
+#[test]
+fn the_states_of_network_k() {
+    let document = document();
+    let states = table(&document, "state");
+    assert_eq!(states.len(), 5, "{states:?}");
+    let widths = Widths::within_limits(1, 2, 1).unwrap();
+    for state in states {
+        let numbered = State::numbered(state[0].parse().unwrap(), widths);
+        assert_eq!(described(numbered), [state[1], state[2]]);
+    }
+}
+
+#[test]
+fn the_changed_networks() {
+    let document = document();
+    let examples = table(&document, "changed");
+    assert!(examples.len() > 30, "{examples:?}");
+    for example in examples {
+        let changes = example[0].trim_matches('`');
+        assert_eq!(answer_to(changes), example[1], "{changes}");
+    }
+}
+
+#[test]
+fn the_commands() {
+    let document = document();
+    let examples = table(&document, "command, bytes 0 to 14");
+    assert!(examples.len() >= 10, "{examples:?}");
+    for example in examples {
+        let command = example[0].trim_matches('`');
+        assert_eq!(answer_on_k(command), example[1], "{command}");
+    }
+}
+
+#[test]
+fn the_sizes_of_work() {
+    let document = document();
+    let sizes = table(&document, "N");
+    assert_eq!(sizes.len(), 7, "{sizes:?}");
+    for size in sizes {
+        let number = |cell: &str| cell.replace(',', "").parse::<usize>().unwrap();
+        let [bits, plane, fourteen, most] = [0, 1, 2, 3].map(|column| number(size[column]));
+        assert_eq!(plane, 1 << (2 * bits) >> 3, "N {bits}");
+        assert_eq!([fourteen, most], [16 * plane, 34 * plane], "N {bits}");
+    }
+}

@@ -1,0 +1,98 @@
+//! The stack that the two calls need on the largest networks is within the bound of the header.
+
+use std::fs::{self, File};
+use std::path::Path;
+use std::process::Command;
+use wegbaro_tests::build::{printed, root, run, Folder, STRICT};
+use wegbaro_tests::formulas::{all, and, bit, not, or, policy, r, some, tc, Node, X, Y};
+use wegbaro_tests::gate::{Checked, Gate};
+use wegbaro_tests::library::Library;
+use wegbaro_tests::networks::{largest, largest_without_policies, work_needed};
+use wegbaro_tests::random::Random;
+use wegbaro_tests::records::{add, delete, modify, Record};
+
+/// A formula of 32 nodes in which each node but the first has the one before it as operand, so
+/// that working it out goes 32 nodes deep.
+fn chain(first: Node, next: impl Fn(u8) -> Node) -> Vec<Node> {
+    let deeper = (0..31).map(next);
+    [first].into_iter().chain(deeper).collect()
+}
+
+/// Chains of every kind of node that has operands, with at most X free at the end.
+fn chains() -> [Vec<Node>; 8] {
+    let step = r(X, Y);
+    [
+        chain(bit(X, 0), not),
+        chain(bit(X, 0), |before| and(before, before)),
+        chain(bit(X, 0), |before| or(before, before)),
+        chain(step, |before| some(before, Y)),
+        chain(step, |before| all(before, Y)),
+        chain(step, |before| tc(before, X, X)),
+        chain(step, |before| tc(before, X, if before < 30 { Y } else { X })),
+        chain(step, |before| if before % 2 == 0 { not(before) } else { some(before, Y) }),
+    ]
+}
+
+/// A largest network whose first policy is one of the chains.
+fn chained(first: usize) -> Vec<Record> {
+    let mut records = largest_without_policies(&mut Random::new(first as u64));
+    let mut chains = chains();
+    chains.rotate_left(first);
+    records
+        .extend(chains.iter().enumerate().flat_map(|(number, nodes)| policy(number as u8, nodes)));
+    records
+}
+
+/// A network's records, then commands of every kind on its first and its last rule.
+fn input(network: &[Record]) -> Vec<u8> {
+    let rules: Vec<Record> = network.iter().copied().filter(|record| record[0] == 4).collect();
+    let commands =
+        [rules[0], rules[rules.len() - 1]].map(|rule| [add(rule), modify(rule), delete(rule)]);
+    [network.concat(), commands.concat().concat()].concat()
+}
+
+/// Whether no row refuses a network.
+fn is_judged(network: &[Record]) -> bool {
+    let answer =
+        Library.check(&network.concat(), network.len(), &mut vec![0; work_needed(network)]);
+    !matches!(answer, Checked::Refused { .. })
+}
+
+/// The program that measures.
+fn meter(folder: &Path) -> Command {
+    let built = folder.join("stack");
+    let mut compiler = Command::new("cc");
+    compiler.args(STRICT).args(["-std=c99", "-D_XOPEN_SOURCE=600", "-pthread", "-I"]);
+    compiler.arg(root().join("include")).arg(root().join("tests/c/stack.c"));
+    compiler.arg(root().join("target/staticlib/libwegbaro.a")).arg("-o").arg(&built);
+    run(&mut compiler);
+    Command::new(built)
+}
+
+#[test]
+fn within_the_bound() {
+    let folder = Folder::new(env!("CARGO_TARGET_TMPDIR"), "stack");
+    let mut meter = meter(folder.path());
+    let file = folder.path().join("input");
+    let mut random = Random::new(17);
+    let networks = (0..8).map(chained).chain((0..4).map(|_| largest(&mut random)));
+    let mut most = [0, 0];
+    for network in networks {
+        assert_eq!(network.len(), 641);
+        assert!(is_judged(&network));
+        fs::write(&file, input(&network)).unwrap();
+        let lines = printed(meter.stdin(File::open(&file).unwrap()));
+        for line in lines.lines() {
+            let (what, bytes) = line.split_once(' ').unwrap();
+            let bytes: usize = bytes.parse().unwrap();
+            match what {
+                "check" => most[0] = most[0].max(bytes),
+                "command" => most[1] = most[1].max(bytes),
+                _ => assert!(most.iter().all(|&used| used <= bytes), "{most:?}, {line}"),
+            }
+        }
+    }
+    // A command copies the whole network, so that less was not measured right.
+    println!("check {} bytes, command {} bytes", most[0], most[1]);
+    assert!(most[1] > 641 * 24, "{most:?}");
+}
