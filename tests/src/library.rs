@@ -1,69 +1,30 @@
-//! The proved library, through its calls for C, and the program built on it.
+//! The proved library, through its crate for Rust, and the program built on it.
 
 use crate::gate::{Checked, Commanded, Gate};
 use std::io::Write;
 use std::path::Path;
 use std::process::{Command, Stdio};
-
-#[link(name = "wegbaro", kind = "static")]
-extern "C" {
-    fn wegbaro_check(
-        store: *const u8,
-        store_len: usize,
-        n: usize,
-        work: *mut u8,
-        work_len: usize,
-    ) -> u64;
-    fn wegbaro_command(
-        store: *mut u8,
-        store_len: usize,
-        n: usize,
-        work: *mut u8,
-        work_len: usize,
-        given: *const u8,
-        given_len: usize,
-    ) -> u64;
-}
+use wegbaro::Refusal;
 
 /// The proved library.
 pub struct Library;
 
-/// The case of an answer's code and its two numbers.
-fn parts(code: u64) -> (u64, usize, usize) {
-    (code % 4, (code / 4 % 65_536) as usize, (code / 4 / 65_536) as usize)
-}
-
 impl Gate for Library {
     fn check(&self, store: &[u8], n: usize, work: &mut [u8]) -> Checked {
-        // The two slices are lent for the call alone, and the call takes every length.
-        let code =
-            unsafe { wegbaro_check(store.as_ptr(), store.len(), n, work.as_mut_ptr(), work.len()) };
-        match parts(code) {
-            (0, 0, 0) => Checked::Holds,
-            (1, policy, state) => Checked::Violated { policy, state },
-            (2, number, place) => Checked::Refused { number, place },
-            _ => panic!("no answer of the check call has the code {code}"),
+        match wegbaro::check(store, n, work) {
+            Ok(wegbaro::Checked::Holds) => Checked::Holds,
+            Ok(wegbaro::Checked::Violated { policy, state }) => Checked::Violated { policy, state },
+            Err(Refusal { row, place }) => Checked::Refused { number: row, place },
         }
     }
 
     fn command(&self, store: &mut [u8], n: usize, work: &mut [u8], given: &[u8]) -> Commanded {
-        // The three slices are lent for the call alone, and the call takes every length.
-        let code = unsafe {
-            wegbaro_command(
-                store.as_mut_ptr(),
-                store.len(),
-                n,
-                work.as_mut_ptr(),
-                work.len(),
-                given.as_ptr(),
-                given.len(),
-            )
-        };
-        match parts(code) {
-            (0, count, 0) => Commanded::Forwarded { count },
-            (1, policy, state) => Commanded::Blocked { policy, state },
-            (2, number, place) => Commanded::Refused { number, place },
-            _ => panic!("no answer of the command call has the code {code}"),
+        match wegbaro::command(store, n, work, given) {
+            Ok(wegbaro::Commanded::Forwarded { count }) => Commanded::Forwarded { count },
+            Ok(wegbaro::Commanded::Blocked { policy, state }) => {
+                Commanded::Blocked { policy, state }
+            }
+            Err(Refusal { row, place }) => Commanded::Refused { number: row, place },
         }
     }
 }

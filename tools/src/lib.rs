@@ -1,12 +1,35 @@
-//! A readable text form of networks and commands: text to records and back, and the program's
-//! output lines in words. The form is described in `README.md`.
+//! The program `wegbaro`: networks and commands as text, judged by the proved library, with answers
+//! in words. `README.md` describes the text and the program.
 
-pub mod explain;
+pub mod book;
+pub mod breaking;
+pub mod call;
+pub mod causes;
+pub mod compile;
+pub mod expand;
+pub mod fault;
+pub mod fields;
 pub mod formula;
+pub mod generate;
+pub mod json;
+pub mod judging;
+pub mod names;
+mod naming;
 pub mod parse;
+pub mod picture;
+mod policies;
 pub mod print;
+pub mod program;
+pub mod source;
+pub mod standard;
+pub mod steps;
+pub mod templates;
 pub mod tokens;
+pub mod trouble;
+pub mod truth;
 pub mod widths;
+pub mod words;
+pub mod written;
 
 /// Bytes of a record.
 pub const RECORD: usize = 24;

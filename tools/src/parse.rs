@@ -1,221 +1,410 @@
 //! Text to records.
 //!
-//! What a record's own fields can get wrong is a fault with its line and column. What is wrong
-//! between records, such as a point linked twice, is left to the gate, which refuses it by a row.
+//! What a record's own fields can get wrong is a fault with its line and column, and so is every
+//! statement that would mean something else than it says. What else is wrong between records, such
+//! as a point linked twice, is left to the gate, which refuses it by a row.
 
-use crate::formula::{read_formula, read_nodes};
-use crate::tokens::{statements, Fault, Statement, Token};
-use crate::widths::{read_pattern, Widths};
-use crate::{record, RECORD};
+pub use crate::expand::expand;
+use crate::fault::{nearest, Fault};
+use crate::formula::Formula;
+use crate::names::{Names, Point};
+use crate::policies::Split;
+use crate::tokens::{statements, Place, Statement, Token};
+use crate::widths::Widths;
+use crate::{record, Record, RECORD};
 
 /// The most actions of a rule.
 const MOST_ACTIONS: usize = 4;
+/// The most faults that are told at once.
+pub const MOST_FAULTS: usize = 20;
 
-/// The bytes of a text, and the line of each record's statement.
-#[derive(Clone, Debug, PartialEq, Eq)]
+/// What starts a statement.
+pub(crate) const STATEMENTS: [&str; 11] = [
+    "widths", "name", "ward", "link", "miss", "rule", "policy", "add", "modify", "delete", "bytes",
+];
+
+/// What a text says.
+#[derive(Clone, Debug, Default, PartialEq, Eq)]
 pub struct Parsed {
     pub bytes: Vec<u8>,
+    /// The line of each record's statement.
     pub lines: Vec<usize>,
+    pub names: Names,
+    pub policies: Vec<PolicyText>,
+    /// What is to be said of the text though it is no fault.
+    pub notes: Vec<String>,
 }
 
-/// The records of a text.
-pub fn parse(text: &str) -> Result<Parsed, Fault> {
-    let mut reader = Reader { widths: None };
-    let mut parsed = Parsed { bytes: vec![], lines: vec![] };
-    for mut statement in statements(text)? {
+/// A policy as it stands in a text.
+#[derive(Clone, Debug, PartialEq, Eq)]
+pub struct PolicyText {
+    pub number: u8,
+    pub name: Option<String>,
+    pub line: usize,
+    /// The policy as written, on one line.
+    pub source: String,
+    pub formula: Formula,
+}
+
+/// The records of a text, or its first twenty faults.
+pub fn parse(text: &str) -> Result<Parsed, Vec<Fault>> {
+    let mut reader = Reader::default();
+    let mut parsed = Parsed::default();
+    let mut faults = vec![];
+    for mut statement in statements(text) {
+        if faults.len() == MOST_FAULTS {
+            break;
+        }
         if !parsed.bytes.len().is_multiple_of(RECORD) {
             let message = "only the last statement may have fewer than 24 bytes";
-            return Err(statement.peek().fault(message));
+            faults.push(statement.peek().fault(message));
+            break;
+        }
+        if ["add", "modify", "delete", "bytes"].contains(&statement.peek().text) {
+            faults.extend(parsed.end_policies(&mut reader).err());
         }
         let line = statement.line();
-        parsed.bytes.extend(reader.statement(&mut statement)?);
-        parsed.lines.resize(parsed.bytes.len().div_ceil(RECORD), line);
+        match reader.statement(&mut statement) {
+            Ok(bytes) => parsed.extend(&bytes, line),
+            Err(Unread::Fault(fault)) if reader.follows(&statement, &fault) => {}
+            Err(Unread::Fault(fault)) => faults.push(fault),
+            Err(Unread::WithoutWidths) => {}
+        }
     }
-    Ok(parsed)
+    faults.extend(parsed.end_policies(&mut reader).err());
+    if !faults.is_empty() {
+        faults.sort_by_key(|fault| (fault.line, fault.column));
+        faults.truncate(MOST_FAULTS);
+        return Err(faults);
+    }
+    let Reader { names, policies, notes, .. } = reader;
+    Ok(Parsed { names, policies, notes, ..parsed })
 }
 
-/// Reads statements; patterns and states have the widths of the last widths statement.
-#[derive(Clone, Copy, Debug)]
+impl Parsed {
+    fn extend(&mut self, bytes: &[u8], line: usize) {
+        self.bytes.extend(bytes);
+        self.lines.resize(self.bytes.len().div_ceil(RECORD), line);
+    }
+
+    /// Puts the parts of policies that are too long for one behind the last policy.
+    fn end_policies(&mut self, reader: &mut Reader) -> Result<(), Fault> {
+        for (bytes, line) in reader.rest_of_policies()? {
+            self.extend(&bytes, line);
+        }
+        Ok(())
+    }
+}
+
+/// The record of one command line.
+pub fn parse_command(line: &str, widths: Widths, names: &Names) -> Result<Record, Vec<Fault>> {
+    let mut reader = Reader::with(widths, names.clone());
+    let mut found = statements(line);
+    let place = Place { line: 1, column: 1 };
+    let [statement] = &mut found[..] else {
+        return Err(vec![place.fault(1, "expected one command")]);
+    };
+    statement.sound().map_err(|fault| vec![fault])?;
+    let keyword = statement.peek();
+    if !["add", "modify", "delete", "bytes"].contains(&keyword.text) {
+        return Err(vec![statement.expected("a command (add, modify, delete or bytes)")]);
+    }
+    match reader.statement(statement) {
+        Ok(bytes) if bytes.len() == RECORD => Ok(record(&bytes)),
+        Ok(bytes) => {
+            let message = format!("a record has {RECORD} bytes, these are {}", bytes.len());
+            Err(vec![keyword.fault(message)])
+        }
+        Err(Unread::Fault(fault)) => Err(vec![fault]),
+        Err(Unread::WithoutWidths) => unreachable!("the widths are given"),
+    }
+}
+
+/// Why a statement was not read.
+#[derive(Clone, Debug)]
+pub enum Unread {
+    Fault(Fault),
+    /// The widths statement is faulty, so nothing more can be said of this one.
+    WithoutWidths,
+}
+
+impl From<Fault> for Unread {
+    fn from(fault: Fault) -> Unread {
+        Unread::Fault(fault)
+    }
+}
+
+/// The widths of a text so far.
+#[derive(Clone, Copy, Debug, Default)]
+enum Given {
+    #[default]
+    Not,
+    Faulty,
+    Line(usize),
+}
+
+/// Reads statements one after the other.
+#[derive(Clone, Debug, Default)]
 pub struct Reader {
     pub widths: Option<Widths>,
+    given: Given,
+    pub names: Names,
+    pub(crate) policies: Vec<PolicyText>,
+    /// Number and line of each policy, in the order of the text.
+    pub(crate) numbers: Vec<(u8, usize)>,
+    /// The line of the first command.
+    command: Option<usize>,
+    /// The number of the policy statement that ends just here.
+    pub(crate) open: Option<u8>,
+    /// The ends of links, and their lines.
+    pub(crate) links: Vec<(Point, usize)>,
+    /// Names that faulty statements would have given.
+    lost: Vec<String>,
+    /// Parts of policies that stand after the last one.
+    pub(crate) parts: Vec<Split>,
+    notes: Vec<String>,
 }
 
 impl Reader {
+    /// A reader for statements after a network of these widths and names.
+    pub fn with(widths: Widths, names: Names) -> Reader {
+        Reader { widths: Some(widths), names, ..Reader::default() }
+    }
+
     /// The bytes of one statement.
-    pub fn statement(&mut self, statement: &mut Statement) -> Result<Vec<u8>, Fault> {
+    pub fn statement(&mut self, statement: &mut Statement) -> Result<Vec<u8>, Unread> {
+        statement.sound()?;
         let keyword = statement.peek();
-        let bytes =
-            match keyword.text {
-                "widths" => self.read_widths(statement)?,
-                "link" => self.link(statement)?,
-                "miss" => self.miss(statement)?,
-                "rule" => self.rule(statement, 4)?,
-                "add" => self.rule(statement, 6)?,
-                "modify" => self.rule(statement, 7)?,
-                "delete" => self.rule(statement, 8)?,
-                "policy" => self.policy(statement)?,
-                "bytes" => read_bytes(statement)?,
-                _ => return Err(statement.expected(
-                    "a statement (widths, link, miss, rule, policy, add, modify, delete or bytes)",
-                )),
-            };
+        if !STATEMENTS.contains(&keyword.text) {
+            let what = format!("a statement ({})", list(&STATEMENTS));
+            let fault = statement.expected(&what);
+            return Err(match nearest(keyword.text, STATEMENTS) {
+                Some(word) => fault.hint(format!("did you mean `{word}`?")).into(),
+                None => fault.into(),
+            });
+        }
+        self.in_place(keyword)?;
+        statement.take();
+        let bytes = match keyword.text {
+            "widths" => self.read_widths(keyword, statement)?,
+            "bytes" => self.read_bytes(keyword, statement)?,
+            _ => {
+                let of = self.widths(keyword)?;
+                self.with_widths(keyword, of, statement)?
+            }
+        };
         statement.finish()?;
+        self.note_record(&bytes, keyword.place.line);
+        if !bytes.is_empty() {
+            self.open = bytes.get(1).filter(|_| keyword.text == "policy").copied();
+        }
         Ok(bytes)
     }
 
-    fn read_widths(&mut self, statement: &mut Statement) -> Result<Vec<u8>, Fault> {
-        let keyword = statement.take();
+    /// The bytes of a statement that needs the widths.
+    fn with_widths(
+        &mut self,
+        keyword: Token,
+        of: Widths,
+        statement: &mut Statement,
+    ) -> Result<Vec<u8>, Fault> {
+        match keyword.text {
+            "name" => self.name(of, statement),
+            "ward" => self.ward(of, statement),
+            "link" => self.link(of, statement),
+            "miss" => self.miss(of, statement),
+            "rule" => self.rule(of, statement, 4),
+            "add" => self.rule(of, statement, 6),
+            "modify" => self.rule(of, statement, 7),
+            "delete" => self.rule(of, statement, 8),
+            _ => self.policy(of, statement),
+        }
+    }
+
+    /// A part of the network after a command would be taken for a command, and not be judged.
+    fn in_place(&self, keyword: Token) -> Result<(), Fault> {
+        let of_network = ["widths", "link", "miss", "rule", "policy"].contains(&keyword.text);
+        match self.command {
+            Some(line) if of_network => {
+                let message = format!("`{}` stands after a command (line {line})", keyword.text);
+                let hint = "the network comes first, then the commands";
+                Err(keyword.fault(message).hint(hint).earlier(line))
+            }
+            _ => Ok(()),
+        }
+    }
+
+    /// Keeps what later statements are held against.
+    pub(crate) fn note_record(&mut self, bytes: &[u8], line: usize) {
+        match bytes {
+            [2, one, two, three, four, ..] => {
+                self.links.extend([([*one, *two], line), ([*three, *four], line)]);
+            }
+            [6..=8, ..] => self.command = self.command.or(Some(line)),
+            [5, number, ..] if self.numbers.last().map(|(last, _)| last) != Some(number) => {
+                self.numbers.push((*number, line));
+            }
+            _ => {}
+        }
+    }
+
+    fn read_widths(&mut self, keyword: Token, statement: &mut Statement) -> Result<Vec<u8>, Fault> {
+        if let Given::Line(line) = self.given {
+            let message = format!("the widths are given already, in line {line}");
+            return Err(keyword.fault(message).earlier(line));
+        }
+        self.given = Given::Faulty;
         statement.expect("H")?;
         let h = statement.byte("the header width", 6)?;
         statement.expect("P")?;
         let p = statement.byte("the port width", 4)?;
         statement.expect("W")?;
         let w = statement.byte("the switch width", 4)?;
+        statement.finish()?;
         let widths = Widths { h, p, w };
         if !widths.within_limits() {
             let message =
                 "the limits are H 1 to 6, P 2 to 4, W 0 to 4, and 1 + H + P + W at most 10";
             return Err(keyword.fault(message));
         }
+        self.given = Given::Line(keyword.place.line);
         self.widths = Some(widths);
+        self.names.widths = Some(widths);
         Ok(record(&[1, h, p, w]).to_vec())
     }
 
-    /// The widths for the statement that starts with the keyword.
-    fn widths(&self, keyword: Token) -> Result<Widths, Fault> {
-        self.widths.ok_or_else(|| keyword.fault("expected `widths` before this statement"))
+    /// The widths for the statement that starts with the keyword. That they are missing is told once.
+    fn widths(&mut self, keyword: Token) -> Result<Widths, Unread> {
+        match (self.widths, self.given) {
+            (Some(widths), _) => Ok(widths),
+            (None, Given::Faulty) => Err(Unread::WithoutWidths),
+            (None, _) => {
+                self.given = Given::Faulty;
+                Err(keyword.fault("expected `widths` before this statement").into())
+            }
+        }
     }
 
-    fn link(&self, statement: &mut Statement) -> Result<Vec<u8>, Fault> {
-        let of = self.widths(statement.take())?;
-        let [switch, port] = read_point(statement, of)?;
+    /// Whether a fault is there only because a name was not given in a faulty statement. If the faulty
+    /// statement itself gives a name, that is kept.
+    fn follows(&mut self, statement: &Statement, fault: &Fault) -> bool {
+        let name = match statement.first() {
+            "name" => statement.words().last(),
+            "ward" => statement.words().nth(1),
+            _ => None,
+        };
+        let place = Place { line: fault.line, column: fault.column };
+        let word = statement.word_at(place);
+        let follows = word.is_some_and(|word| self.lost.iter().any(|lost| lost == word));
+        self.lost.extend(name.filter(|name| self.names.named(name).is_none()).map(String::from));
+        follows
+    }
+
+    fn link(&self, of: Widths, statement: &mut Statement) -> Result<Vec<u8>, Fault> {
+        let [switch, port] = self.point(of, statement)?;
         statement.expect("-")?;
-        let [other_switch, other_port] = read_point(statement, of)?;
+        let [other_switch, other_port] = self.point(of, statement)?;
         Ok(record(&[2, switch, port, other_switch, other_port]).to_vec())
     }
 
-    fn miss(&self, statement: &mut Statement) -> Result<Vec<u8>, Fault> {
-        let of = self.widths(statement.take())?;
-        let mut bytes = vec![3, read_switch(statement, of)?, 0, 0, 0, 0, 0, 0];
-        bytes.extend(read_actions(statement, of)?);
+    fn miss(&mut self, of: Widths, statement: &mut Statement) -> Result<Vec<u8>, Fault> {
+        let switch = self.switch(of, statement)?;
+        let mut bytes = vec![3, switch, 0, 0, 0, 0, 0, 0];
+        bytes.extend(self.actions(of, switch, statement)?);
         Ok(record(&bytes).to_vec())
     }
 
-    fn rule(&self, statement: &mut Statement, kind: u8) -> Result<Vec<u8>, Fault> {
-        let of = self.widths(statement.take())?;
-        let switch = read_switch(statement, of)?;
+    fn rule(&mut self, of: Widths, statement: &mut Statement, kind: u8) -> Result<Vec<u8>, Fault> {
+        let switch = self.switch(of, statement)?;
         statement.expect("priority")?;
         let [low, high] = statement.number("a priority", u16::MAX)?.to_le_bytes();
         let port = match statement.accept("port") {
-            true => port_pattern(statement, of)?,
+            true => self.port_pattern(of, Some(switch), statement)?,
             false => [0, 0],
         };
         let header = match statement.accept("header") {
-            true => header_pattern(statement, of)?,
+            true => self.header_pattern(of, statement)?,
             false => [0, 0],
         };
         let mut bytes = vec![kind, switch, low, high, port[0], port[1], header[0], header[1]];
         if kind != 8 {
-            bytes.extend(read_actions(statement, of)?);
+            bytes.extend(self.actions(of, switch, statement)?);
         }
         Ok(record(&bytes).to_vec())
     }
 
-    fn policy(&self, statement: &mut Statement) -> Result<Vec<u8>, Fault> {
-        let of = self.widths(statement.take())?;
-        let number = statement.byte("the number of a policy", 7)?;
-        let nodes = match statement.accept("nodes") {
-            true => {
-                statement.expect(":")?;
-                read_nodes(statement, of.bits())?
-            }
-            false => {
-                statement.expect(":")?;
-                read_formula(statement, of.bits())?
-            }
-        };
-        let node = |[kind, one, other]: [u8; 3]| record(&[5, number, kind, one, other]);
-        Ok(nodes.into_iter().flat_map(node).collect())
-    }
-}
-
-fn read_switch(statement: &mut Statement, of: Widths) -> Result<u8, Fault> {
-    statement.byte("a switch", (1 << of.w) - 1)
-}
-
-fn read_point(statement: &mut Statement, of: Widths) -> Result<[u8; 2], Fault> {
-    let switch = read_switch(statement, of)?;
-    statement.expect(":")?;
-    Ok([switch, statement.byte("a port", of.controller())?])
-}
-
-/// Value and care of a port pattern.
-fn port_pattern(statement: &mut Statement, of: Widths) -> Result<[u8; 2], Fault> {
-    if statement.accept("drop") {
-        return Ok([0, of.controller()]);
-    }
-    if statement.accept("controller") {
-        return Ok([of.controller(), of.controller()]);
-    }
-    read_pattern_of(statement, "port", of.p)
-}
-
-/// Value and care of a header pattern.
-fn header_pattern(statement: &mut Statement, of: Widths) -> Result<[u8; 2], Fault> {
-    read_pattern_of(statement, "header", of.h)
-}
-
-fn read_pattern_of(statement: &mut Statement, what: &str, width: u8) -> Result<[u8; 2], Fault> {
-    let Some(pattern) = read_pattern(statement.peek().text, width) else {
-        let most = (1u8 << width) - 1;
-        let form = format!("a {what} pattern (0, 1 or *, {width} long) or a number to {most}");
-        return Err(statement.expected(&form));
-    };
-    statement.take();
-    Ok(pattern)
-}
-
-/// Action count and actions, from the colon on; the last is an output.
-fn read_actions(statement: &mut Statement, of: Widths) -> Result<Vec<u8>, Fault> {
-    statement.expect(":")?;
-    let mut bytes = vec![0];
-    loop {
-        let action = statement.peek();
-        if usize::from(bytes[0]) == MOST_ACTIONS {
-            return Err(action.fault(format!("there are more than {MOST_ACTIONS} actions")));
+    /// Says a thing once for all lines.
+    pub(crate) fn note(&mut self, note: String) {
+        let about = |note: &str| note.split_once(": ").map(|(_, rest)| rest.to_string());
+        if !self.notes.iter().any(|other| about(other) == about(&note)) {
+            self.notes.push(note);
         }
-        let (kind, [value, care]) = if statement.accept("output") {
-            (1, port_pattern(statement, of)?)
-        } else if statement.accept("set") {
-            (2, header_pattern(statement, of)?)
-        } else {
-            return Err(statement.expected("an action (`output` or `set`)"));
-        };
-        bytes[0] += 1;
-        bytes.extend([kind, value, care]);
-        if !statement.accept(",") {
-            return match kind {
-                1 => Ok(bytes),
-                _ => Err(action.fault("the last action must be `output`")),
+    }
+
+    /// Action count and actions, from the colon on; the last is an output.
+    fn actions(
+        &mut self,
+        of: Widths,
+        switch: u8,
+        statement: &mut Statement,
+    ) -> Result<Vec<u8>, Fault> {
+        statement.expect(":")?;
+        let mut bytes = vec![0];
+        loop {
+            let action = statement.peek();
+            if usize::from(bytes[0]) == MOST_ACTIONS {
+                return Err(action.fault(format!("there are more than {MOST_ACTIONS} actions")));
+            }
+            let (kind, [value, care]) = if statement.accept("output") {
+                (1, self.port_pattern(of, Some(switch), statement)?)
+            } else if statement.accept("set") {
+                (2, self.header_pattern(of, statement)?)
+            } else {
+                return Err(statement.expected("an action (`output` or `set`)"));
             };
+            bytes[0] += 1;
+            bytes.extend([kind, value, care]);
+            if !statement.accept(",") {
+                return match kind {
+                    1 => Ok(bytes),
+                    _ => Err(action.fault("the last action must be `output`")),
+                };
+            }
+        }
+    }
+
+    /// One record, or a part of one, byte by byte.
+    fn read_bytes(&mut self, keyword: Token, statement: &mut Statement) -> Result<Vec<u8>, Fault> {
+        let mut bytes = vec![];
+        while bytes.len() < RECORD {
+            let text = statement.peek().text;
+            if text.is_empty() && !bytes.is_empty() {
+                break;
+            }
+            match u8::from_str_radix(text, 16) {
+                Ok(byte) if text.len() == 2 => bytes.push(byte),
+                _ => return Err(statement.expected("a byte as two hexadecimal digits")),
+            }
+            statement.take();
+        }
+        let goes_on = bytes.len() == RECORD && bytes[0] == 5 && self.open == Some(bytes[1]);
+        match self.policies.last() {
+            Some(policy) if goes_on && Some(policy.number) == self.open => {
+                let message = format!(
+                    "these bytes would go on with policy {} of line {}",
+                    policy.number, policy.line
+                );
+                Err(keyword.fault(message).earlier(policy.line))
+            }
+            _ => Ok(bytes),
         }
     }
 }
 
-/// One record, or a part of one, byte by byte.
-fn read_bytes(statement: &mut Statement) -> Result<Vec<u8>, Fault> {
-    statement.take();
-    let mut bytes = vec![];
-    while bytes.len() < RECORD {
-        let text = statement.peek().text;
-        if text.is_empty() && !bytes.is_empty() {
-            break;
-        }
-        match u8::from_str_radix(text, 16) {
-            Ok(byte) if text.len() == 2 => bytes.push(byte),
-            _ => return Err(statement.expected("a byte as two hexadecimal digits")),
-        }
-        statement.take();
+/// Words as a list in a sentence.
+fn list(words: &[&str]) -> String {
+    match words {
+        [first @ .., last] if !first.is_empty() => format!("{} or {last}", first.join(", ")),
+        _ => words.join(""),
     }
-    Ok(bytes)
 }

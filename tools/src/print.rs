@@ -2,9 +2,10 @@
 //! printed byte by byte, so nothing is lost whatever the bytes are.
 
 use crate::formula::{print_formula, print_nodes, Node};
+use crate::names::Names;
 use crate::parse::Reader;
 use crate::tokens::statements;
-use crate::widths::{pattern, port_pattern, Widths};
+use crate::widths::{pattern_word, Widths};
 use crate::{Record, RECORD};
 
 /// The most characters of a printed line.
@@ -12,7 +13,7 @@ const LINE: usize = 100;
 
 /// The text of any bytes.
 pub fn print(bytes: &[u8]) -> String {
-    let mut reader = Reader { widths: None };
+    let mut reader = Reader::default();
     let mut text = String::new();
     let (records, rest) = whole_records(bytes);
     let mut place = 0;
@@ -42,7 +43,7 @@ pub fn whole_records(bytes: &[u8]) -> (Vec<Record>, &[u8]) {
 
 /// One record in the words of its statement, or byte by byte.
 pub fn print_record(widths: Option<Widths>, record: &Record) -> String {
-    let mut reader = Reader { widths };
+    let mut reader = widths.map_or_else(Reader::default, |of| Reader::with(of, Names::default()));
     let statement = plain(widths, record).filter(|text| gives(&mut reader, text, record));
     statement.unwrap_or_else(|| print_bytes(record).trim_end().to_string())
 }
@@ -53,20 +54,24 @@ fn first_statement(reader: &mut Reader, records: &[Record]) -> (usize, String) {
     if first[0] == 5 {
         let same = |record: &&Record| record[..2] == first[..2];
         let policy: Vec<Record> = records.iter().take_while(same).copied().collect();
-        if let Some(text) = print_policy(reader, &policy) {
+        let title = format!("policy {}", first[1]);
+        if let Some(text) = print_policy(reader, &title, &policy) {
             return (policy.len(), text);
         }
     }
     match plain(reader.widths, first) {
         Some(text) if gives(reader, &text, first) => (1, format!("{text}\n")),
-        _ => (1, print_bytes(first)),
+        _ => {
+            reader.note_record(first, 0);
+            (1, print_bytes(first))
+        }
     }
 }
 
 /// Whether the text is read as these bytes; if so, the reader goes on from there.
 fn gives(reader: &mut Reader, text: &str, bytes: &[u8]) -> bool {
-    let mut next = *reader;
-    let Ok(mut found) = statements(text) else { return false };
+    let mut next = reader.clone();
+    let mut found = statements(text);
     let [statement] = &mut found[..] else { return false };
     let same = next.statement(statement).is_ok_and(|read| read == bytes);
     if same {
@@ -97,8 +102,8 @@ fn plain(widths: Option<Widths>, record: &Record) -> Option<String> {
         _ => return None,
     };
     let priority = u16::from_le_bytes([two, three]);
-    let port = port_pattern(four, record[5], of.p);
-    let header = pattern(record[6], record[7], of.h);
+    let port = pattern_word(four, record[5], of.p);
+    let header = pattern_word(record[6], record[7], of.h);
     let rule = format!("{keyword} {one} priority {priority} port {port} header {header}");
     match kind {
         8 => Some(rule),
@@ -109,28 +114,28 @@ fn plain(widths: Option<Widths>, record: &Record) -> Option<String> {
 fn print_actions(of: Widths, record: &Record) -> Option<String> {
     let used = record[9..21].chunks(3).take(record[8].into());
     let action = |action: &[u8]| match action[0] {
-        1 => Some(format!("output {}", port_pattern(action[1], action[2], of.p))),
-        2 => Some(format!("set {}", pattern(action[1], action[2], of.h))),
+        1 => Some(format!("output {}", pattern_word(action[1], action[2], of.p))),
+        2 => Some(format!("set {}", pattern_word(action[1], action[2], of.h))),
         _ => None,
     };
     let actions: Option<Vec<String>> = used.map(action).collect();
     Some(actions?.join(", "))
 }
 
-/// The nodes of one policy: as a formula if that gives the same nodes, otherwise as a node list
-/// with the formula as a comment.
-fn print_policy(reader: &mut Reader, records: &[Record]) -> Option<String> {
-    let number = records[0][1];
+/// The nodes of one policy under its title: as a formula if that gives the same nodes, otherwise as a
+/// node list with the formula as a comment.
+pub fn print_policy(reader: &mut Reader, title: &str, records: &[Record]) -> Option<String> {
     let nodes: Vec<Node> = records.iter().map(|node| [node[2], node[3], node[4]]).collect();
     let bytes = records.concat();
     let formula = print_formula(&nodes);
     if let Some(formula) = &formula {
-        let text = wrapped("", &format!("policy {number}: {formula}"), " ");
+        let text = wrapped("", &format!("{title}: {formula}"), " ");
         if gives(reader, &text, &bytes) {
             return Some(text);
         }
     }
-    let list = wrapped("", &format!("policy {number} nodes: {}", print_nodes(&nodes)?), "; ");
+    let list = wrapped("", &format!("{title} nodes: {}", print_nodes(&nodes)?), "; ");
+    let number = records[0][1];
     let comment =
         formula.map(|formula| wrapped("# ", &format!("policy {number} is {formula}"), " "));
     gives(reader, &list, &bytes).then(|| comment.unwrap_or_default() + &list)

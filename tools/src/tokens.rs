@@ -1,6 +1,6 @@
 //! Statements as words and symbols with their places.
 
-use std::fmt;
+use crate::fault::{is_hidden, quoted, Fault};
 
 /// A line and a column, both from 1.
 #[derive(Clone, Copy, Debug, PartialEq, Eq)]
@@ -9,20 +9,15 @@ pub struct Place {
     pub column: usize,
 }
 
-/// What is wrong with a text, and where.
-#[derive(Clone, Debug, PartialEq, Eq)]
-pub struct Fault {
-    pub place: Place,
-    pub message: String,
-}
-
-impl fmt::Display for Fault {
-    fn fmt(&self, f: &mut fmt::Formatter<'_>) -> fmt::Result {
-        write!(f, "line {}, column {}: {}", self.place.line, self.place.column, self.message)
+impl Place {
+    /// A fault over so many characters.
+    pub fn fault(self, len: usize, message: impl Into<String>) -> Fault {
+        let Place { line, column } = self;
+        Fault { line, column, len, message: message.into(), hint: None, earlier: None }
     }
 }
 
-/// A word or a symbol.
+/// A word, a symbol, or a text in quotes.
 #[derive(Clone, Copy, Debug, PartialEq, Eq)]
 pub struct Token<'a> {
     pub text: &'a str,
@@ -32,7 +27,12 @@ pub struct Token<'a> {
 impl Token<'_> {
     /// A fault at this token.
     pub fn fault(&self, message: impl Into<String>) -> Fault {
-        Fault { place: self.place, message: message.into() }
+        self.place.fault(self.text.chars().count().max(1), message)
+    }
+
+    /// The column behind this token.
+    fn behind(&self) -> usize {
+        self.place.column + self.text.chars().count()
     }
 }
 
@@ -41,35 +41,76 @@ impl Token<'_> {
 pub struct Statement<'a> {
     tokens: Vec<Token<'a>>,
     read: usize,
+    start: Place,
     end: Place,
+    /// What is wrong with its characters or its lines.
+    fault: Option<Fault>,
 }
 
 /// The statements of a text. A line that starts with a space or a tab continues the one before.
-pub fn statements(text: &str) -> Result<Vec<Statement<'_>>, Fault> {
+pub fn statements(text: &str) -> Vec<Statement<'_>> {
     let mut found: Vec<Statement> = vec![];
+    // A blank line, or a comment from the first column on, ends what may be continued.
+    let mut ended = false;
     for (number, line) in text.lines().enumerate() {
-        let tokens = line_tokens(number + 1, line)?;
-        let Some(last) = tokens.last() else { continue };
-        let column = last.place.column + last.text.chars().count();
-        let end = Place { line: number + 1, column };
-        let continues = line.starts_with([' ', '\t']);
-        match found.last_mut() {
-            Some(before) if continues => {
-                before.tokens.extend(tokens);
-                before.end = end;
-            }
-            _ => found.push(Statement { tokens, read: 0, end }),
+        let line = match number {
+            0 => line.strip_prefix('\u{feff}').unwrap_or(line),
+            _ => line,
+        };
+        let continues = line.starts_with([' ', '\t']) && !found.is_empty();
+        let (tokens, mut fault) = line_tokens(number + 1, line);
+        if tokens.is_empty() && fault.is_none() {
+            ended |= !continues || line.trim().is_empty();
+            continue;
         }
+        let start = match (tokens.first(), &fault) {
+            (Some(token), _) => token.place,
+            (None, Some(fault)) => Place { line: fault.line, column: fault.column },
+            (None, None) => Place { line: number + 1, column: 1 },
+        };
+        let end = match tokens.last() {
+            Some(token) => Place { line: number + 1, column: token.behind() },
+            None => start,
+        };
+        if !continues {
+            found.push(Statement { tokens, read: 0, start, end, fault });
+        } else if let Some(before) = found.last_mut() {
+            if ended {
+                fault = Some(apart(start, before));
+            }
+            before.tokens.extend(tokens);
+            before.end = end;
+            before.fault = before.fault.take().or(fault);
+        }
+        ended = false;
     }
-    Ok(found)
+    found
+}
+
+/// The fault of a line that would continue a statement which does not stand directly before it.
+fn apart(start: Place, before: &Statement) -> Fault {
+    let message = "this line starts with a space, but the line before it is no statement";
+    let hint = "a statement is continued on the next line; an indented comment may stand between";
+    start.fault(1, message).hint(hint).earlier(before.end.line)
 }
 
 fn is_word(character: char) -> bool {
-    character.is_ascii_alphanumeric() || character == '*'
+    character.is_ascii_alphanumeric() || character == '*' || character == '_'
 }
 
-/// The tokens of a line up to its comment.
-fn line_tokens(line: usize, text: &str) -> Result<Vec<Token<'_>>, Fault> {
+/// Symbols of two characters; some have no meaning but a hint.
+const DOUBLE: [&str; 7] = ["!=", "&&", "||", "==", "->", "=>", "<>"];
+
+/// The tokens of a line up to its comment, and what is wrong with its characters.
+fn line_tokens(line: usize, text: &str) -> (Vec<Token<'_>>, Option<Fault>) {
+    let hidden = text.chars().position(|c| is_hidden(c) && c != '\t');
+    if let Some(column) = hidden {
+        let character = text.chars().nth(column).map(String::from).unwrap_or_default();
+        let place = Place { line, column: column + 1 };
+        let message = format!("the character `{}` may not stand in a text", quoted(&character));
+        let hint = "it is not seen on a screen, or it hides what follows; take it out";
+        return (vec![], Some(place.fault(1, message).hint(hint)));
+    }
     let mut tokens = vec![];
     let mut column = 1;
     let mut rest = text;
@@ -77,33 +118,74 @@ fn line_tokens(line: usize, text: &str) -> Result<Vec<Token<'_>>, Fault> {
         let place = Place { line, column };
         let length = match first {
             '#' => break,
-            _ if first.is_whitespace() => first.len_utf8(),
+            ' ' | '\t' => 1,
+            '"' => match rest[1..].find('"') {
+                Some(length) => length + 2,
+                None => {
+                    let fault = place.fault(1, "this quote is not closed on its line");
+                    return (tokens, Some(fault));
+                }
+            },
             _ if is_word(first) => rest.find(|c| !is_word(c)).unwrap_or(rest.len()),
-            ':' | ';' | ',' | '.' | '-' | '(' | ')' | '!' | '&' | '|' => 1,
+            _ if DOUBLE.iter().any(|double| rest.starts_with(double)) => 2,
+            ':' | ';' | ',' | '.' | '-' | '(' | ')' | '!' | '&' | '|' | '=' => 1,
             _ => {
-                let message = format!("`{first}` has no meaning here");
-                return Err(Fault { place, message });
+                let message = format!("`{}` has no meaning here", quoted(&first.to_string()));
+                return (tokens, Some(place.fault(1, message)));
             }
         };
         let (token, behind) = rest.split_at(length);
-        if !first.is_whitespace() {
+        if first != ' ' && first != '\t' {
             tokens.push(Token { text: token, place });
         }
         column += token.chars().count();
         rest = behind;
     }
-    Ok(tokens)
+    (tokens, None)
 }
 
 impl<'a> Statement<'a> {
     /// The line on which the statement starts.
     pub fn line(&self) -> usize {
-        self.tokens[0].place.line
+        self.start.line
+    }
+
+    /// The line on which the statement ends.
+    pub fn last_line(&self) -> usize {
+        self.end.line
+    }
+
+    /// What is wrong with its characters or its lines, if anything is.
+    pub fn sound(&self) -> Result<(), Fault> {
+        match &self.fault {
+            Some(fault) => Err(fault.clone()),
+            None => Ok(()),
+        }
+    }
+
+    /// The words and symbols, read or not.
+    pub fn words(&self) -> impl Iterator<Item = &'a str> + '_ {
+        self.tokens.iter().map(|token| token.text)
+    }
+
+    /// The first word; an empty one if there is none.
+    pub fn first(&self) -> &'a str {
+        self.words().next().unwrap_or_default()
+    }
+
+    /// The word or symbol at a place.
+    pub fn word_at(&self, place: Place) -> Option<&'a str> {
+        self.tokens.iter().find(|token| token.place == place).map(|token| token.text)
     }
 
     /// The next token; an empty one at the end.
     pub fn peek(&self) -> Token<'a> {
-        match self.tokens.get(self.read) {
+        self.ahead(0)
+    }
+
+    /// The token so many behind the next.
+    pub fn ahead(&self, by: usize) -> Token<'a> {
+        match self.tokens.get(self.read + by) {
             Some(token) => *token,
             None => Token { text: "", place: self.end },
         }
@@ -116,12 +198,32 @@ impl<'a> Statement<'a> {
         token
     }
 
+    /// The token read last.
+    pub fn last(&self) -> Token<'a> {
+        self.tokens[self.read.max(1) - 1]
+    }
+
+    /// The text that is left to read, without comments and on one line.
+    pub fn rest(&self) -> String {
+        let mut text = String::new();
+        let mut behind = None;
+        for token in self.tokens.iter().skip(self.read) {
+            let follows = behind == Some(token.place);
+            if !text.is_empty() && !follows {
+                text.push(' ');
+            }
+            text.push_str(token.text);
+            behind = Some(Place { column: token.behind(), ..token.place });
+        }
+        text
+    }
+
     /// A fault at the next token, which is not what was expected.
     pub fn expected(&self, what: &str) -> Fault {
         let token = self.peek();
         match token.text {
             "" => token.fault(format!("expected {what}, found the end of the statement")),
-            text => token.fault(format!("expected {what}, found `{text}`")),
+            text => token.fault(format!("expected {what}, found `{}`", quoted(text))),
         }
     }
 
@@ -134,6 +236,15 @@ impl<'a> Statement<'a> {
         is_next
     }
 
+    /// Reads the words and symbols if they are the next tokens.
+    pub fn accept_all(&mut self, words: &[&str]) -> bool {
+        let are_next = words.iter().enumerate().all(|(by, word)| self.ahead(by).text == *word);
+        if are_next {
+            self.read += words.len();
+        }
+        are_next
+    }
+
     /// Reads the word or symbol.
     pub fn expect(&mut self, text: &str) -> Result<(), Fault> {
         match self.accept(text) {
@@ -142,12 +253,10 @@ impl<'a> Statement<'a> {
         }
     }
 
-    /// Reads a decimal number from 0 to the most.
+    /// Reads a decimal number from 0 to the most, which has no leading zero.
     pub fn number(&mut self, what: &str, most: u16) -> Result<u16, Fault> {
-        let text = self.peek().text;
-        let is_number = !text.is_empty() && text.bytes().all(|byte| byte.is_ascii_digit());
-        match text.parse() {
-            Ok(number) if is_number && number <= most => {
+        match self.peek().text.parse::<u16>() {
+            Ok(number) if number <= most && number.to_string() == self.peek().text => {
                 self.read += 1;
                 Ok(number)
             }

@@ -35,22 +35,14 @@ impl Widths {
         (1 << self.p) - 1
     }
 
-    /// A state in words.
-    pub fn name(self, state: usize) -> String {
-        let field = |from: u8, width: u8| state >> from & ((1 << width) - 1);
-        let header = field(0, self.h);
-        let port = field(self.h, self.p);
-        let switch = field(self.h + self.p, self.w);
-        let direction = match field(self.bits() - 1, 1) {
-            0 => "arriving",
-            _ => "departing",
-        };
-        let role = match port {
-            0 => " (drop)",
-            _ if port == usize::from(self.controller()) => " (controller)",
-            _ => "",
-        };
-        format!("switch {switch}, port {port}{role}, {direction}, header {header}")
+    /// The highest header.
+    pub fn headers(self) -> u8 {
+        (1 << self.h) - 1
+    }
+
+    /// The highest switch.
+    pub fn switches(self) -> u8 {
+        (1 << self.w) - 1
     }
 }
 
@@ -64,18 +56,22 @@ pub fn pattern(value: u8, care: u8, width: u8) -> String {
     (0..width).rev().map(character).collect()
 }
 
-/// A port pattern: a number if it has no star.
-pub fn port_pattern(value: u8, care: u8, width: u8) -> String {
+/// A pattern: a number if it has no star.
+pub fn pattern_word(value: u8, care: u8, width: u8) -> String {
     match care == (1 << width) - 1 {
         true => value.to_string(),
         false => pattern(value, care, width),
     }
 }
 
-/// Value and care of a word: as many 0, 1 and star characters as the width, or a shorter decimal
-/// number without leading zeros. A number within a width above 1 is always shorter than the width.
+/// Value and care of a word: as many 0, 1 and star characters as the width, a shorter decimal number
+/// without leading zeros, or one star for stars only. A number within a width above 1 is always
+/// shorter than the width.
 pub fn read_pattern(word: &str, width: u8) -> Option<[u8; 2]> {
     let full = (1 << width) - 1;
+    if word == "*" {
+        return Some([0, 0]);
+    }
     if word.len() < usize::from(width) {
         let value = word.parse::<u8>().ok()?;
         return (value <= full && word == value.to_string()).then_some([value, full]);

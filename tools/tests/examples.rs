@@ -1,51 +1,70 @@
-//! The example wards through the program.
+//! The example wards through the programs.
 
-mod common;
+mod running;
 
-use common::parsed;
+use running::wegbaro;
 use std::fs;
 use std::path::{Path, PathBuf};
 use wegbaro_tests::library::program;
 use wegbaro_tests::second;
-use wegbaro_tools::explain::Input;
-use wegbaro_tools::parse::Parsed;
-use wegbaro_tools::print::{print, whole_records};
+use wegbaro_tools::print::whole_records;
 use wegbaro_tools::Record;
 
 fn folder() -> PathBuf {
     Path::new(env!("CARGO_MANIFEST_DIR")).join("../examples")
 }
 
-fn read(example: &str, file: &str) -> String {
-    let path = folder().join(example).join(file);
-    fs::read_to_string(&path).unwrap_or_else(|error| panic!("{}: {error}", path.display()))
+fn file(example: &str, file: &str) -> String {
+    folder().join(example).join(file).to_str().unwrap().to_string()
 }
 
-fn network(example: &str) -> Parsed {
-    parsed(&read(example, "network.txt"))
+fn read(example: &str, name: &str) -> String {
+    let path = file(example, name);
+    fs::read_to_string(&path).unwrap_or_else(|error| panic!("{path}: {error}"))
 }
 
-/// Runs every example ward: the program's lines and the words for them are those on file.
+/// The records of an example.
+fn records(example: &str) -> Vec<u8> {
+    let ran = wegbaro(&["records", &file(example, "network.txt")], b"");
+    assert_eq!(ran.status, Some(0), "{example}: {}", ran.said);
+    ran.bytes
+}
+
+/// The examples, each a folder with a network.
+fn examples() -> Vec<String> {
+    let entries = fs::read_dir(folder()).unwrap().map(|entry| entry.unwrap());
+    let examples = entries.filter(|entry| entry.path().join("network.txt").exists());
+    let mut names: Vec<String> =
+        examples.map(|entry| entry.file_name().into_string().unwrap()).collect();
+    names.sort();
+    names
+}
+
+/// Every example: the words are those on file, also for the gate's lines, if it has the work.
 #[test]
 fn every_example() {
-    let mut seen = vec![];
-    for entry in fs::read_dir(folder()).unwrap() {
-        let entry = entry.unwrap();
-        if !entry.path().join("network.txt").exists() {
-            continue;
-        }
-        let example = entry.file_name().into_string().unwrap();
-        let Parsed { bytes, lines } = network(&example);
-        let output = String::from_utf8(program(&bytes)).unwrap();
-        assert_eq!(output, read(&example, "expected"), "{example}");
-        let words = Input::new(&bytes, &lines).explain(&output).unwrap();
-        assert_eq!(words, read(&example, "explained"), "{example}");
-        assert_eq!(second::program(&bytes), output.into_bytes(), "{example}");
-        assert_eq!(parsed(&print(&bytes)).bytes, bytes, "{example}");
-        seen.push(example);
+    let examples = examples();
+    for known in ["chain", "k", "routes", "templates", "uplinks"] {
+        assert!(examples.iter().any(|name| name == known), "{known}");
     }
-    seen.sort();
-    assert_eq!(seen, ["chain", "k", "uplinks"]);
+    for example in examples {
+        let text = file(&example, "network.txt");
+        let expected = read(&example, "expected");
+        let explained = read(&example, "explained");
+        let ran = wegbaro(&["run", &text], b"");
+        assert_eq!(ran.text(), explained, "{example}: {}", ran.said);
+        assert_eq!(wegbaro(&["run", "--gate", &text], b"").text(), expected, "{example}");
+        let bytes = records(&example);
+        let lines = String::from_utf8(program(&bytes)).unwrap();
+        assert_eq!(second::program(&bytes), lines.as_bytes(), "{example}");
+        if lines != "start refused 11 0\n" {
+            assert_eq!(lines, expected, "{example}");
+            let words = wegbaro(&["explain", &text], lines.as_bytes());
+            assert_eq!(words.text(), explained, "{example}: {}", words.said);
+        }
+        let there = wegbaro(&["text", "-"], &bytes);
+        assert_eq!(wegbaro(&["records", "-"], &there.bytes).bytes, bytes, "{example}");
+    }
 }
 
 /// The states that follow a state until one comes again or none follows.
@@ -66,7 +85,7 @@ fn walk(records: &[Record], from: usize) -> Vec<usize> {
 /// The chain's delete opens a loop of 56 states over its eight switches.
 #[test]
 fn the_loop_in_the_chain() {
-    let bytes = network("chain").bytes;
+    let bytes = records("chain");
     let (records, _) = whole_records(&bytes);
     let first = records.iter().position(|record| record[0] == 6).unwrap();
     let before = &records[..first];

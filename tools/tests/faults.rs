@@ -1,12 +1,16 @@
 //! Where a fault is found, and what is said of it.
 
+use wegbaro_tools::fault::Fault;
 use wegbaro_tools::parse::parse;
 
 /// Checks the fault of a text.
 fn fault(text: &str, message: &str) {
     match parse(text) {
         Ok(_) => panic!("no fault in\n{text}"),
-        Err(fault) => assert_eq!(fault.to_string(), message, "in\n{text}"),
+        Err(faults) => {
+            let told: Vec<String> = faults.iter().map(Fault::to_string).collect();
+            assert_eq!(told, [message], "in\n{text}");
+        }
     }
 }
 
@@ -19,8 +23,8 @@ fn second_line(statement: &str, message: &str) {
 fn statements() {
     fault(
         "# K\nwidth H 1",
-        "line 2, column 1: expected a statement (widths, link, miss, rule, policy, add, modify, \
-         delete or bytes), found `width`",
+        "line 2, column 1: expected a statement (widths, name, ward, link, miss, rule, policy, add, \
+         modify, delete or bytes), found `width`",
     );
     fault("link 0:1 - 0:2", "line 1, column 1: expected `widths` before this statement");
     fault("widths H 1 P 2", "line 1, column 15: expected `W`, found the end of the statement");
@@ -28,7 +32,7 @@ fn statements() {
     let limits = "the limits are H 1 to 6, P 2 to 4, W 0 to 4, and 1 + H + P + W at most 10";
     fault("widths H 4 P 4 W 2", &format!("line 1, column 1: {limits}"));
     fault("widths H 0 P 4 W 2", &format!("line 1, column 1: {limits}"));
-    second_line("link 0:1 = 1:1", "line 2, column 10: `=` has no meaning here");
+    second_line("link 0:1 @ 1:1", "line 2, column 10: `@` has no meaning here");
     second_line("link 0:1 1:1", "line 2, column 10: expected `-`, found `1`");
     second_line("link 0:1 - 2:1", "line 2, column 12: expected a switch (0 to 1), found `2`");
     second_line("link 0:1 - 1:4", "line 2, column 14: expected a port (0 to 3), found `4`");
@@ -109,10 +113,7 @@ fn policies() {
     );
     second_line("policy 0: E(Z)", "line 2, column 13: expected a variable, `X` or `Y`, found `Z`");
     second_line("policy 0: E(X) &\n  & E(X)", "line 3, column 3: expected a formula, found `&`");
-    second_line(
-        "policy 0: (E(X)",
-        "line 2, column 16: expected `)`, found the end of the statement",
-    );
+    second_line("policy 0: (E(X)", "line 2, column 11: this parenthesis is not closed");
     second_line("policy 0: exists Y E(Y)", "line 2, column 20: expected `.`, found `E`");
     second_line(
         "policy 0: bit(X,6)",
@@ -141,12 +142,205 @@ fn policies() {
     );
     let deep = format!("policy 0: {}E(X)", "!".repeat(100_000));
     second_line(&deep, "line 2, column 111: the formula is nested too deep");
-    let long = format!("policy 0: {}E(X)", "!".repeat(32));
-    second_line(&long, "line 2, column 47: the policy has more than 32 nodes here");
 }
 
 #[test]
 fn columns_count_characters() {
     fault("widths H 1 P 2 W 1 # ä\n\u{e4}", "line 2, column 1: `ä` has no meaning here");
     second_line("\tlink", "line 2, column 2: expected the end of the statement, found `link`");
+}
+
+/// The hint of the one fault of a statement on line 2.
+fn hinted(statement: &str, column: usize, hint: &str) {
+    let text = format!("widths H 2 P 2 W 1\n{statement}\n");
+    let faults = parse(&text).unwrap_err();
+    assert_eq!(faults.len(), 1, "{faults:?}");
+    assert_eq!((faults[0].line, faults[0].column), (2, column), "{}", faults[0]);
+    assert_eq!(faults[0].hint.as_deref(), Some(hint), "{}", faults[0]);
+}
+
+#[test]
+fn hints() {
+    hinted("lnik 0:1 - 1:1", 1, "did you mean `link`?");
+    hinted("policy 0: E(X) && E(X)", 16, "write `&` or `and`");
+    hinted("policy 0: E(X) || E(X)", 16, "write `|` or `or`");
+    hinted("policy 0: (E(X) || E(X))", 17, "write `|` or `or`");
+    hinted("policy 0: E(X) -> E(X)", 16, "write `!a | b` for `a -> b`");
+    hinted("policy 0: TC(R(X,Y))(X,X)", 11, "did you mean `tc`?");
+    hinted("policy 0: NOT E(X)", 11, "did you mean `not`?");
+    hinted("policy 0: E(X) AND E(X)", 16, "did you mean `and`?");
+    hinted("policy 0: ariving(X)", 11, "did you mean `arriving`?");
+    hinted("policy 0: nothin from 0:1 is dropped", 11, "did you mean `nothing`?");
+    hinted("policy 0: E(x)", 13, "write `X`");
+    hinted("policy 0: R(X,y)", 15, "write `Y`");
+    hinted("policy 0: header(X) == 1", 21, "write `=`");
+    hinted("policy 0: port(X) <> 1", 19, "write `!=`");
+    hinted("policy 0: (E(X) E(X))", 17, "the parenthesis was opened in line 2, column 11");
+    let parts = "put parentheses round the parts that belong together";
+    hinted("policy 0: E(X) & E(X) | E(X)", 23, parts);
+    hinted("policy 0: exists Y. E(Y) or E(X) and E(X)", 34, parts);
+    let far = "a quantifier reaches to the end; put it, or what it is about, in parentheses";
+    hinted("policy 0: E(X) & exists Y. E(Y) | E(X)", 33, far);
+    hinted("policy 0: E(X) | !forall Y. E(Y) & E(X)", 34, far);
+}
+
+#[test]
+fn parentheses() {
+    second_line("policy 0: (E(X) & (E(X))", "line 2, column 11: this parenthesis is not closed");
+    second_line("policy 0: tc(R(X,Y)", "line 2, column 13: this parenthesis is not closed");
+    second_line("policy 0: exists Y. R(X,Y", "line 2, column 22: this parenthesis is not closed");
+    second_line("policy 0: E(X))", "line 2, column 15: this parenthesis was not opened");
+}
+
+/// Checks a fault that names an earlier line.
+fn against_earlier(text: &str, earlier: usize, message: &str) {
+    let faults = parse(text).unwrap_err();
+    let told: Vec<String> = faults.iter().map(Fault::to_string).collect();
+    assert_eq!(told, [message], "in\n{text}");
+    assert_eq!(faults[0].earlier, Some(earlier));
+    let shown = faults[0].show("ward", text);
+    assert!(shown.contains(&format!("  earlier: ward:{earlier}:\n")), "{shown}");
+}
+
+const ONE: &str = "widths H 1 P 2 W 0\nmiss 0: output 0\n";
+
+/// Statements that would mean something else than they say.
+#[test]
+fn statements_against_earlier_ones() {
+    against_earlier(
+        &format!("{ONE}policy 0: E(X) & !E(X)\npolicy 0: E(X)\n"),
+        3,
+        "line 4, column 8: policy 0 is given already, in line 3",
+    );
+    against_earlier(
+        &format!("{ONE}policy 0: E(X)\n\npolicy 2: E(X)\n"),
+        3,
+        "line 5, column 8: policy 2 stands after policy 0 (line 3), where 1 is next",
+    );
+    against_earlier(
+        &format!("{ONE}policy 0 \"a\": E(X)\npolicy 1 \"a\": E(X)\n"),
+        3,
+        "line 4, column 10: policy 0 has this name (line 3)",
+    );
+    let node = format!("bytes 05 00 02{}", " 00".repeat(21));
+    against_earlier(
+        &format!("{ONE}policy 0: E(X)\n{node}\n"),
+        3,
+        "line 4, column 1: these bytes would go on with policy 0 of line 3",
+    );
+    against_earlier(
+        &format!("{ONE}{node}\npolicy 0: E(X)\n"),
+        3,
+        "line 4, column 8: policy 0 is given already, in line 3",
+    );
+    let third = format!("bytes 05 03 02{}", " 00".repeat(21));
+    against_earlier(
+        &format!("{ONE}{third}\npolicy 4 \"a\": E(X)\npolicy 5 \"a\": E(X)\n"),
+        4,
+        "line 5, column 10: policy 4 has this name (line 4)",
+    );
+    against_earlier(
+        &format!("{ONE}add 0 priority 1: output 0\npolicy 0: E(X)\n"),
+        3,
+        "line 4, column 1: `policy` stands after a command (line 3)",
+    );
+    against_earlier(
+        &format!("{ONE}widths H 1 P 3 W 0\n"),
+        1,
+        "line 3, column 1: the widths are given already, in line 1",
+    );
+    // A comment was put before the first of two lines.
+    against_earlier(
+        &format!("{ONE}delete 0 priority 1\n# delete 0 priority 2\n  port 1\n"),
+        3,
+        "line 5, column 3: this line starts with a space, but the line before it is no statement",
+    );
+    against_earlier(
+        &format!("{ONE}delete 0 priority 1\n\n  port 1\n"),
+        3,
+        "line 5, column 3: this line starts with a space, but the line before it is no statement",
+    );
+    fault(&format!("{ONE}policy 1: E(X)\n"), "line 3, column 8: the first policy has the number 0");
+}
+
+#[test]
+fn numbers_and_patterns() {
+    second_line(
+        "rule 01 priority 1: output 0",
+        "line 2, column 6: expected a switch (0 to 1), found `01`",
+    );
+    second_line(
+        "policy 0: switch(X) = 01",
+        "line 2, column 23: expected a switch (0 to 1), found `01`",
+    );
+    let notes = |statement: &str, p: u8| {
+        parse(&format!("widths H 1 P {p} W 0\n{statement}\n")).unwrap().notes
+    };
+    assert_eq!(
+        notes("miss 0: output 10\nadd 0 priority 1 port 10: output 10", 2),
+        ["line 2: `10` is read as two bits, port 2; the number 2 is plainer, as `10` is a number in \
+          a ward with more port bits"]
+    );
+    for (statement, p) in [("miss 0: output 2", 2), ("miss 0: output 10", 4)] {
+        assert_eq!(notes(statement, p), Vec::<String>::new());
+    }
+}
+
+/// Each statement is read whatever is wrong with the others, up to twenty faults.
+#[test]
+fn several_faults() {
+    let text = format!("{ONE}miss\nrule 0: output 0\n\u{7}\npolicy 0: E(Z)\npolicy 1: E(X)\nno\n");
+    let places: Vec<[usize; 2]> =
+        parse(&text).unwrap_err().iter().map(|fault| [fault.line, fault.column]).collect();
+    assert_eq!(places, [[3, 5], [4, 7], [5, 1], [6, 13], [8, 1]]);
+    let many = format!("{ONE}{}", "link\n".repeat(50));
+    let lines: Vec<usize> = parse(&many).unwrap_err().iter().map(|fault| fault.line).collect();
+    assert_eq!(lines, (3..23).collect::<Vec<usize>>());
+    // Without the widths, no more is said of what needs them.
+    let places = |text: &str| parse(text).unwrap_err().len();
+    assert_eq!(places("widths H 9\nlink 0:1 - 0:2\npolicy 0: E(Z)\nlnik\n"), 2);
+    assert_eq!(places("link 0:1 - 0:2\npolicy 0: E(Z)\nmiss 0: output 0\n"), 1);
+    // A name that a faulty statement would have given is not missed again.
+    let names =
+        "name switch 9 core\nward far: switch 9\nmiss core: output 0\npolicy 0: at(X, far)\n";
+    assert_eq!(places(&format!("{ONE}{names}miss cora: output 0\n")), 3);
+}
+
+#[test]
+fn faults_are_shown_with_their_line() {
+    let shown = |text: &str| -> String {
+        parse(text).unwrap_err().iter().map(|fault| fault.show("a ward", text)).collect()
+    };
+    assert_eq!(
+        shown("widths H 1 P 2 W 1\nlink 0:1\t- 2:1 # to the core\n"),
+        "a ward:2:12: expected a switch (0 to 1), found `2`\n    \
+             link 0:1 - 2:1 # to the core\n               \
+                        ^\n"
+    );
+    assert_eq!(
+        shown("widths H 1 P 2 W 1\npolicy 0: TC\n"),
+        "a ward:2:11: expected a formula, found `TC`\n    policy 0: TC\n              ^^\n  \
+         hint: did you mean `tc`?\n"
+    );
+    // No control character gets through, neither from the text nor from the file's name.
+    let bell = "widths H 1\u{7} P 2\n";
+    let fault = &parse(bell).unwrap_err()[0];
+    assert_eq!(
+        fault.show("a\u{1b}[2J", bell),
+        "a\\x1b[2J:1:11: the character `\\x07` may not stand in a text\n    \
+         widths H 1\\x07 P 2\n              ^\n  \
+         hint: it is not seen on a screen, or it hides what follows; take it out\n"
+    );
+    let hidden = ["# \u{202e}\n", "# a\rwidths\n", "widths\u{a0}H\n", "\u{200b}widths\n"];
+    for text in hidden {
+        assert!(!parse(text).unwrap_err().is_empty(), "{text:?}");
+        assert!(shown(text).chars().all(|c| c == '\n' || !c.is_control()), "{}", shown(text));
+    }
+    // A word of a megabyte is cut, and so is its line, also round a column far to the right.
+    let long = "a".repeat(1_000_000);
+    for text in [format!("{long}\n"), format!("widths{}{long}\n", " ".repeat(10_000))] {
+        let shown = shown(&text);
+        assert!(shown.len() < 600, "{} bytes", shown.len());
+        assert!(shown.contains("aaa…") && shown.contains('^'), "{shown}");
+    }
 }

@@ -35,20 +35,25 @@ fn each_kind_of_node() {
 }
 
 #[test]
-fn what_binds_tighter() {
+fn what_belongs_together() {
     let [a, b, c] = [bit(X, 0), bit(X, 1), bit(X, 2)];
     let [a_, b_, c_] = ["bit(X,0)", "bit(X,1)", "bit(X,2)"];
-    assert_eq!(compiled(&format!("{a_} | {b_} & {c_}")), [a, b, c, and(1, 2), or(0, 3)]);
-    assert_eq!(compiled(&format!("{a_} & {b_} | {c_}")), [a, b, and(0, 1), c, or(2, 3)]);
-    assert_eq!(compiled(&format!("({a_} | {b_}) & {c_}")), [a, b, or(0, 1), c, and(2, 3)]);
+    assert_eq!(compiled(&format!("{a_} | ({b_} & {c_})")), [a, b, c, and(1, 2), or(0, 3)]);
+    assert_eq!(compiled(&format!("({a_} & {b_}) | {c_}")), [a, b, and(0, 1), c, or(2, 3)]);
+    assert_eq!(compiled(&format!("({a_} or {b_}) and {c_}")), [a, b, or(0, 1), c, and(2, 3)]);
     assert_eq!(compiled(&format!("!{a_} & {b_}")), [a, not(0), b, and(1, 2)]);
-    assert_eq!(compiled(&format!("!({a_} & {b_})")), [a, b, and(0, 1), not(2)]);
+    assert_eq!(compiled(&format!("not ({a_} & {b_})")), [a, b, and(0, 1), not(2)]);
     assert_eq!(compiled(&format!("{a_} & {b_} & {c_}")), [a, b, and(0, 1), c, and(2, 3)]);
     assert_eq!(compiled(&format!("{a_} & ({b_} & {c_})")), [a, b, c, and(1, 2), and(0, 3)]);
     let far = [a, b, c, or(1, 2), some(3, Y), and(0, 4)];
-    assert_eq!(compiled(&format!("{a_} & exists Y. {b_} | {c_}")), far);
+    assert_eq!(compiled(&format!("{a_} & (exists Y. {b_} | {c_})")), far);
+    assert_eq!(compiled(&format!("{a_} & exists Y. ({b_} | {c_})")), far);
+    let same = [a, b, c, and(1, 2), some(3, Y), and(0, 4)];
+    assert_eq!(compiled(&format!("{a_} & exists Y. {b_} & {c_}")), same);
     let near = [a, b, some(1, Y), and(0, 2), c, or(3, 4)];
-    assert_eq!(compiled(&format!("{a_} & (exists Y. {b_}) | {c_}")), near);
+    assert_eq!(compiled(&format!("({a_} & exists Y. {b_}) | {c_}")), near);
+    let negated = [a, b, or(0, 1), some(2, Y), not(3)];
+    assert_eq!(compiled(&format!("!exists Y. {a_} | {b_}")), negated);
 }
 
 #[test]
@@ -59,6 +64,22 @@ fn equal_parts_are_one_node() {
     // A node's truth is over both variables, so one node serves under different quantifiers.
     let under_two = [r(X, Y), some(0, Y), all(0, Y), not(2), and(1, 3)];
     assert_eq!(compiled("(exists Y. R(X,Y)) & !forall Y. R(X,Y)"), under_two);
+}
+
+#[test]
+fn fields_are_few_nodes() {
+    let [header, low, high, switch, direction] = [0, 1, 2, 3, 4].map(|number| bit(X, number));
+    assert_eq!(compiled("switch(X) = 1"), [switch]);
+    assert_eq!(compiled("header(X) = * & departing(X)"), [direction]);
+    let neither = [direction, header, or(0, 1), not(2)];
+    assert_eq!(compiled("arriving(X) & header(X) = 0"), neither);
+    assert_eq!(compiled("!(departing(X) | header(X) != 0)"), neither);
+    // Three points of four ports: the switch once, and a port that is not 0.
+    let points = compiled("at(X, 1:1, 1:2, 1:3)");
+    assert_eq!(points, [switch, high, low, or(1, 2), and(0, 3)]);
+    let common = "(switch(X) = 1 & loops(X)) | (external(X) & switch(X) = 1)";
+    assert_eq!(compiled(common), [switch, r(X, Y), tc(1, X, X), external(X), or(2, 3), and(0, 4)]);
+    assert_eq!(compiled("header 1 never leaves").len(), 14);
 }
 
 #[test]

@@ -118,6 +118,7 @@ policy 0 nodes: E X; BIT X 4; NOT 1; AND 0 2; R X Y; TC 4 X Y; E Y; BIT Y 4; BIT
 fn the_same_pattern_in_several_forms() {
     let forms = [
         "widths H 4 P 3 W 0\nadd 0 priority 7 port 7 header ****: set 1010, output 0",
+        "widths H 4 P 3 W 0\nadd 0 priority 7 port 7 header *: set 1010, output 0",
         "widths H 4 P 3 W 0\nadd 0 priority 7 port 111: set 10, output 000",
         "widths H 4 P 3 W 0 # more\n\nadd 0 priority 7\n  port controller:\n\tset 10, output drop\n",
     ];
@@ -134,7 +135,7 @@ fn the_text_of_the_readme() {
     let readme = include_str!("../README.md");
     let block = &readme[readme.find("    widths").unwrap()..];
     let lines: Vec<&str> = block.lines().map_while(|line| line.strip_prefix("    ")).collect();
-    assert_eq!(lines.len(), 9);
+    assert_eq!(lines.len(), 14);
     let output = String::from_utf8(program(&parsed(&lines.join("\n")).bytes)).unwrap();
     assert!(!output.contains("refused"), "{output}");
 }

@@ -2,7 +2,7 @@
 
 use wegbaro_tools::parse::{parse, Parsed};
 
-/// The records of a text that has no fault.
+/// What a text says that has no fault.
 pub fn parsed(text: &str) -> Parsed {
-    parse(text).unwrap_or_else(|fault| panic!("{fault} in\n{text}"))
+    parse(text).unwrap_or_else(|faults| panic!("{} in\n{text}", faults[0].show("text", text)))
 }

@@ -1,0 +1,130 @@
+//! The two calls over lent buffers.
+
+use crate::{Record, Refusal};
+
+#[link(name = "wegbaro", kind = "static")]
+extern "C" {
+    fn wegbaro_check(
+        store: *const u8,
+        store_len: usize,
+        n: usize,
+        work: *mut u8,
+        work_len: usize,
+    ) -> u64;
+    fn wegbaro_command(
+        store: *mut u8,
+        store_len: usize,
+        n: usize,
+        work: *mut u8,
+        work_len: usize,
+        given: *const u8,
+        given_len: usize,
+    ) -> u64;
+}
+
+/// The verdict on a network.
+#[derive(Clone, Copy, Debug, PartialEq, Eq, Hash)]
+pub enum Checked {
+    /// No policy's forbidden condition is true for any state.
+    Holds,
+    /// Some policy's is.
+    Violated {
+        /// The lowest broken policy.
+        policy: usize,
+        /// The lowest state that breaks it.
+        state: usize,
+    },
+}
+
+/// The verdict on a command.
+#[derive(Clone, Copy, Debug, PartialEq, Eq, Hash)]
+pub enum Commanded {
+    /// The network that the command leaves holds, and is in the store.
+    Forwarded {
+        /// Its count of records.
+        count: usize,
+    },
+    /// It would not hold, and nothing is changed.
+    Blocked {
+        /// The lowest policy that would be broken.
+        policy: usize,
+        /// The lowest state that would break it.
+        state: usize,
+    },
+}
+
+/// The check call: judges the first `n` records of the store.
+///
+/// Every length and every content is allowed. The store has at least [`crate::STORE_BYTES`], the
+/// work buffer at least [`work_bytes`] of the network, or the call is refused; what is in the work
+/// buffer does not matter, and so much of it is zero after a verdict.
+pub fn check(store: &[u8], n: usize, work: &mut [u8]) -> Result<Checked, Refusal> {
+    // SAFETY: the slices are valid for their lengths, not null and do not overlap; the call keeps
+    // no pointer and takes every length and content.
+    let answer =
+        unsafe { wegbaro_check(store.as_ptr(), store.len(), n, work.as_mut_ptr(), work.len()) };
+    match parts(answer) {
+        (0, 0, 0) => Ok(Checked::Holds),
+        (1, policy, state) => Ok(Checked::Violated { policy, state }),
+        (2, row, place) => Err(Refusal { row, place }),
+        _ => unreachable!("no answer of the check call has the code {answer}"),
+    }
+}
+
+/// The command call: judges the network that the command would leave of the first `n` records of
+/// the store, and carries it out if that network holds.
+///
+/// A forwarded command leaves the new records in the store, then zeros to byte 15,384. Otherwise the
+/// store is untouched. Start with records that [`check`] said hold, and from then on give the count
+/// last answered as forwarded.
+pub fn command(
+    store: &mut [u8],
+    n: usize,
+    work: &mut [u8],
+    given: &[u8],
+) -> Result<Commanded, Refusal> {
+    // SAFETY: as in `check`; `store` and `work` are borrowed mutably, so nothing overlaps.
+    let answer = unsafe {
+        wegbaro_command(
+            store.as_mut_ptr(),
+            store.len(),
+            n,
+            work.as_mut_ptr(),
+            work.len(),
+            given.as_ptr(),
+            given.len(),
+        )
+    };
+    match parts(answer) {
+        (0, count, 0) => Ok(Commanded::Forwarded { count }),
+        (1, policy, state) => Ok(Commanded::Blocked { policy, state }),
+        (2, row, place) => Err(Refusal { row, place }),
+        _ => unreachable!("no answer of the command call has the code {answer}"),
+    }
+}
+
+/// The case of an answer and its two numbers.
+fn parts(answer: u64) -> (u64, usize, usize) {
+    (answer & 3, (answer >> 2 & 0xFFFF) as usize, (answer >> 18) as usize)
+}
+
+/// The bytes of work that these records need: a plane of 2^(2N) bits for each node of the longest
+/// policy, and two more. No bytes, if the first record is not that of widths within their limits.
+pub fn work_bytes(records: &[Record]) -> usize {
+    let Some([1, h @ 1..=6, p @ 2..=4, w @ 0..=4, ..]) = records.first() else { return 0 };
+    let bits = 1 + h + p + w;
+    if bits > 10 {
+        return 0;
+    }
+    (longest_policy(records) + 2) * ((1 << (2 * bits)) / 8)
+}
+
+/// The nodes of the longest policy, at most 32.
+fn longest_policy(records: &[Record]) -> usize {
+    let mut nodes = [0; 256];
+    for record in records.iter().filter(|record| record[0] == 5) {
+        nodes[usize::from(record[1])] += 1;
+    }
+    let longest = nodes.into_iter().max().unwrap_or(0);
+    longest.min(32)
+}

@@ -1,0 +1,62 @@
+//! Why a call did not judge.
+
+use std::error::Error;
+use std::fmt;
+
+/// What each row refuses, from row 1.
+const ROWS: [&str; 13] = [
+    "there are no records, or more than 641",
+    "the store has fewer than 15,384 bytes",
+    "a kind is not 1 to 5 or is below the one before, or kind 1 is not once and first",
+    "a width is outside its limits",
+    "a field is outside its range or width, or an unnamed byte is not zero",
+    "a link ends at a port that is not ordinary or at a point already linked, or both ends are the \
+     same point",
+    "a miss is not that of the next switch, or a switch has no miss",
+    "the same rule stands twice",
+    "an operand is not an earlier node, a policy is out of order, or Y is free at its end",
+    "there is a 257th rule, a ninth policy or a 33rd node",
+    "the work buffer is too short",
+    "the command is not 24 bytes, or not a well-formed add, modify or delete",
+    "256 rules are present, and the add is of a new one",
+];
+
+/// A call that did not judge: the row of the table that refuses it, and its place.
+///
+/// ```
+/// let refusal = wegbaro::Refusal { row: 8, place: 5 };
+/// assert_eq!(refusal.to_string(), "refused by row 8 at record 5: the same rule stands twice");
+/// ```
+#[derive(Clone, Copy, Debug, PartialEq, Eq, Hash)]
+pub struct Refusal {
+    /// The row, 1 to 13.
+    pub row: usize,
+    /// The record, from 0, for rows 3 to 10 (where misses are missing, the record behind them, or
+    /// the count of records at the end); otherwise 0.
+    pub place: usize,
+}
+
+impl Refusal {
+    /// What the row refuses, in words.
+    pub fn meaning(self) -> &'static str {
+        let row = self.row.checked_sub(1).and_then(|place| ROWS.get(place));
+        row.copied().unwrap_or("no row has this number")
+    }
+
+    /// Whether the place is a record; rows of the arguments, the work and the command have none.
+    pub fn has_record(self) -> bool {
+        (3..=10).contains(&self.row)
+    }
+}
+
+impl fmt::Display for Refusal {
+    fn fmt(&self, f: &mut fmt::Formatter<'_>) -> fmt::Result {
+        write!(f, "refused by row {}", self.row)?;
+        if self.has_record() {
+            write!(f, " at record {}", self.place)?;
+        }
+        write!(f, ": {}", self.meaning())
+    }
+}
+
+impl Error for Refusal {}

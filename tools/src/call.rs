@@ -1,0 +1,221 @@
+//! The program's arguments.
+
+use crate::fault::{nearest, quoted};
+use crate::generate::{Kind, Options};
+use crate::trouble::Trouble;
+use crate::words::Form;
+use std::ffi::{OsStr, OsString};
+
+pub const HELP: &str = "\
+wegbaro: judges a ward's network and the commands to its switches
+
+  wegbaro check FILE        judges the network
+  wegbaro run FILE          judges the network, then its commands one after the other
+  wegbaro session FILE      judges the network, then each command as it comes in on standard input
+  wegbaro records FILE      a text as records
+  wegbaro text FILE         records as a text
+  wegbaro expand FILE       a text with every policy as a formula of the raw forms (or --expand)
+  wegbaro explain FILE      the answers of the program gate, on standard input, in words
+  wegbaro picture FILE      the switches and links for Graphviz
+  wegbaro generate KIND     the text of a network; KIND is plod, tree or ring
+
+FILE is a text or has records, and `-` is standard input.
+
+  --json          check, run, session, explain: answers as JSON, one object a line
+  --gate          check, run, session: answers as the program gate prints them
+  --records       session: commands come in as records of 24 bytes, not as lines of text
+  --rules         picture: with the rules of each switch
+  --switches N    generate: 2 to 16 switches, 4 if not given
+  --flows N       generate: at most 64 random flows, 4 if not given
+  --seed N        generate: the same seed gives the same network, 0 if not given
+  --help, --version
+
+Exit status: 0 the network holds and every command is forwarded; 1 violated, blocked or refused by
+a row; 2 the text or the call is faulty; 3 reading or writing failed.
+
+tools/README.md describes the text and the answers; docs/FORMAT.md the records, what a step and a
+policy are, and the rows by which a network or a command is refused.
+";
+
+const TASKS: [&str; 9] =
+    ["check", "run", "session", "records", "text", "expand", "explain", "picture", "generate"];
+
+/// What is to be done.
+#[derive(Clone, Debug, PartialEq, Eq)]
+pub enum Task {
+    Help,
+    Version,
+    Check(OsString),
+    Run(OsString),
+    Session { file: OsString, records: bool },
+    Records(OsString),
+    Text(OsString),
+    Expand(OsString),
+    Explain(OsString),
+    Picture { file: OsString, rules: bool },
+    Generate { kind: Kind, options: Options, seed: u64 },
+}
+
+/// What is to be done, and how answers are written.
+#[derive(Clone, Debug, PartialEq, Eq)]
+pub struct Call {
+    pub task: Task,
+    pub form: Form,
+}
+
+/// The words of a call, sorted.
+#[derive(Default)]
+struct Words {
+    /// The task and what it is done with.
+    plain: Vec<OsString>,
+    /// Options, with their values if they have one.
+    options: Vec<(String, Option<String>)>,
+}
+
+const VALUED: [&str; 3] = ["--switches", "--flows", "--seed"];
+
+/// Reads the arguments.
+pub fn read(arguments: impl IntoIterator<Item = OsString>) -> Result<Call, Trouble> {
+    let words = sort(arguments)?;
+    for (option, task) in [("--help", Task::Help), ("--version", Task::Version)] {
+        if words.has(option) {
+            return Ok(Call { task, form: Form::Words });
+        }
+    }
+    let Some(name) = words.plain.first() else {
+        return Err(fault("expected a command".to_string()));
+    };
+    let name = name.to_string_lossy();
+    if !TASKS.contains(&name.as_ref()) {
+        let message = format!("`{}` is no command", quoted(&name));
+        let hint = nearest(&name, TASKS).map(|near| format!(", did you mean `{near}`?"));
+        return Err(fault(message + &hint.unwrap_or_default()));
+    }
+    let task = words.task(&name)?;
+    words.only(&name, allowed(&name))?;
+    let form = match (words.has("--json"), words.has("--gate")) {
+        (true, true) => return Err(fault("--json and --gate exclude each other".to_string())),
+        (true, false) => Form::Json,
+        (false, true) => Form::Gate,
+        (false, false) => Form::Words,
+    };
+    Ok(Call { task, form })
+}
+
+/// The options of a task.
+fn allowed(task: &str) -> &'static [&'static str] {
+    match task {
+        "check" | "run" => &["--json", "--gate"],
+        "session" => &["--json", "--gate", "--records"],
+        "explain" => &["--json"],
+        "picture" => &["--rules"],
+        "generate" => &VALUED,
+        _ => &[],
+    }
+}
+
+fn fault(message: String) -> Trouble {
+    Trouble::faulty(format!("{message} (`wegbaro --help` has the calls)"))
+}
+
+/// Tells options from the rest; behind `--` there are none.
+fn sort(arguments: impl IntoIterator<Item = OsString>) -> Result<Words, Trouble> {
+    let mut words = Words::default();
+    let mut arguments = arguments.into_iter();
+    while let Some(argument) = arguments.next() {
+        let text = argument.to_string_lossy().into_owned();
+        if text == "--" {
+            words.plain.extend(arguments);
+            break;
+        }
+        if !text.starts_with('-') || text == "-" {
+            words.plain.push(argument);
+            continue;
+        }
+        if text == "--expand" {
+            words.plain.insert(0, "expand".into());
+            continue;
+        }
+        let (name, value) = match text.split_once('=') {
+            Some((name, value)) => (name.to_string(), Some(value.to_string())),
+            None => (text, None),
+        };
+        let is_valued = VALUED.contains(&name.as_str());
+        let value = match value {
+            None if is_valued => {
+                let next = arguments.next();
+                let next = next.ok_or_else(|| fault(format!("{name} needs a number")))?;
+                Some(next.to_string_lossy().into_owned())
+            }
+            Some(_) if !is_valued => {
+                return Err(fault(format!("`{}` takes no value", quoted(&name))));
+            }
+            value => value,
+        };
+        words.options.push((name, value));
+    }
+    Ok(words)
+}
+
+impl Words {
+    fn has(&self, option: &str) -> bool {
+        self.options.iter().any(|(name, _)| name == option)
+    }
+
+    /// No other options are there than those.
+    fn only(&self, task: &str, allowed: &[&str]) -> Result<(), Trouble> {
+        match self.options.iter().find(|(name, _)| !allowed.contains(&name.as_str())) {
+            Some((name, _)) => Err(fault(format!("`{task}` has no option `{}`", quoted(name)))),
+            None => Ok(()),
+        }
+    }
+
+    fn task(&self, name: &str) -> Result<Task, Trouble> {
+        if name == "generate" {
+            return self.generate();
+        }
+        let [_, file] = &self.plain[..] else {
+            return Err(fault(format!("`{name}` takes one FILE")));
+        };
+        let file = file.clone();
+        let with_input = ["session", "explain"].contains(&name);
+        if with_input && file == OsStr::new("-") {
+            let what = if name == "session" { "commands" } else { "answers" };
+            let message = format!("`{name}` reads {what} from standard input, so FILE is not `-`");
+            return Err(fault(message));
+        }
+        Ok(match name {
+            "check" => Task::Check(file),
+            "run" => Task::Run(file),
+            "session" => Task::Session { file, records: self.has("--records") },
+            "records" => Task::Records(file),
+            "text" => Task::Text(file),
+            "expand" => Task::Expand(file),
+            "explain" => Task::Explain(file),
+            _ => Task::Picture { file, rules: self.has("--rules") },
+        })
+    }
+
+    fn generate(&self) -> Result<Task, Trouble> {
+        let kinds = Kind::ALL.map(Kind::word).join(", ");
+        let [_, word] = &self.plain[..] else {
+            return Err(fault(format!("`generate` takes one KIND ({kinds})")));
+        };
+        let word = word.to_string_lossy();
+        let Some(kind) = Kind::of(&word) else {
+            return Err(fault(format!("`{}` is no KIND ({kinds})", quoted(&word))));
+        };
+        let switches = self.number("--switches", 4)?;
+        let flows = self.number("--flows", 4)?;
+        let size = |number: u64| usize::try_from(number).unwrap_or(usize::MAX);
+        let options = Options::new(size(switches), size(flows)).map_err(fault)?;
+        Ok(Task::Generate { kind, options, seed: self.number("--seed", 0)? })
+    }
+
+    /// The value of an option that is a number.
+    fn number(&self, option: &str, otherwise: u64) -> Result<u64, Trouble> {
+        let given = self.options.iter().rev().find(|(name, _)| name == option);
+        let Some((_, Some(value))) = given else { return Ok(otherwise) };
+        value.parse().map_err(|_| fault(format!("{option} `{}` is no number", quoted(value))))
+    }
+}

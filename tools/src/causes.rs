@@ -1,0 +1,208 @@
+//! Why a row refuses: which of its causes it is, and the other record that is part of it.
+
+use crate::fields::{field_fault, width_fault};
+use crate::formula::{print_nodes, Node};
+use crate::steps::DROP;
+use crate::widths::Widths;
+use crate::Record;
+use wegbaro::{Refusal, MOST_RECORDS};
+
+/// Why a row refuses.
+#[derive(Clone, Debug, PartialEq, Eq)]
+pub struct Cause {
+    pub words: String,
+    /// The place of the other record.
+    pub other: Option<usize>,
+}
+
+impl From<String> for Cause {
+    fn from(words: String) -> Cause {
+        Cause { words, other: None }
+    }
+}
+
+/// Where a record stands, in words.
+pub type At<'a> = &'a dyn Fn(usize) -> String;
+
+/// Why a row of 1 or 3 to 10 refuses a network.
+pub fn network_cause(records: &[Record], refusal: Refusal, at: At) -> Option<Cause> {
+    let place = refusal.place;
+    match refusal.row {
+        1 => Some(count_cause(records.len()).into()),
+        3 => kind_cause(records, place, at),
+        4 => width_fault(records.get(place)?).map(Cause::from),
+        5 => field_fault(widths(records, place)?, records.get(place)?).map(Cause::from),
+        6 => link_cause(records, place, at),
+        7 => miss_cause(records, place, at),
+        8 => same_rule_cause(records, place, at),
+        9 => policy_cause(records, place, at),
+        10 => full_cause(records, place),
+        _ => None,
+    }
+}
+
+/// Why row 12 or 13 refuses a command to a network.
+pub fn command_cause(records: &[Record], given: &[u8], refusal: Refusal) -> Option<Cause> {
+    match refusal.row {
+        12 => {
+            let Ok(command) = Record::try_from(given) else {
+                return Some(format!("it has {} bytes, and a command has 24", given.len()).into());
+            };
+            let kind = command[0];
+            if !(6..=8).contains(&kind) {
+                let kinds = "6 (add), 7 (modify) or 8 (delete)";
+                return Some(format!("its kind is {kind}, and a command's is {kinds}").into());
+            }
+            field_fault(Widths::of(records.first()?)?, &command).map(Cause::from)
+        }
+        13 => Some("256 rules are there, and this one is new".to_string().into()),
+        _ => None,
+    }
+}
+
+fn widths(records: &[Record], place: usize) -> Option<Widths> {
+    Widths::of(records.first()?).filter(|_| place < records.len())
+}
+
+fn count_cause(count: usize) -> String {
+    match count {
+        0 => "there are no records".to_string(),
+        _ => format!("there are more than {MOST_RECORDS} records"),
+    }
+}
+
+/// A record's kind in words.
+pub fn kind_words(kind: u8) -> String {
+    let words = match kind {
+        1 => "widths",
+        2 => "link",
+        3 => "miss",
+        4 => "rule",
+        5 => "policy",
+        6 => "add",
+        7 => "modify",
+        8 => "delete",
+        _ => return format!("kind {kind}"),
+    };
+    words.to_string()
+}
+
+fn kind_cause(records: &[Record], place: usize, at: At) -> Option<Cause> {
+    let kind = records.get(place)?[0];
+    if !(1..=5).contains(&kind) {
+        return Some(format!("its kind is {kind}, and kinds are 1 to 5").into());
+    }
+    let name = kind_words(kind);
+    let Some(before) = place.checked_sub(1) else {
+        return Some(format!("the first record is a {name}, and must be the widths").into());
+    };
+    if kind == 1 {
+        let words = format!("the widths are there already, {}", at(0));
+        return Some(Cause { words, other: Some(0) });
+    }
+    let earlier = kind_words(records[before][0]);
+    let words = format!("a {name} stands after a {earlier} ({})", at(before));
+    Some(Cause { words, other: Some(before) })
+}
+
+fn link_cause(records: &[Record], place: usize, at: At) -> Option<Cause> {
+    let of = widths(records, place)?;
+    let ends = |link: &Record| [[link[1], link[2]], [link[3], link[4]]];
+    let points = ends(&records[place]);
+    for [switch, port] in points {
+        if port == DROP || port == of.controller() {
+            let role = if port == DROP { "drop" } else { "the controller" };
+            let words = format!("port {port} of switch {switch} is {role}, and takes no link");
+            return Some(words.into());
+        }
+    }
+    if points[0] == points[1] {
+        return Some("both ends are the same point".to_string().into());
+    }
+    for (earlier, record) in records[..place].iter().enumerate() {
+        let taken = |point: &&[u8; 2]| record[0] == 2 && ends(record).contains(point);
+        if let Some([switch, port]) = points.iter().find(taken) {
+            let words =
+                format!("port {port} of switch {switch} is linked already, {}", at(earlier));
+            return Some(Cause { words, other: Some(earlier) });
+        }
+    }
+    None
+}
+
+fn miss_cause(records: &[Record], place: usize, at: At) -> Option<Cause> {
+    let misses = records[..place].iter().filter(|record| record[0] == 3).count();
+    let here = records.get(place).filter(|record| record[0] == 3);
+    let Some(switch) = here.map(|record| record[1]) else {
+        return Some(format!("switch {misses} has no miss").into());
+    };
+    let earlier = records[..place].iter().position(|record| record[..2] == [3, switch]);
+    let words = match earlier {
+        Some(earlier) => format!("switch {switch} has its miss already, {}", at(earlier)),
+        None => format!("the miss of switch {misses} comes before that of switch {switch}"),
+    };
+    Some(Cause { words, other: earlier })
+}
+
+fn same_rule_cause(records: &[Record], place: usize, at: At) -> Option<Cause> {
+    let rule = records.get(place)?;
+    let is_same = |other: &Record| other[0] == 4 && other[1..8] == rule[1..8];
+    let earlier = records[..place].iter().position(is_same)?;
+    let words = format!(
+        "a rule with this switch, priority, port and header is there already, {}",
+        at(earlier)
+    );
+    Some(Cause { words, other: Some(earlier) })
+}
+
+/// The nodes of the policy of the record at a place, up to that record.
+fn nodes_to(records: &[Record], place: usize) -> Vec<Node> {
+    let policy = records[place][1];
+    let same = |record: &&Record| record[..2] == [5, policy];
+    let nodes = records[..=place].iter().rev().take_while(same);
+    let mut nodes: Vec<Node> = nodes.map(|node| [node[2], node[3], node[4]]).collect();
+    nodes.reverse();
+    nodes
+}
+
+fn policy_cause(records: &[Record], place: usize, at: At) -> Option<Cause> {
+    let policy = records.get(place)?[1];
+    let before = place.checked_sub(1)?;
+    let last = (records[before][0] == 5).then(|| records[before][1]);
+    match last {
+        None if policy != 0 => {
+            return Some(format!("the first policy is {policy}, and must be 0").into());
+        }
+        Some(last) if policy != last && u16::from(policy) != u16::from(last) + 1 => {
+            let words = format!("policy {policy} stands after policy {last} ({})", at(before));
+            return Some(Cause { words, other: Some(before) });
+        }
+        _ => {}
+    }
+    let nodes = nodes_to(records, place);
+    let number = nodes.len() - 1;
+    let [kind, one, other] = nodes[number];
+    let operands: &[u8] = match kind {
+        3 | 6 | 7 | 8 => &[one],
+        4 | 5 => &[one, other],
+        _ => &[],
+    };
+    let node = print_nodes(&nodes[number..])?;
+    let late = operands.iter().find(|operand| usize::from(**operand) >= number);
+    let words = match late {
+        Some(operand) => format!("operand {operand} of `{node}` is not an earlier node"),
+        // Of the row's causes this alone is left.
+        None => format!("Y is free at `{node}`, the policy's last node"),
+    };
+    Some(words.into())
+}
+
+fn full_cause(records: &[Record], place: usize) -> Option<Cause> {
+    let record = records.get(place)?;
+    let words = match record[0] {
+        4 => "256 rules stand before it, and that is the most",
+        _ if record[1] == 8 => "8 policies stand before it, and that is the most",
+        _ => "32 nodes of its policy stand before it, and that is the most",
+    };
+    Some(words.to_string().into())
+}

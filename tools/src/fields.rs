@@ -1,0 +1,113 @@
+//! What is wrong with the fields of one record: the causes of rows 4, 5 and 12.
+
+use crate::widths::Widths;
+use crate::Record;
+
+/// What is wrong with the widths.
+pub fn width_fault(record: &Record) -> Option<String> {
+    let [_, h, p, w, ..] = *record;
+    let limits = [("header", "H", h, 1, 6), ("port", "P", p, 2, 4), ("switch", "W", w, 0, 4)];
+    let outside = limits.iter().find(|(_, _, width, least, most)| !(least..=most).contains(&width));
+    if let Some((name, letter, width, least, most)) = outside {
+        return Some(format!("the {name} width {letter} is {width}, outside {least} to {most}"));
+    }
+    let bits = 1 + h + p + w;
+    (bits > 10).then(|| format!("1 + H + P + W is {bits}, and 10 is the most"))
+}
+
+/// What is wrong with a record's fields.
+pub fn field_fault(of: Widths, record: &Record) -> Option<String> {
+    match record[0] {
+        1 => unused(record, 4, 24),
+        2 => link_fault(of, record),
+        3 => switch_fault(of, record[1])
+            .or_else(|| unused(record, 2, 8))
+            .or_else(|| actions_fault(of, record)),
+        4 | 6 | 7 => match_fault(of, record).or_else(|| actions_fault(of, record)),
+        5 => node_fault(of, record),
+        8 => match_fault(of, record).or_else(|| unused(record, 8, 24)),
+        _ => None,
+    }
+}
+
+/// The first byte of a part that is not zero though nothing is kept there.
+fn unused(record: &Record, from: usize, to: usize) -> Option<String> {
+    let place = (from..to).find(|place| record[*place] != 0)?;
+    Some(format!("byte {place} is {}, and must be zero", record[place]))
+}
+
+fn switch_fault(of: Widths, switch: u8) -> Option<String> {
+    let last = of.switches();
+    (switch > last).then(|| format!("there is no switch {switch}, the last is {last}"))
+}
+
+fn port_fault(of: Widths, port: u8) -> Option<String> {
+    let last = of.controller();
+    (port > last).then(|| format!("there is no port {port}, the last is {last}"))
+}
+
+fn link_fault(of: Widths, record: &Record) -> Option<String> {
+    let [_, switch, port, other_switch, other_port, ..] = *record;
+    switch_fault(of, switch)
+        .or_else(|| port_fault(of, port))
+        .or_else(|| switch_fault(of, other_switch))
+        .or_else(|| port_fault(of, other_port))
+        .or_else(|| unused(record, 5, 24))
+}
+
+fn match_fault(of: Widths, record: &Record) -> Option<String> {
+    switch_fault(of, record[1])
+        .or_else(|| pattern_fault("the port", [record[4], record[5]], of.p))
+        .or_else(|| pattern_fault("the header", [record[6], record[7]], of.h))
+}
+
+fn pattern_fault(what: &str, [value, care]: [u8; 2], width: u8) -> Option<String> {
+    if u32::from(care) >= 1 << width {
+        return Some(format!("{what} has care {care}, which does not fit its width {width}"));
+    }
+    let stray = value & !care != 0;
+    stray.then(|| format!("{what} has value {value}, with a bit that care {care} leaves open"))
+}
+
+fn actions_fault(of: Widths, record: &Record) -> Option<String> {
+    let count = usize::from(record[8]);
+    if !(1..=4).contains(&count) {
+        return Some(format!("the action count is {count}, and must be 1 to 4"));
+    }
+    let action_fault = |number: usize| {
+        let place = 9 + 3 * number;
+        let [kind, value, care] = [record[place], record[place + 1], record[place + 2]];
+        let what = format!("action {}", number + 1);
+        match kind {
+            1 => pattern_fault(&what, [value, care], of.p),
+            2 if number + 1 == count => Some(format!("{what}, the last one, is not an output")),
+            2 => pattern_fault(&what, [value, care], of.h),
+            _ => Some(format!("{what} has kind {kind}, neither 1 (output) nor 2 (set)")),
+        }
+    };
+    (0..count).find_map(action_fault).or_else(|| unused(record, 9 + 3 * count, 24))
+}
+
+fn node_fault(of: Widths, record: &Record) -> Option<String> {
+    let [_, policy, kind, one, other, ..] = *record;
+    if policy > 8 {
+        return Some(format!("there is no policy {policy}, the last is 7"));
+    }
+    let variable =
+        |byte: u8| (byte > 1).then(|| format!("variable {byte} is neither 0 (X) nor 1 (Y)"));
+    let zero = || unused(record, 4, 5);
+    let fault = match kind {
+        0 => variable(one).or_else(|| {
+            let bits = of.bits();
+            (other >= bits).then(|| format!("bit {other} is not below {bits}"))
+        }),
+        1 => variable(one).or_else(|| variable(other)),
+        2 => variable(one).or_else(zero),
+        3 => zero(),
+        4 | 5 => None,
+        6 | 7 => variable(other),
+        8 => (other > 3).then(|| format!("{other} is no pair of variables, 0 to 3")),
+        _ => Some(format!("node kind {kind} is not 0 to 8")),
+    };
+    fault.or_else(|| unused(record, 5, 24))
+}

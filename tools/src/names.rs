@@ -1,0 +1,118 @@
+//! Names for switches, ports, headers, wards and policies.
+
+use crate::widths::Widths;
+use std::collections::BTreeMap;
+
+/// A port of a switch.
+pub type Point = [u8; 2];
+
+/// What a name stands for.
+#[derive(Clone, Debug, PartialEq, Eq)]
+pub enum Named {
+    Switch(u8),
+    /// That port of every switch.
+    Port(u8),
+    /// Ports of switches that have the same name, one a switch.
+    Points(Vec<Point>),
+    /// Value and care of a header pattern.
+    Header([u8; 2]),
+    Ward(Vec<Area>),
+}
+
+/// A part of the network.
+#[derive(Clone, Copy, Debug, PartialEq, Eq)]
+pub enum Area {
+    Switch(u8),
+    Point(Point),
+}
+
+/// The names of a text. What has no name goes by its number; drop and controller have their words.
+#[derive(Clone, Debug, Default, PartialEq, Eq)]
+pub struct Names {
+    pub(crate) widths: Option<Widths>,
+    given: BTreeMap<String, (Named, usize)>,
+    policies: BTreeMap<u8, String>,
+}
+
+impl Names {
+    /// A switch by name or number.
+    pub fn switch(&self, switch: u8) -> String {
+        let name = self.find(|named| *named == Named::Switch(switch));
+        name.map_or_else(|| switch.to_string(), String::from)
+    }
+
+    /// A port of a switch by name, word or number.
+    pub fn port(&self, switch: u8, port: u8) -> String {
+        let own = |named: &Named| match named {
+            Named::Points(points) => points.contains(&[switch, port]),
+            _ => false,
+        };
+        let name = self.find(own).or_else(|| self.find(|named| *named == Named::Port(port)));
+        match name {
+            Some(name) => name.to_string(),
+            None if port == 0 => "drop".to_string(),
+            None if self.widths.is_some_and(|of| of.controller() == port) => {
+                "controller".to_string()
+            }
+            None => port.to_string(),
+        }
+    }
+
+    /// A header by name or number.
+    pub fn header(&self, header: u8) -> String {
+        let full = self.widths.map_or(u8::MAX, |of| of.headers());
+        let name = self.find(|named| *named == Named::Header([header, full]));
+        name.map_or_else(|| header.to_string(), String::from)
+    }
+
+    /// The name of a policy.
+    pub fn policy(&self, policy: u8) -> Option<&str> {
+        self.policies.get(&policy).map(String::as_str)
+    }
+
+    /// What a name stands for.
+    pub fn named(&self, name: &str) -> Option<&Named> {
+        self.given.get(name).map(|(named, _)| named)
+    }
+
+    /// The line on which a name was given.
+    pub fn line(&self, name: &str) -> Option<usize> {
+        self.given.get(name).map(|(_, line)| *line)
+    }
+
+    /// The name that something has already, and its line.
+    pub fn name_of(&self, named: &Named) -> Option<(&str, usize)> {
+        let has = |other: &Named| match (named, other) {
+            (Named::Points(mine), Named::Points(its)) => mine.iter().any(|one| its.contains(one)),
+            _ => other == named,
+        };
+        let name = self.find(has)?;
+        Some((name, self.line(name)?))
+    }
+
+    /// Every name given.
+    pub fn all(&self) -> impl Iterator<Item = &str> {
+        self.given.keys().map(String::as_str)
+    }
+
+    pub(crate) fn give(&mut self, name: &str, named: Named, line: usize) {
+        let (before, _) =
+            self.given.entry(name.to_string()).or_insert_with(|| (named.clone(), line));
+        if let (Named::Points(points), Named::Points(more)) = (before, named) {
+            points.extend(more.into_iter().filter(|one| !points.contains(one)).collect::<Vec<_>>());
+        }
+    }
+
+    pub(crate) fn give_policy(&mut self, policy: u8, name: &str) {
+        self.policies.insert(policy, name.to_string());
+    }
+
+    /// The policy that has a name.
+    pub fn policy_named(&self, name: &str) -> Option<u8> {
+        self.policies.iter().find(|(_, other)| *other == name).map(|(policy, _)| *policy)
+    }
+
+    fn find(&self, is_it: impl Fn(&Named) -> bool) -> Option<&str> {
+        self.given.iter().find(|(_, (named, _))| is_it(named)).map(|(name, _)| name.as_str())
+    }
+}

@@ -1,0 +1,333 @@
+//! Reads names, and what they stand for: switches, ports, points, headers and wards.
+
+use crate::fault::{nearest, quoted, Fault};
+use crate::names::{Area, Named, Point};
+use crate::parse::{Reader, STATEMENTS};
+use crate::tokens::{Statement, Token};
+use crate::widths::{read_pattern, Widths};
+
+impl Reader {
+    pub(crate) fn name(&mut self, of: Widths, statement: &mut Statement) -> Result<Vec<u8>, Fault> {
+        let kind = statement.peek();
+        let named = match kind.text {
+            "switch" => {
+                statement.take();
+                Named::Switch(statement.byte("a switch", of.switches())?)
+            }
+            "port" => {
+                statement.take();
+                match statement.ahead(1).text {
+                    ":" => Named::Points(vec![self.point(of, statement)?]),
+                    _ => Named::Port(statement.byte("a port", of.controller())?),
+                }
+            }
+            "header" => {
+                statement.take();
+                Named::Header(self.header_pattern(of, statement)?)
+            }
+            _ => return Err(statement.expected("`switch`, `port` or `header`")),
+        };
+        let name = self.new_name(&named, statement)?;
+        if let Some((before, line)) = self.names.name_of(&named) {
+            let message = format!("this {} has the name `{before}` (line {line})", kind.text);
+            return Err(name.fault(message).earlier(line));
+        }
+        statement.finish()?;
+        self.names.give(name.text, named, name.place.line);
+        Ok(vec![])
+    }
+
+    /// Reads a name that is not taken and no word of the language.
+    pub(crate) fn new_name<'a>(
+        &self,
+        named: &Named,
+        statement: &mut Statement<'a>,
+    ) -> Result<Token<'a>, Fault> {
+        let name = statement.peek();
+        if !is_name(name.text) {
+            return Err(statement.expected("a name (a letter, then letters, digits or `_`)"));
+        }
+        if let Some(word) = reserved(name.text) {
+            let message = format!("`{word}` is a word of the language and cannot be a name");
+            return Err(name.fault(message));
+        }
+        // Ports of several switches may have one name.
+        let of_others = match (named, self.names.named(name.text)) {
+            (Named::Points(mine), Some(Named::Points(its))) => {
+                mine.iter().all(|[switch, _]| its.iter().all(|[other, _]| switch != other))
+            }
+            _ => false,
+        };
+        match self.names.line(name.text) {
+            Some(line) if !of_others => {
+                let message = format!("the name `{}` is given in line {line}", quoted(name.text));
+                Err(name.fault(message).earlier(line))
+            }
+            _ => Ok(statement.take()),
+        }
+    }
+
+    pub(crate) fn ward(&mut self, of: Widths, statement: &mut Statement) -> Result<Vec<u8>, Fault> {
+        let name = self.new_name(&Named::Ward(vec![]), statement)?;
+        statement.expect(":")?;
+        let areas = self.areas(of, statement)?;
+        statement.finish()?;
+        self.names.give(name.text, Named::Ward(areas), name.place.line);
+        Ok(vec![])
+    }
+
+    /// Parts of the network: switches, points and wards.
+    pub(crate) fn areas(&self, of: Widths, statement: &mut Statement) -> Result<Vec<Area>, Fault> {
+        let mut areas = vec![];
+        loop {
+            areas.extend(self.area(of, statement)?);
+            if !statement.accept(",") {
+                return Ok(areas);
+            }
+        }
+    }
+
+    /// `switch` and a switch, `ward` and a ward, a point, or the name of any of them.
+    pub(crate) fn area(&self, of: Widths, statement: &mut Statement) -> Result<Vec<Area>, Fault> {
+        if statement.accept("switch") {
+            return Ok(vec![Area::Switch(self.switch(of, statement)?)]);
+        }
+        let by_word = statement.accept("ward");
+        let [name, behind] = [0, 1].map(|by| statement.ahead(by).text);
+        match self.names.named(name) {
+            Some(Named::Ward(areas)) => {
+                statement.take();
+                Ok(areas.clone())
+            }
+            _ if by_word => Err(self.with_nearest(statement, statement.expected("a ward's name"))),
+            Some(Named::Switch(switch)) if behind != ":" => {
+                statement.take();
+                Ok(vec![Area::Switch(*switch)])
+            }
+            _ => Ok(vec![Area::Point(self.point(of, statement)?)]),
+        }
+    }
+
+    /// Reads a switch by number or name.
+    pub(crate) fn switch(&self, of: Widths, statement: &mut Statement) -> Result<u8, Fault> {
+        if let Some(Named::Switch(switch)) = self.names.named(statement.peek().text) {
+            statement.take();
+            return Ok(*switch);
+        }
+        let read = statement.byte("a switch", of.switches());
+        read.map_err(|fault| self.with_nearest(statement, fault))
+    }
+
+    /// Reads a point: a switch and a port, or the name of one point.
+    pub(crate) fn point(&self, of: Widths, statement: &mut Statement) -> Result<Point, Fault> {
+        let token = statement.peek();
+        if let Some(Named::Points(points)) = self.names.named(token.text) {
+            let [point] = points[..] else {
+                let message = format!("`{}` is a port of several switches", quoted(token.text));
+                return Err(token.fault(message).hint("write the switch, `:` and the name"));
+            };
+            statement.take();
+            return Ok(point);
+        }
+        let switch = self.switch(of, statement)?;
+        statement.expect(":")?;
+        Ok([switch, self.port(of, switch, statement)?])
+    }
+
+    /// Reads one port of a switch by number, word or name.
+    pub(crate) fn port(
+        &self,
+        of: Widths,
+        switch: u8,
+        statement: &mut Statement,
+    ) -> Result<u8, Fault> {
+        if let Some(port) = self.port_word(of, Some(switch), statement)? {
+            return Ok(port);
+        }
+        let read = statement.byte("a port", of.controller());
+        read.map_err(|fault| self.with_nearest(statement, fault))
+    }
+
+    /// Reads the word or the name of a port, if there is one.
+    pub(crate) fn port_word(
+        &self,
+        of: Widths,
+        switch: Option<u8>,
+        statement: &mut Statement,
+    ) -> Result<Option<u8>, Fault> {
+        let token = statement.peek();
+        let port = match (token.text, self.names.named(token.text)) {
+            ("drop", _) => 0,
+            ("controller", _) => of.controller(),
+            (_, Some(Named::Port(port))) => *port,
+            (_, Some(Named::Points(points))) => {
+                let own = points.iter().find(|[its, _]| Some(*its) == switch);
+                match own {
+                    Some([_, port]) => *port,
+                    None => return Err(self.elsewhere(token, points, switch)),
+                }
+            }
+            _ => return Ok(None),
+        };
+        statement.take();
+        Ok(Some(port))
+    }
+
+    /// The fault of a port's name where it is not the name of a port.
+    pub(crate) fn elsewhere(&self, token: Token, points: &[Point], switch: Option<u8>) -> Fault {
+        let [other, port] = points[0];
+        let name = quoted(token.text);
+        let fault = match switch {
+            Some(switch) => {
+                let mine = self.names.switch(switch);
+                token.fault(format!("switch {mine} has no port with the name `{name}`"))
+            }
+            None => token.fault(format!("`{name}` is a port of one switch, not of every switch")),
+        };
+        fault.hint(format!("`{name}` is port {port} of switch {}", self.names.switch(other)))
+    }
+
+    /// Value and care of a switch: a number, a name, or a pattern with a star.
+    pub(crate) fn switch_pattern(
+        &mut self,
+        of: Widths,
+        statement: &mut Statement,
+    ) -> Result<[u8; 2], Fault> {
+        match statement.peek().text.contains('*') {
+            true => self.pattern(statement, "switch", of.w),
+            false => Ok([self.switch(of, statement)?, of.switches()]),
+        }
+    }
+
+    /// Whether every ordinary port of a switch is linked.
+    pub(crate) fn is_linked_whole(&self, of: Widths, switch: u8) -> bool {
+        (1..of.controller()).all(|port| self.link_line([switch, port]).is_some())
+    }
+
+    /// The line of the link that ends at a point.
+    pub(crate) fn link_line(&self, point: Point) -> Option<usize> {
+        self.links.iter().find(|(end, _)| *end == point).map(|(_, line)| *line)
+    }
+
+    /// Value and care of a port pattern.
+    pub(crate) fn port_pattern(
+        &mut self,
+        of: Widths,
+        switch: Option<u8>,
+        statement: &mut Statement,
+    ) -> Result<[u8; 2], Fault> {
+        match self.port_word(of, switch, statement)? {
+            Some(port) => Ok([port, of.controller()]),
+            None => self.pattern(statement, "port", of.p),
+        }
+    }
+
+    /// Value and care of a header pattern.
+    pub(crate) fn header_pattern(
+        &mut self,
+        of: Widths,
+        statement: &mut Statement,
+    ) -> Result<[u8; 2], Fault> {
+        if let Some(Named::Header(pattern)) = self.names.named(statement.peek().text) {
+            statement.take();
+            return Ok(*pattern);
+        }
+        self.pattern(statement, "header", of.h)
+    }
+
+    pub(crate) fn pattern(
+        &mut self,
+        statement: &mut Statement,
+        what: &str,
+        width: u8,
+    ) -> Result<[u8; 2], Fault> {
+        let token = statement.peek();
+        let Some(pattern) = read_pattern(token.text, width) else {
+            let most = (1u8 << width) - 1;
+            let form = format!("a {what} pattern (0, 1 or *, {width} long) or a number to {most}");
+            return Err(self.with_nearest(statement, statement.expected(&form)));
+        };
+        statement.take();
+        // These two words alone are bits in one ward and a number in another.
+        if width == 2 && ["10", "11"].contains(&token.text) {
+            let Token { text, place } = token;
+            let value = pattern[0];
+            self.note(format!(
+                "line {}: `{text}` is read as two bits, {what} {value}; the number {value} is \
+                 plainer, as `{text}` is a number in a ward with more {what} bits",
+                place.line
+            ));
+        }
+        Ok(pattern)
+    }
+
+    /// The fault at a word, with the name that is nearest.
+    pub(crate) fn with_nearest(&self, statement: &Statement, fault: Fault) -> Fault {
+        match nearest(statement.peek().text, self.names.all()) {
+            Some(name) => fault.hint(format!("did you mean `{name}`?")),
+            None => fault,
+        }
+    }
+}
+
+fn is_name(word: &str) -> bool {
+    word.starts_with(|c: char| c.is_ascii_alphabetic()) && !word.contains('*')
+}
+
+/// The words that have a meaning in the language, so that none of them is a name.
+const WORDS: &[&str] = &[
+    "H",
+    "P",
+    "W",
+    "X",
+    "Y",
+    "R",
+    "E",
+    "switch",
+    "port",
+    "header",
+    "priority",
+    "output",
+    "set",
+    "drop",
+    "controller",
+    "nodes",
+    "exists",
+    "forall",
+    "and",
+    "or",
+    "not",
+    "bit",
+    "tc",
+    "arriving",
+    "departing",
+    "external",
+    "at",
+    "steps",
+    "reaches",
+    "loops",
+    "no",
+    "nothing",
+    "what",
+    "everything",
+    "enters",
+    "leaves",
+    "never",
+    "meet",
+    "only",
+    "by",
+    "way",
+    "of",
+    "from",
+    "is",
+    "dropped",
+    "with",
+    "true",
+    "false",
+];
+
+/// The word of the language that a name is, in whatever letters.
+fn reserved(name: &str) -> Option<&'static str> {
+    let same = |word: &&&str| word.eq_ignore_ascii_case(name);
+    WORDS.iter().chain(&STATEMENTS).find(same).copied()
+}

@@ -1,0 +1,139 @@
+//! The network behind an answer: which record acts on a packet state, and where it goes from there.
+//!
+//! The gate's verdicts do not depend on this; it finds what the words beside a verdict tell. The
+//! records are those of a network that no row refuses.
+
+use crate::widths::Widths;
+use crate::Record;
+
+/// Port 0 is drop.
+pub const DROP: u8 = 0;
+
+/// A port of a switch.
+pub type Point = [u8; 2];
+
+/// A packet state.
+#[derive(Clone, Copy, Debug, PartialEq, Eq)]
+pub struct State {
+    pub departing: bool,
+    pub point: Point,
+    pub header: u8,
+}
+
+impl State {
+    pub fn numbered(number: usize, of: Widths) -> State {
+        let field = |from: u8, width: u8| (number >> from & ((1 << width) - 1)) as u8;
+        State {
+            departing: field(of.bits() - 1, 1) == 1,
+            point: [field(of.h + of.p, of.w), field(of.h, of.p)],
+            header: field(0, of.h),
+        }
+    }
+
+    pub fn number(self, of: Widths) -> usize {
+        let [switch, port] = self.point.map(usize::from);
+        usize::from(self.departing) << (of.bits() - 1)
+            | switch << (of.h + of.p)
+            | port << of.h
+            | usize::from(self.header)
+    }
+}
+
+/// A network that no row refuses.
+#[derive(Clone, Copy, Debug)]
+pub struct Network<'a> {
+    pub widths: Widths,
+    pub records: &'a [Record],
+}
+
+impl<'a> Network<'a> {
+    pub fn new(records: &'a [Record]) -> Option<Network<'a>> {
+        let widths = Widths::of(records.first()?)?;
+        Some(Network { widths, records })
+    }
+
+    /// How many states there are.
+    pub fn states(&self) -> usize {
+        1 << self.widths.bits()
+    }
+
+    /// The other end of the link at a point.
+    pub fn other_end(&self, point: Point) -> Option<Point> {
+        let links = self.records.iter().filter(|record| record[0] == 2);
+        let mut ends = links.flat_map(|link| {
+            let [one, other] = [[link[1], link[2]], [link[3], link[4]]];
+            [(one, other), (other, one)]
+        });
+        ends.find(|(end, _)| *end == point).map(|(_, other)| other)
+    }
+
+    /// Whether a point is external: ordinary, and no link ends there.
+    pub fn is_external(&self, point: Point) -> bool {
+        self.is_ordinary(point[1]) && self.other_end(point).is_none()
+    }
+
+    fn is_ordinary(&self, port: u8) -> bool {
+        port != DROP && port != self.widths.controller()
+    }
+
+    /// The place of the record that acts on an arriving state: of the matching rules the first with
+    /// the highest priority, or else the switch's miss.
+    pub fn acting(&self, state: State) -> Option<usize> {
+        let [switch, port] = state.point;
+        if state.departing || port == DROP {
+            return None;
+        }
+        let mut best: Option<(u16, usize)> = None;
+        for (place, record) in self.records.iter().enumerate() {
+            let is_better = best.is_none_or(|(priority, _)| priority_of(record) > priority);
+            let matches = port & record[5] == record[4] && state.header & record[7] == record[6];
+            if record[0] == 4 && record[1] == switch && matches && is_better {
+                best = Some((priority_of(record), place));
+            }
+        }
+        let miss = || self.records.iter().position(|record| record[..2] == [3, switch]);
+        best.map(|(_, place)| place).or_else(miss)
+    }
+
+    /// The states that a state steps to.
+    pub fn next(&self, state: State) -> Vec<State> {
+        if state.departing {
+            let arrive = |point| State { departing: false, point, ..state };
+            return self.other_end(state.point).map(arrive).into_iter().collect();
+        }
+        match self.acting(state) {
+            Some(place) => self.copies(&self.records[place], state),
+            None => vec![],
+        }
+    }
+
+    /// The copies that a record's actions send of an arriving state.
+    fn copies(&self, record: &Record, state: State) -> Vec<State> {
+        let [switch, _] = state.point;
+        let mut header = state.header;
+        let mut copies = vec![];
+        for action in record[9..21].chunks(3).take(record[8].into()) {
+            let [kind, value, care] = [action[0], action[1], action[2]];
+            if kind == 2 {
+                header = header & !care | value;
+                continue;
+            }
+            let ports = (0..=self.widths.controller()).filter(|port| port & care == value);
+            let all = care == self.widths.controller();
+            for port in ports.filter(|port| all || self.is_ordinary(*port)) {
+                copies.push(State { departing: true, point: [switch, port], header });
+            }
+        }
+        copies
+    }
+
+    /// Whether one state steps to another.
+    pub fn steps(&self, from: usize, to: usize) -> bool {
+        let next = self.next(State::numbered(from, self.widths));
+        next.iter().any(|state| state.number(self.widths) == to)
+    }
+}
+
+fn priority_of(record: &Record) -> u16 {
+    u16::from_le_bytes([record[2], record[3]])
+}

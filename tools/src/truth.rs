@@ -1,0 +1,252 @@
+//! The truth of a policy's nodes for every pair of states, and the Y that goes with a state.
+
+use crate::formula::Node;
+use crate::steps::{Network, State};
+
+/// The states for which something is true, a bit each.
+type Row = [u64; 16];
+
+/// For each state as X, the states that make a node true as Y.
+#[derive(Clone, Debug, PartialEq, Eq)]
+pub struct Plane(Vec<Row>);
+
+impl Plane {
+    fn empty(states: usize) -> Plane {
+        Plane(vec![[0; 16]; states])
+    }
+
+    fn of(states: usize, is_true: impl Fn(usize, usize) -> bool) -> Plane {
+        let mut plane = Plane::empty(states);
+        for x in 0..states {
+            for y in (0..states).filter(|y| is_true(x, *y)) {
+                plane.add(x, y);
+            }
+        }
+        plane
+    }
+
+    fn add(&mut self, x: usize, y: usize) {
+        self.0[x][y / 64] |= 1 << (y % 64);
+    }
+
+    pub fn has(&self, x: usize, y: usize) -> bool {
+        self.0[x][y / 64] >> (y % 64) & 1 == 1
+    }
+
+    /// Pairs joined by a chain of one or more pairs.
+    fn closed(mut self) -> Plane {
+        for through in 0..self.0.len() {
+            let onward = self.0[through];
+            for x in 0..self.0.len() {
+                if self.has(x, through) {
+                    for (word, more) in self.0[x].iter_mut().zip(onward) {
+                        *word |= more;
+                    }
+                }
+            }
+        }
+        self
+    }
+}
+
+/// The truth of each node of a policy.
+#[derive(Clone, Debug)]
+pub struct Truth<'a> {
+    nodes: &'a [Node],
+    planes: Vec<Plane>,
+}
+
+impl<'a> Truth<'a> {
+    pub fn of(network: Network, nodes: &'a [Node]) -> Truth<'a> {
+        let states = network.states();
+        let state = |number| State::numbered(number, network.widths);
+        let mut steps = Plane::empty(states);
+        for x in 0..states {
+            for next in network.next(state(x)) {
+                steps.add(x, next.number(network.widths));
+            }
+        }
+        let external: Vec<bool> =
+            (0..states).map(|number| network.is_external(state(number).point)).collect();
+        let mut truth = Truth { nodes, planes: vec![] };
+        for node in nodes {
+            let plane = truth.plane(*node, &steps, &external);
+            truth.planes.push(plane);
+        }
+        truth
+    }
+
+    fn plane(&self, node: Node, steps: &Plane, external: &[bool]) -> Plane {
+        let [kind, one, other] = node;
+        let states = external.len();
+        let of = |variable: u8, x: usize, y: usize| if variable == 0 { x } else { y };
+        let operand = |number: u8| &self.planes[usize::from(number)];
+        match kind {
+            0 => Plane::of(states, |x, y| of(one, x, y) >> other & 1 == 1),
+            1 => Plane::of(states, |x, y| steps.has(of(one, x, y), of(other, x, y))),
+            2 => Plane::of(states, |x, y| external[of(one, x, y)]),
+            3 => Plane::of(states, |x, y| !operand(one).has(x, y)),
+            4 => Plane::of(states, |x, y| operand(one).has(x, y) && operand(other).has(x, y)),
+            5 => Plane::of(states, |x, y| operand(one).has(x, y) || operand(other).has(x, y)),
+            6 | 7 => {
+                let plane = operand(one);
+                let truth = |free: usize| {
+                    let has = |bound: usize| match other {
+                        0 => plane.has(bound, free),
+                        _ => plane.has(free, bound),
+                    };
+                    match kind {
+                        6 => (0..states).any(has),
+                        _ => (0..states).all(has),
+                    }
+                };
+                let truths: Vec<bool> = (0..states).map(truth).collect();
+                Plane::of(states, |x, y| truths[of(1 - other, x, y)])
+            }
+            _ => {
+                let closed = operand(one).clone().closed();
+                Plane::of(states, |x, y| closed.has(of(other / 2, x, y), of(other % 2, x, y)))
+            }
+        }
+    }
+
+    /// Whether a state as X makes the last node true.
+    pub fn breaks(&self, x: usize) -> bool {
+        self.planes.last().is_some_and(|plane| plane.has(x, 0))
+    }
+
+    /// Why a state breaks the policy: first what is so of the state alone, then for each `exists Y.`
+    /// the lowest Y that goes with it.
+    pub fn reasons(&self, x: usize) -> Vec<Reason> {
+        let mut search = Search { truth: self, seen: vec![], reasons: vec![Reason::default()] };
+        if let Some(last) = self.nodes.len().checked_sub(1) {
+            search.explore(Sight { node: last, at: [x, 0], truth: true }, None);
+        }
+        search.reasons
+    }
+
+    /// A shortest walk of one or more pairs of a node's plane, both ends included.
+    fn walk(&self, node: usize, from: usize, to: usize) -> Option<Vec<usize>> {
+        let plane = &self.planes[node];
+        let mut before: Vec<Option<usize>> = vec![None; plane.0.len()];
+        let mut reached = vec![from];
+        let mut done = 0;
+        while before[to].is_none() {
+            let state = *reached.get(done)?;
+            done += 1;
+            for next in (0..plane.0.len()).filter(|next| plane.has(state, *next)) {
+                if before[next].is_none() {
+                    before[next] = Some(state);
+                    reached.push(next);
+                }
+            }
+        }
+        let mut walk = vec![to];
+        let mut last = before[to]?;
+        while last != from {
+            walk.push(last);
+            last = before[last]?;
+        }
+        walk.push(from);
+        walk.reverse();
+        Some(walk)
+    }
+}
+
+/// A part of why a state breaks a policy.
+#[derive(Clone, Debug, Default, PartialEq, Eq)]
+pub struct Reason {
+    /// The lowest Y that goes with the state.
+    pub y: Option<usize>,
+    /// Walks between the states, each from state to state.
+    pub walks: Vec<Vec<usize>>,
+}
+
+impl Reason {
+    /// Adds a walk, to the last one if it goes on from there.
+    fn add(&mut self, walk: Vec<usize>) {
+        match self.walks.last_mut() {
+            Some(before) if before.last() == walk.first() => before.extend(&walk[1..]),
+            _ => self.walks.push(walk),
+        }
+    }
+}
+
+/// The most places that are looked at for reasons; formulas that people write have far fewer.
+const MOST_SEEN: usize = 1_000;
+
+/// A node that is true, or false, for a pair of states as X and Y.
+#[derive(Clone, Copy, PartialEq, Eq)]
+struct Sight {
+    node: usize,
+    at: [usize; 2],
+    truth: bool,
+}
+
+struct Search<'t> {
+    truth: &'t Truth<'t>,
+    seen: Vec<Sight>,
+    reasons: Vec<Reason>,
+}
+
+impl Search<'_> {
+    /// Goes through the parts by which a node is true or false. Within an `exists Y.` it is known
+    /// for which reason.
+    fn explore(&mut self, sight: Sight, reason: Option<usize>) {
+        if self.seen.contains(&sight) || self.seen.len() == MOST_SEEN {
+            return;
+        }
+        self.seen.push(sight);
+        let Sight { node, at, truth } = sight;
+        let [kind, one, other] = self.truth.nodes[node];
+        let operands = [one, other].map(usize::from);
+        match (kind, truth) {
+            (1, true) => self.add(reason, operands.map(|variable| at[variable]).to_vec()),
+            (3, _) => self.explore(Sight { node: operands[0], at, truth: !truth }, reason),
+            (4, true) | (5, false) => {
+                for node in operands {
+                    self.explore(Sight { node, at, truth }, reason);
+                }
+            }
+            (4, false) | (5, true) => {
+                let agrees = |node: &usize| self.truth.planes[*node].has(at[0], at[1]) == truth;
+                if let Some(node) = operands.into_iter().find(agrees) {
+                    self.explore(Sight { node, at, truth }, reason);
+                }
+            }
+            (6, true) | (7, false) => self.choose(sight, operands[0], operands[1], reason),
+            (8, true) => {
+                let [from, to] = [at[operands[1] / 2], at[operands[1] % 2]];
+                if let Some(walk) = self.truth.walk(operands[0], from, to) {
+                    self.add(reason, walk);
+                }
+            }
+            _ => {}
+        }
+    }
+
+    fn add(&mut self, reason: Option<usize>, walk: Vec<usize>) {
+        self.reasons[reason.unwrap_or(0)].add(walk);
+    }
+
+    /// Chooses the lowest state for the variable. An outermost `exists X.` is not about the state
+    /// that breaks the policy.
+    fn choose(&mut self, sight: Sight, node: usize, variable: usize, reason: Option<usize>) {
+        if reason.is_none() && variable == 0 {
+            return;
+        }
+        let plane = &self.truth.planes[node];
+        let mut at = sight.at;
+        let is_it = |state: &usize| {
+            at[variable] = *state;
+            plane.has(at[0], at[1]) == sight.truth
+        };
+        let Some(state) = (0..plane.0.len()).find(is_it) else { return };
+        at[variable] = state;
+        let reason = reason.unwrap_or_else(|| {
+            self.reasons.push(Reason { y: Some(state), walks: vec![] });
+            self.reasons.len() - 1
+        });
+        self.explore(Sight { node, at, ..sight }, Some(reason));
+    }
+}

@@ -1,0 +1,90 @@
+//! Generated networks: texts without a fault that the library says hold.
+
+mod common;
+
+use common::parsed;
+use wegbaro_tests::gate::{Checked, Gate, STORE};
+use wegbaro_tests::library::Library;
+use wegbaro_tests::networks::work_needed;
+use wegbaro_tests::records::Record;
+use wegbaro_tools::generate::{generate, Kind, Options};
+use wegbaro_tools::print::whole_records;
+
+fn text(kind: Kind, switches: usize, flows: usize, seed: u64) -> String {
+    generate(kind, Options::new(switches, flows).unwrap(), seed)
+}
+
+fn records(text: &str) -> Vec<Record> {
+    let parsed = parsed(text);
+    assert_eq!(parsed.notes, Vec::<String>::new(), "{text}");
+    whole_records(&parsed.bytes).0
+}
+
+fn check(records: &[Record]) -> Checked {
+    let mut store = records.concat();
+    store.resize(STORE, 0);
+    Library.check(&store, records.len(), &mut vec![0; work_needed(records)])
+}
+
+#[test]
+fn networks_of_every_size_hold() {
+    for kind in Kind::ALL {
+        for switches in 2..=16 {
+            let flows = 2 * switches;
+            let text = text(kind, switches, flows, switches as u64);
+            let records = records(&text);
+            assert!(records.iter().any(|record| record[0] == 4), "{text}");
+            assert!(records[0][1..4].iter().sum::<u8>() < 10);
+            assert_eq!(check(&records), Checked::Holds, "{text}");
+        }
+    }
+}
+
+/// Routes have the length that the last policy allows: with one hop less it is broken.
+#[test]
+fn the_longest_route() {
+    for kind in Kind::ALL {
+        let text = text(kind, 6, 4, 5);
+        let (before, hops) = text.trim_end().rsplit_once("more than ").unwrap();
+        let hops: usize = hops.split(' ').next().unwrap().parse().unwrap();
+        assert!(hops > 2, "{text}");
+        let less = format!("{before}more than {} hop{}", hops - 1, if hops > 2 { "s" } else { "" });
+        let answer = check(&records(&less));
+        assert!(matches!(answer, Checked::Violated { policy: 2, .. }), "{answer:?} for {less}");
+    }
+}
+
+#[test]
+fn the_same_seed_gives_the_same_text() {
+    for kind in Kind::ALL {
+        assert_eq!(Kind::of(kind.word()), Some(kind));
+        assert_eq!(text(kind, 9, 7, 3), text(kind, 9, 7, 3));
+        assert_ne!(text(kind, 9, 7, 3), text(kind, 9, 7, 4));
+    }
+}
+
+/// A tree of fourteen switches has tiers of eight, four and two, joined as 2 to 4.
+#[test]
+fn shapes() {
+    let links = |text: &str| records(text).iter().filter(|record| record[0] == 2).count();
+    assert_eq!(links(&text(Kind::Tree, 16, 0, 1)), 8 * 2 + 4 * 2);
+    assert_eq!(links(&text(Kind::Ring, 16, 0, 1)), 16);
+    assert_eq!(links(&text(Kind::Ring, 2, 0, 1)), 1);
+    assert!(links(&text(Kind::Plod, 16, 0, 1)) >= 15);
+    // Few switches have most of the links.
+    let text = text(Kind::Plod, 16, 0, 2);
+    let mut degrees = [0; 16];
+    for record in records(&text).iter().filter(|record| record[0] == 2) {
+        degrees[usize::from(record[1])] += 1;
+        degrees[usize::from(record[3])] += 1;
+    }
+    degrees.sort();
+    assert!(degrees[11..].iter().sum::<usize>() >= degrees[..11].iter().sum(), "{text}");
+}
+
+#[test]
+fn options_out_of_range() {
+    for (switches, flows) in [(1, 1), (17, 1), (2, 65)] {
+        assert!(Options::new(switches, flows).is_err());
+    }
+}

@@ -1,0 +1,298 @@
+//! What the words beside an answer are made of, held against the library and the second
+//! implementation.
+
+use wegbaro::{check, command, work_bytes, Gate, Refusal, STORE_BYTES};
+use wegbaro_tests::commands::random_command;
+use wegbaro_tests::damage::damage;
+use wegbaro_tests::formulas::{and, or, policy, push, push_is_state, random_formula, some, Y};
+use wegbaro_tests::gate::{Checked, Gate as _};
+use wegbaro_tests::networks::{all_widths, crowded, guarded_network, random_network};
+use wegbaro_tests::networks::{work_needed, Sizes, Widths, MODEST};
+use wegbaro_tests::random::Random;
+use wegbaro_tests::second::{self, Second};
+use wegbaro_tools::book::Book;
+use wegbaro_tools::causes::{command_cause, network_cause};
+use wegbaro_tools::formula::Node;
+use wegbaro_tools::parse::{parse, parse_command};
+use wegbaro_tools::source::Source;
+use wegbaro_tools::steps::{Network, State};
+use wegbaro_tools::truth::Truth;
+use wegbaro_tools::words::record_words;
+use wegbaro_tools::Record;
+
+const SMALL: Widths = Widths { h: 1, p: 2, w: 1 };
+/// One switch, so that formulas have room for every bit of two states.
+const ONE: Widths = Widths { h: 1, p: 2, w: 0 };
+const BARE: Sizes = Sizes { links: 3, rules: 8, policies: 0, nodes: 0 };
+
+fn network(records: &[Record]) -> Network<'_> {
+    Network::new(records).unwrap()
+}
+
+#[test]
+fn steps_are_those_of_the_second_implementation() {
+    let mut random = Random::new(1);
+    for of in all_widths() {
+        let records = random_network(&mut random, of, MODEST);
+        let ours = network(&records);
+        let Ok(theirs) = second::file::read(&records) else { panic!("refused") };
+        for (number, next) in second::steps::all_steps(&theirs).iter().enumerate() {
+            let state = State::numbered(number, ours.widths);
+            assert_eq!(state.number(ours.widths), number);
+            let mut steps: Vec<usize> =
+                ours.next(state).iter().map(|state| state.number(ours.widths)).collect();
+            steps.sort();
+            steps.dedup();
+            let expected: Vec<usize> =
+                (0..ours.states()).filter(|state| next.contains(*state)).collect();
+            assert_eq!(steps, expected, "{of:?}, state {number}");
+        }
+    }
+}
+
+/// The lowest state that breaks the one policy, by the second implementation.
+fn lowest(records: &[Record]) -> Option<usize> {
+    let mut store = records.concat();
+    store.resize(STORE_BYTES, 0);
+    match Second.check(&store, records.len(), &mut vec![0; work_needed(records)]) {
+        Checked::Holds => None,
+        Checked::Violated { state, .. } => Some(state),
+        refused => panic!("{refused:?}"),
+    }
+}
+
+#[test]
+fn truth_is_that_of_the_second_implementation() {
+    let mut random = Random::new(2);
+    let [mut held, mut broken] = [0, 0];
+    for round in 0..400 {
+        let of = if round % 10 == 0 { Widths { h: 2, p: 3, w: 1 } } else { SMALL };
+        let bare = random_network(&mut random, of, BARE);
+        let length = 1 + random.below(14);
+        let nodes = random_formula(&mut random, of.bits(), length);
+        let truth = Truth::of(network(&bare), &nodes);
+        let ours = (0..1 << of.bits()).find(|state| truth.breaks(*state));
+        assert_eq!(ours, lowest(&[bare.clone(), policy(0, &nodes)].concat()), "{nodes:?}");
+        match ours {
+            Some(_) => broken += 1,
+            None => held += 1,
+        }
+    }
+    assert!(held > 50 && broken > 50, "{held} held, {broken} broken");
+}
+
+/// A formula over X and Y.
+fn random_pair(random: &mut Random, bits: u8) -> Vec<Node> {
+    let variable = |random: &mut Random| random.below(2) as u8;
+    let mut nodes =
+        vec![[1, variable(random), variable(random)], [0, Y, random.below(bits.into()) as u8]];
+    for _ in 0..random.below(4) {
+        let last = nodes.len() as u8 - 1;
+        let earlier = random.below(nodes.len()) as u8;
+        nodes.push(match random.below(4) {
+            0 => [3, last, 0],
+            1 => and(last, earlier),
+            2 => or(last, earlier),
+            _ => [8, last, random.below(4) as u8],
+        });
+    }
+    nodes
+}
+
+/// The Y of the first `exists Y.`.
+fn first_y(truth: &Truth, x: usize) -> Option<usize> {
+    truth.reasons(x).iter().find_map(|reason| reason.y)
+}
+
+/// Whether a formula is true for a pair of states, by the second implementation.
+fn is_true(bare: &[Record], nodes: &[Node], x: usize, y: usize) -> bool {
+    let bits = network(bare).widths.bits();
+    let mut nodes = nodes.to_vec();
+    let whole = nodes.len() as u8 - 1;
+    let is_y = push_is_state(&mut nodes, Y, y, bits);
+    let both = push(&mut nodes, and(whole, is_y));
+    let there = push(&mut nodes, some(both, Y));
+    let is_x = push_is_state(&mut nodes, 0, x, bits);
+    push(&mut nodes, and(there, is_x));
+    lowest(&[bare, &policy(0, &nodes)].concat()) == Some(x)
+}
+
+/// With `A & exists Y. B` the witness is the lowest Y that makes B true with the state.
+#[test]
+fn the_witness_is_the_lowest() {
+    let mut random = Random::new(3);
+    let mut found = 0;
+    for round in 0..400 {
+        let bare = random_network(&mut random, ONE, BARE);
+        let inner = random_pair(&mut random, 4);
+        let mut nodes = inner.clone();
+        let there = push(&mut nodes, some(inner.len() as u8 - 1, Y));
+        // In a conjunction, in a disjunction, or alone.
+        let outside = push(&mut nodes, [2, 0, 0]);
+        match round % 3 {
+            0 => push(&mut nodes, and(outside, there)),
+            1 => push(&mut nodes, or(there, there)),
+            _ => push(&mut nodes, and(there, there)),
+        };
+        let truth = Truth::of(network(&bare), &nodes);
+        let Some(x) = (0..16).rev().find(|state| truth.breaks(*state)) else { continue };
+        let y = first_y(&truth, x).unwrap();
+        assert!(is_true(&bare, &inner, x, y), "{inner:?}");
+        assert!((0..y).all(|lower| !is_true(&bare, &inner, x, lower)), "{inner:?}");
+        found += usize::from(y > 0);
+    }
+    assert!(found > 40, "{found}");
+}
+
+#[test]
+fn no_witness_where_no_y_is_chosen() {
+    let bare = random_network(&mut Random::new(4), SMALL, BARE);
+    let of = |nodes: &[Node]| first_y(&Truth::of(network(&bare), nodes), 31);
+    let [bit, some_y, all_y] = [[0, 1, 3], [6, 0, 1], [7, 0, 1]];
+    assert_eq!(of(&[bit, some_y]), Some(8));
+    // Not for all Y: the lowest for which it is false.
+    assert_eq!(of(&[bit, all_y, [3, 1, 0]]), Some(0));
+    assert_eq!(of(&[bit, [3, 0, 0], [7, 1, 1], [3, 2, 0]]), Some(8));
+    assert_eq!(of(&[[0, 0, 3]]), None);
+    assert_eq!(of(&[[0, 0, 3], [6, 0, 0]]), None);
+    assert_eq!(of(&[bit, some_y, [3, 1, 0], [3, 2, 0]]), Some(8));
+}
+
+/// The walk of a policy about what is reached leads by steps from X to Y, and none is shorter.
+#[test]
+fn walks() {
+    let mut random = Random::new(5);
+    let mut longest = 0;
+    for _ in 0..60 {
+        let records = random_network(&mut random, SMALL, BARE);
+        let network = network(&records);
+        let from = random.below(32);
+        let mut reached = vec![from];
+        for distance in 1..32 {
+            let steps = |to: &usize| reached.iter().any(|state| network.steps(*state, *to));
+            let next: Vec<usize> = (0..32).filter(steps).collect();
+            for to in &next {
+                let walk = walk_to(network, from, *to);
+                assert!(walk.len() <= distance + 1 && walk[0] == from);
+                assert_eq!(walk.last(), Some(to));
+                assert!(walk.windows(2).all(|pair| network.steps(pair[0], pair[1])));
+                longest = longest.max(walk.len());
+            }
+            reached = next;
+        }
+    }
+    assert!(longest > 4, "{longest}");
+}
+
+/// The walk from a state to another, which is reached.
+fn walk_to(network: Network, from: usize, to: usize) -> Vec<usize> {
+    let mut nodes = vec![[1, 0, 1], [8, 0, 1]];
+    let is_y = push_is_state(&mut nodes, Y, to, 5);
+    let both = push(&mut nodes, and(is_y, 1));
+    push(&mut nodes, some(both, Y));
+    let reasons = Truth::of(network, &nodes).reasons(from);
+    assert_eq!(reasons.len(), 2);
+    assert_eq!(reasons[1].y, Some(to));
+    reasons[1].walks[0].clone()
+}
+
+/// What many shared nodes are made of is looked at once.
+#[test]
+fn reasons_of_shared_nodes() {
+    let bare = random_network(&mut Random::new(8), SMALL, BARE);
+    let mut nodes = vec![[0, 1, 3], [6, 0, 1]];
+    for last in 1..31 {
+        push(&mut nodes, and(last, last));
+    }
+    let reasons = Truth::of(network(&bare), &nodes).reasons(31);
+    assert_eq!(reasons.iter().filter(|reason| reason.y == Some(8)).count(), 1);
+}
+
+/// The book goes with the gate's store through a series of commands.
+#[test]
+fn the_book_goes_with_the_gate() {
+    let mut random = Random::new(6);
+    let [mut forwarded, mut blocked] = [0, 0];
+    for _ in 0..40 {
+        let records = guarded_network(&mut random, SMALL);
+        let mut gate = Gate::new(&records).unwrap();
+        let mut book = Book::new(&records, &[]);
+        for number in 1..60 {
+            let given = random_command(&mut random, gate.records());
+            let Ok(given) = Record::try_from(given) else { continue };
+            let before = gate.records().to_vec();
+            match gate.command(&given) {
+                Ok(wegbaro::Commanded::Forwarded { .. }) => {
+                    book = book.after(&given, &format!("command {number}"));
+                    forwarded += 1;
+                }
+                Ok(_) => blocked += 1,
+                Err(_) => {}
+            }
+            assert_eq!(book.records, gate.records(), "{given:?} on {before:?}");
+            assert_eq!(book.origins.len(), book.records.len());
+        }
+    }
+    assert!(forwarded > 100 && blocked > 50, "{forwarded} forwarded, {blocked} blocked");
+}
+
+/// Every refusal of a damaged network or command has a cause of its own row.
+#[test]
+fn every_refusal_has_a_cause() {
+    let mut random = Random::new(7);
+    let mut seen = [0; 14];
+    let mut words: Vec<Vec<String>> = vec![vec![]; 14];
+    let mut count = |refusal: Refusal, cause: Option<wegbaro_tools::causes::Cause>, of: &str| {
+        let Some(cause) = cause else { panic!("{refusal} without a cause: {of}") };
+        seen[refusal.row] += 1;
+        let words = &mut words[refusal.row];
+        let form: String = cause.words.chars().filter(|c| !c.is_ascii_digit()).collect();
+        if !words.contains(&form) {
+            words.push(form);
+        }
+    };
+    for round in 0..6_000 {
+        let mut records = match round % 40 {
+            0 => crowded(&mut random, SMALL),
+            1..=20 => guarded_network(&mut random, SMALL),
+            _ => random_network(&mut random, Widths { h: 2, p: 2, w: 1 }, MODEST),
+        };
+        damage(&mut random, &mut records);
+        let mut store = records.concat();
+        store.resize(STORE_BYTES.max(store.len()), 0);
+        let mut work = vec![0; work_bytes(&records)];
+        let n = records.len();
+        if let Err(refusal) = check(&store, n, &mut work) {
+            let cause = network_cause(&records, refusal, &|place| format!("record {place}"));
+            count(refusal, cause, &format!("{records:?}"));
+            continue;
+        }
+        let given = random_command(&mut random, &records);
+        if let Err(refusal) = command(&mut store, n, &mut work, &given) {
+            let cause = command_cause(&records, &given, refusal);
+            count(refusal, cause, &format!("{given:?}"));
+        }
+    }
+    for row in [3, 4, 5, 6, 7, 8, 9, 10, 12] {
+        assert!(seen[row] > 0, "row {row}: {seen:?}");
+    }
+    // Rows with several causes show more than one of them.
+    for row in [3, 4, 5, 6, 7, 9, 12] {
+        assert!(words[row].len() > 1, "row {row}: {:?}", words[row]);
+    }
+}
+
+/// A command in words, with the names of its text, is read as the same command.
+#[test]
+fn commands_in_words_are_read_back() {
+    let text = include_str!("../../examples/templates/network.txt");
+    let source = Source::of_text(parse(text).unwrap());
+    let of = source.widths().unwrap();
+    let mut named = 0;
+    for given in &source.commands {
+        let words = record_words(&source, &given.record);
+        assert_eq!(parse_command(&words, of, &source.names), Ok(given.record), "{words}");
+        named += usize::from(words.contains("edge"));
+    }
+    assert!(named > 5, "{named}");
+}

@@ -1,0 +1,269 @@
+//! Each row in words: which of its causes it is, and the other line or record.
+
+mod running;
+
+use running::{expect, wegbaro};
+use wegbaro::Refusal;
+use wegbaro_tests::formulas::{and, bit, external, not, policy, r, some, tc, Node, X, Y};
+use wegbaro_tests::k::{k, k_set};
+use wegbaro_tests::records::{add, link, miss, output, record, rule, set, widths, with, Record};
+use wegbaro_tests::records::{Action, ANY};
+use wegbaro_tools::book::Book;
+use wegbaro_tools::source::Source;
+use wegbaro_tools::words::{Answer, Form, Teller};
+
+/// Checks what is said of records that a row refuses.
+fn refused(records: &[Record], words: &str) {
+    expect(&["check", "-"], &records.concat(), 1, &format!("start: refused: row {words}\n"));
+}
+
+/// Checks what is said of a text that a row refuses.
+fn refused_text(text: &str, words: &str) {
+    expect(&["check", "-"], text.as_bytes(), 1, &format!("start: refused: row {words}\n"));
+}
+
+/// A network of one switch without rules and policies.
+fn one() -> Vec<Record> {
+    vec![widths(1, 2, 0), miss(0, &[output(0, 3)])]
+}
+
+/// K with some bytes set: record, byte, value.
+fn k_refused(changes: &[(usize, usize, u8)], words: &str) {
+    refused(&k_set(changes), words);
+}
+
+#[test]
+fn row_1() {
+    refused(&[], "1, there are no records");
+    refused(&vec![[1; 24]; 642], "1, there are more than 641 records");
+}
+
+/// The store is always long enough here; the row's meaning is told.
+#[test]
+fn row_2() {
+    let source = Source::default();
+    let teller = Teller { source: &source, form: Form::Words, work: None };
+    let answer = Answer::Start(Err(Refusal { row: 2, place: 0 }));
+    let words = "start: refused: row 2, the store has fewer than 15,384 bytes\n";
+    assert_eq!(teller.tell(&Book::default(), &answer), words);
+}
+
+#[test]
+fn row_3() {
+    let first =
+        "3, the first record is a miss, and must be the widths, at record 0 (miss of switch 0)";
+    refused(&one()[1..], first);
+    k_refused(&[(0, 0, 0)], "3, its kind is 0, and kinds are 1 to 5, at record 0 (kind 0)");
+    k_refused(&[(19, 0, 9)], "3, its kind is 9, and kinds are 1 to 5, at record 19 (kind 9)");
+    let twice = "3, the widths are there already, record 0, at record 1 (widths)";
+    refused(&[widths(1, 2, 0), widths(1, 2, 0)], twice);
+    refused_text(
+        "# one switch\nwidths H 1 P 2 W 0\nmiss 0: output drop\nlink 0:1 - 0:2\n",
+        "3, a link stands after a miss (line 3), at record 2 (link 0), line 4",
+    );
+}
+
+#[test]
+fn row_4() {
+    let wrong = |h, p, w, words: &str| {
+        refused(&[widths(h, p, w)], &format!("4, {words}, at record 0 (widths)"));
+    };
+    wrong(0, 2, 1, "the header width H is 0, outside 1 to 6");
+    wrong(7, 2, 1, "the header width H is 7, outside 1 to 6");
+    wrong(1, 1, 1, "the port width P is 1, outside 2 to 4");
+    wrong(1, 5, 1, "the port width P is 5, outside 2 to 4");
+    wrong(1, 2, 5, "the switch width W is 5, outside 0 to 4");
+    wrong(6, 2, 2, "1 + H + P + W is 11, and 10 is the most");
+    wrong(255, 255, 255, "the header width H is 255, outside 1 to 6");
+}
+
+#[test]
+fn row_5_in_widths_links_and_matches() {
+    let widths = |byte, words: &str| {
+        k_refused(&[(0, byte, 1)], &format!("5, {words}, at record 0 (widths)"));
+    };
+    widths(4, "byte 4 is 1, and must be zero");
+    widths(23, "byte 23 is 1, and must be zero");
+    let link = |byte, value, words: &str| {
+        k_refused(&[(1, byte, value)], &format!("5, {words}, at record 1 (link 0)"));
+    };
+    link(1, 2, "there is no switch 2, the last is 1");
+    link(2, 4, "there is no port 4, the last is 3");
+    link(3, 9, "there is no switch 9, the last is 1");
+    link(4, 255, "there is no port 255, the last is 3");
+    link(5, 7, "byte 5 is 7, and must be zero");
+    let rule = |byte, value, words: &str| {
+        k_refused(&[(4, byte, value)], &format!("5, {words}, at record 4 (rule 0)"));
+    };
+    rule(1, 2, "there is no switch 2, the last is 1");
+    rule(4, 4, "the port has value 4, with a bit that care 3 leaves open");
+    rule(5, 7, "the port has care 7, which does not fit its width 2");
+    rule(6, 2, "the header has value 2, with a bit that care 1 leaves open");
+    rule(7, 2, "the header has care 2, which does not fit its width 1");
+    rule(21, 3, "byte 21 is 3, and must be zero");
+    let misses = "5, byte 2 is 1, and must be zero, at record 2 (miss of switch 0)";
+    k_refused(&[(2, 2, 1)], misses);
+    let none = "5, there is no switch 2, the last is 1, at record 3 (miss of switch 2)";
+    k_refused(&[(3, 1, 2)], none);
+}
+
+#[test]
+fn row_5_in_actions_and_nodes() {
+    let actions = |actions: &[Action], change: (usize, u8), words: &str| {
+        let rule = with(rule(0, 1, ANY, ANY, actions), change.0, change.1);
+        let words = format!("5, {words}, at record 2 (rule 0)");
+        refused(&[one(), vec![rule]].concat(), &words);
+    };
+    let out = output(1, 3);
+    actions(&[out], (8, 0), "the action count is 0, and must be 1 to 4");
+    actions(&[out], (8, 5), "the action count is 5, and must be 1 to 4");
+    actions(&[out], (9, 7), "action 1 has kind 7, neither 1 (output) nor 2 (set)");
+    actions(&[out], (11, 4), "action 1 has care 4, which does not fit its width 2");
+    actions(&[out], (10, 4), "action 1 has value 4, with a bit that care 3 leaves open");
+    actions(&[out], (12, 1), "byte 12 is 1, and must be zero");
+    actions(&[out, set(1, 1)], (8, 2), "action 2, the last one, is not an output");
+    actions(&[set(1, 3), out], (8, 2), "action 1 has care 3, which does not fit its width 1");
+    let node = |node: Node, words: &str| {
+        let words = format!("5, {words}, at record 2 (policy 0, node 0)");
+        refused(&[one(), policy(0, &[node])].concat(), &words);
+    };
+    node([0, 2, 0], "variable 2 is neither 0 (X) nor 1 (Y)");
+    node([0, 0, 4], "bit 4 is not below 4");
+    node([1, 0, 3], "variable 3 is neither 0 (X) nor 1 (Y)");
+    node([2, 0, 1], "byte 4 is 1, and must be zero");
+    node([3, 0, 1], "byte 4 is 1, and must be zero");
+    node([6, 0, 2], "variable 2 is neither 0 (X) nor 1 (Y)");
+    node([8, 0, 4], "4 is no pair of variables, 0 to 3");
+    node([9, 0, 0], "node kind 9 is not 0 to 8");
+    let stray = with(policy(0, &[external(X)])[0], 20, 1);
+    let words = "5, byte 20 is 1, and must be zero, at record 2 (policy 0, node 0)";
+    refused(&[one(), vec![stray]].concat(), words);
+    let ninth = "5, there is no policy 9, the last is 7, at record 2 (policy 9, node 0)";
+    refused(&[one(), policy(9, &[external(X)])].concat(), ninth);
+}
+
+#[test]
+fn row_6() {
+    let wrong = |ends: [u8; 4], words: &str| {
+        let [switch, port, other_switch, other_port] = ends;
+        let records =
+            [widths(1, 2, 1), link(0, 2, 1, 1), link(switch, port, other_switch, other_port)];
+        refused(&records, &format!("6, {words}, at record 2 (link 1)"));
+    };
+    wrong([0, 0, 1, 2], "port 0 of switch 0 is drop, and takes no link");
+    wrong([0, 1, 1, 3], "port 3 of switch 1 is the controller, and takes no link");
+    wrong([0, 1, 0, 1], "both ends are the same point");
+    wrong([0, 1, 1, 1], "port 1 of switch 1 is linked already, record 1");
+    wrong([0, 2, 1, 2], "port 2 of switch 0 is linked already, record 1");
+    refused_text(
+        "widths H 1 P 2 W 1\nlink 0:1 - 1:1\n# again\nlink 0:2 - 1:1\n",
+        "6, port 1 of switch 1 is linked already, line 2, at record 2 (link 1), line 4",
+    );
+}
+
+#[test]
+fn row_7() {
+    refused_text(
+        "widths H 1 P 2 W 1\nmiss 0: output drop\nadd 0 priority 1: output drop\n",
+        "7, switch 1 has no miss, at the end of the network, after 2 records",
+    );
+    refused_text(
+        "widths H 1 P 2 W 1\nmiss 0: output drop\nrule 0 priority 1: output drop\n",
+        "7, switch 1 has no miss, at record 2 (rule 0), line 3",
+    );
+    refused_text(
+        "widths H 1 P 2 W 1\nmiss 0: output drop\nmiss 0: output drop\n",
+        "7, switch 0 has its miss already, line 2, at record 2 (miss of switch 0), line 3",
+    );
+    refused_text(
+        "widths H 1 P 2 W 1\nmiss 1: output drop\nmiss 0: output drop\n",
+        "7, the miss of switch 0 comes before that of switch 1, at record 1 (miss of switch 1), \
+         line 2",
+    );
+}
+
+#[test]
+fn row_8() {
+    refused_text(
+        "widths H 1 P 2 W 0\nmiss 0: output drop\nrule 0 priority 1: output 1\n\
+         rule 0 priority 2: output 1\nrule 0 priority 1: output 2\n",
+        "8, a rule with this switch, priority, port and header is there already, line 3, at \
+         record 4 (rule 2), line 5",
+    );
+    let rules = [rule(0, 1, ANY, ANY, &[output(1, 3)]); 2];
+    let words = "8, a rule with this switch, priority, port and header is there already, \
+                 record 2, at record 3 (rule 1)";
+    refused(&[one(), rules.to_vec()].concat(), words);
+}
+
+#[test]
+fn row_9() {
+    let wrong = |policies: &[Vec<Record>], words: &str| {
+        refused(&[one(), policies.concat()].concat(), &format!("9, {words}"));
+    };
+    let fine = policy(0, &[external(X)]);
+    wrong(
+        &[policy(1, &[external(X)])],
+        "the first policy is 1, and must be 0, at record 2 (policy 1, node 0)",
+    );
+    wrong(
+        &[fine.clone(), policy(2, &[external(X)])],
+        "policy 2 stands after policy 0 (record 2), at record 3 (policy 2, node 0)",
+    );
+    wrong(
+        &[policy(0, &[external(X), and(0, 1)])],
+        "operand 1 of `AND 0 1` is not an earlier node, at record 3 (policy 0, node 1)",
+    );
+    wrong(
+        &[fine.clone(), policy(1, &[not(0)])],
+        "operand 0 of `NOT 0` is not an earlier node, at record 3 (policy 1, node 0)",
+    );
+    wrong(
+        &[policy(0, &[external(X), tc(200, X, X)])],
+        "operand 200 of `TC 200 X X` is not an earlier node, at record 3 (policy 0, node 1)",
+    );
+    wrong(
+        &[policy(0, &[r(X, Y), some(0, X)])],
+        "Y is free at `SOME 0 X`, the policy's last node, at record 3 (policy 0, node 1)",
+    );
+    wrong(
+        &[policy(0, &[bit(Y, 0)]), policy(1, &[external(X)])],
+        "Y is free at `BIT Y 0`, the policy's last node, at record 2 (policy 0, node 0)",
+    );
+}
+
+#[test]
+fn row_10() {
+    let rules = (0..257).map(|priority| rule(0, priority, ANY, ANY, &[output(1, 3)]));
+    let words = "10, 256 rules stand before it, and that is the most, at record 258 (rule 256)";
+    refused(&[one(), rules.collect()].concat(), words);
+    let policies: Vec<Record> = (0..9).flat_map(|number| policy(number, &[external(X)])).collect();
+    let words =
+        "10, 8 policies stand before it, and that is the most, at record 10 (policy 8, node 0)";
+    refused(&[one(), policies].concat(), words);
+    let words = "10, 32 nodes of its policy stand before it, and that is the most, at record 34 \
+                 (policy 0, node 32)";
+    refused(&[one(), policy(0, &[external(X); 33])].concat(), words);
+}
+
+/// Checks what is said of a command that row 12 refuses.
+fn refused_command(command: Record, words: &str) {
+    // A delete of nothing comes first, so that a command of any kind is a command.
+    let nothing = record(&[8]);
+    let ran = wegbaro(&["run", "-"], &[k(), vec![nothing, command]].concat().concat());
+    let line = ran.text().lines().last().unwrap();
+    assert!(line.ends_with(&format!(": refused: row 12, {words}")), "{line}");
+}
+
+#[test]
+fn row_12() {
+    let add = add(rule(0, 1, ANY, ANY, &[output(1, 3)]));
+    refused_command(
+        with(add, 0, 4),
+        "its kind is 4, and a command's is 6 (add), 7 (modify) or 8 (delete)",
+    );
+    refused_command(with(add, 1, 2), "there is no switch 2, the last is 1");
+    refused_command(with(add, 8, 0), "the action count is 0, and must be 1 to 4");
+    refused_command(with(add, 0, 8), "byte 8 is 1, and must be zero");
+    refused_command(with(with(add, 0, 7), 23, 5), "byte 23 is 5, and must be zero");
+}

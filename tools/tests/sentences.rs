@@ -1,0 +1,135 @@
+//! The sentences of README.md mean the formulas that stand below them.
+
+mod common;
+
+use common::parsed;
+use wegbaro_tests::gate::Checked;
+use wegbaro_tests::networks::{random_network, work_needed, Sizes, Widths};
+use wegbaro_tests::random::Random;
+use wegbaro_tests::records::Record;
+use wegbaro_tests::second;
+use wegbaro_tools::parse::parse;
+use wegbaro_tools::print::{print, whole_records};
+
+/// Each sentence and its formula.
+fn sentences() -> Vec<(String, String)> {
+    let readme = include_str!("../README.md");
+    let block = &readme[readme.find("    no loops\n").unwrap()..];
+    let mut found: Vec<(String, String)> = vec![];
+    for line in block.lines().map_while(|line| line.strip_prefix("    ")) {
+        match (line.strip_prefix("    "), found.last_mut()) {
+            (Some(more), Some((_, formula))) => *formula += &format!(" {more}"),
+            _ => found.push((line.to_string(), String::new())),
+        }
+    }
+    found
+}
+
+/// The records of a network with one policy more, unless the policy says nothing of it.
+fn with_policy(network: &[Record], policy: &str) -> Option<Vec<Record>> {
+    let text = format!("{}policy 0: {policy}\n", print(&network.concat()));
+    match parse(&text) {
+        Ok(parsed) => Some(whole_records(&parsed.bytes).0),
+        Err(faults) => {
+            let message = &faults[0].message;
+            assert!(message.starts_with("nothing enters or leaves"), "{message}");
+            None
+        }
+    }
+}
+
+fn check(records: &[Record]) -> Checked {
+    let mut store = records.concat();
+    store.resize(15_384, 0);
+    second::check(&store, records.len(), &mut vec![0; work_needed(records)])
+}
+
+#[test]
+fn every_sentence_is_its_formula() {
+    let sentences = sentences();
+    assert_eq!(sentences.len(), 15);
+    let mut random = Random::new(1);
+    let of = Widths { h: 1, p: 2, w: 2 };
+    let most = Sizes { links: 3, rules: 10, policies: 0, nodes: 0 };
+    for (sentence, formula) in sentences {
+        let [mut held, mut violated] = [0, 0];
+        while held < 4 || violated < 4 {
+            let network = random_network(&mut random, of, most);
+            let Some(records) = with_policy(&network, &sentence) else { continue };
+            let answer = check(&records);
+            let same = with_policy(&network, &formula).map(|records| check(&records));
+            assert_eq!(same, Some(answer), "{sentence}");
+            match answer {
+                Checked::Holds => held += 1,
+                Checked::Violated { .. } => violated += 1,
+                Checked::Refused { .. } => panic!("{answer:?} for {sentence}"),
+            }
+        }
+    }
+}
+
+/// In a ward of ten bits one line says it, and every point reaches every other by one policy.
+#[test]
+fn wards_of_ten_bits() {
+    let mut random = Random::new(2);
+    for (h, p, w) in [(6, 2, 1), (4, 2, 3), (1, 4, 4), (2, 3, 4), (5, 4, 0)] {
+        let misses: String = (0..1 << w).map(|it| format!("miss {it}: output drop\n")).collect();
+        let ward = format!("widths H {h} P {p} W {w}\n{misses}");
+        let nodes = |policy: &str| {
+            let parsed = parsed(&format!("{ward}policy 0: {policy}\n"));
+            assert_eq!(parsed.policies.len(), 1, "{policy}");
+            assert_eq!(parsed.notes, Vec::<String>::new());
+            whole_records(&parsed.bytes).0.iter().filter(|record| record[0] == 5).count()
+        };
+        assert!(nodes("header 1 never leaves") <= 25);
+        assert!(nodes("no frame comes back to a switch it left") <= 32);
+        assert_eq!(nodes("no route of more than 3 hops"), 15);
+        for _ in 0..50 {
+            let point = |random: &mut Random| {
+                format!("{}:{}", random.below(1 << w), 1 + random.below((1 << p) - 2))
+            };
+            let [one, other] = [point(&mut random), point(&mut random)];
+            nodes(&format!("what enters at {one} reaches {other}"));
+            nodes(&format!("what enters at {one} never reaches {other}"));
+            nodes(&format!("what enters at {one} leaves only at {other}"));
+            nodes(&format!("nothing from {one} is dropped"));
+        }
+    }
+}
+
+/// The fault of a sentence in a ward of two linked switches.
+fn fault(sentence: &str, message: &str) {
+    let text =
+        format!("widths H 1 P 2 W 1\nlink 0:1 - 1:1\nlink 0:2 - 1:2\npolicy 0: {sentence}\n");
+    let faults = parse(&text).unwrap_err();
+    assert_eq!(faults[0].to_string(), format!("line 4, {message}"));
+    assert_eq!(faults.len(), 1);
+}
+
+#[test]
+fn sentences_that_say_nothing() {
+    let nothing = "nothing enters or leaves at";
+    fault(
+        "what enters at 0:1 reaches 1:2",
+        &format!("column 26: {nothing} 0:1, which is linked in line 2"),
+    );
+    fault(
+        "header 1 never leaves at 0:drop",
+        &format!("column 36: {nothing} 0:drop, which is no ordinary port"),
+    );
+    fault(
+        "nothing from switch 1 is dropped",
+        &format!("column 24: {nothing} switch 1: its ports are linked"),
+    );
+    fault("switch 0 and 0:1 never meet", "column 24: switch 0 is in both");
+    fault(
+        "what enters leaves only by way of 0:1",
+        "column 45: a way leads over switches, not over a point alone",
+    );
+    fault("no route of more than 0 hops", "column 33: a route has 1 to 7 hops here");
+    fault("no routes", "column 14: expected `loops`, `loop`, `frame` or `route`, found `routes`");
+    fault(
+        "what enters vanishes",
+        "column 23: expected `reaches`, `never reaches` or `leaves`, found `vanishes`",
+    );
+}

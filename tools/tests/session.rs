@@ -1,0 +1,219 @@
+//! Sessions through pipes, one command at a time: its answer comes before the next is sent.
+
+mod running;
+
+use running::{complains, expect, file, program, wegbaro, K, K_LINES};
+use std::io::{BufRead, BufReader, Read, Write};
+use std::process::{Child, ChildStdin, ChildStdout};
+use std::sync::mpsc::{channel, Receiver};
+use std::thread;
+use std::time::Duration;
+use wegbaro_tests::k::{first_add, k, k_with_d, second_add};
+
+/// How long an answer may take.
+const PATIENCE: Duration = Duration::from_secs(20);
+
+/// A session that is going on.
+struct Session {
+    child: Child,
+    input: Option<ChildStdin>,
+    lines: Receiver<String>,
+}
+
+/// Hands on each line as it comes.
+fn listen(output: ChildStdout) -> Receiver<String> {
+    let (to, lines) = channel();
+    thread::spawn(move || {
+        for line in BufReader::new(output).lines() {
+            if to.send(line.unwrap()).is_err() {
+                return;
+            }
+        }
+    });
+    lines
+}
+
+impl Session {
+    fn new(arguments: &[&str]) -> Session {
+        let mut child = program(&[&["session"], arguments].concat()).spawn().unwrap();
+        let lines = listen(child.stdout.take().unwrap());
+        let input = child.stdin.take();
+        Session { child, input, lines }
+    }
+
+    /// The next line of an answer.
+    fn line(&self) -> String {
+        self.lines.recv_timeout(PATIENCE).expect("an answer in time")
+    }
+
+    fn send(&mut self, bytes: &[u8]) {
+        let input = self.input.as_mut().unwrap();
+        input.write_all(bytes).unwrap();
+        input.flush().unwrap();
+    }
+
+    /// Sends a command and waits for the first line of its answer.
+    fn ask(&mut self, bytes: &[u8]) -> String {
+        self.send(bytes);
+        self.line()
+    }
+
+    /// Ends the input: the exit status, and what was said on standard error.
+    fn end(mut self) -> (Option<i32>, String) {
+        drop(self.input.take());
+        let mut said = String::new();
+        self.child.stderr.take().unwrap().read_to_string(&mut said).unwrap();
+        assert!(self.lines.recv_timeout(PATIENCE).is_err(), "no more lines");
+        (self.child.wait().unwrap().code(), said)
+    }
+}
+
+/// K without commands, as a file of records.
+fn k_file(name: &str) -> String {
+    file(name, &k().concat())
+}
+
+#[test]
+fn a_line_and_its_answer() {
+    let mut session = Session::new(&[&k_file("lines")]);
+    assert_eq!(session.line(), "start: the network holds, no policy is broken");
+    let first = session.ask(b"add 0 priority 5: output 2\n");
+    assert!(first
+        .starts_with("command 1 (add 0 priority 5 port ** header *: output 2): blocked: policy 0"));
+    assert!(session.line().starts_with("    with Y = state 29 "));
+    let own = "    - switch 0: in at port 1, out at port 2, header 1 (command 1: rule 0 priority 5";
+    assert!(session.line().starts_with(own));
+    assert!(session.line().starts_with("    - switch 1: "));
+    // Empty lines and comments have no answer.
+    session.send(b"\n# a comment\n   \n");
+    let second = session.ask(b"  add 0 priority 5 header 0: output 2\r\n");
+    assert!(second.ends_with("forwarded, the network then has 21 records"), "{second}");
+    // Half a line has no answer until the rest comes.
+    session.send(b"delete 0 prior");
+    assert!(session.lines.recv_timeout(Duration::from_millis(200)).is_err());
+    let third = session.ask(b"ity 5 header 0\n");
+    assert!(third.ends_with("forwarded, the network then has 20 records"), "{third}");
+    assert_eq!(session.end(), (Some(1), String::new()));
+}
+
+#[test]
+fn a_faulty_line_is_told_and_passed_over() {
+    let mut session = Session::new(&[&k_file("faulty")]);
+    session.line();
+    let first = session.ask(b"add 0 priority 5 output 2\n");
+    assert!(first.starts_with("command 1:1:"), "{first}");
+    assert_eq!(session.line(), "    add 0 priority 5 output 2");
+    assert_eq!(session.line().trim_matches([' ', '^']), "");
+    let second = session.ask(b"rule 0 priority 5: output 2\n");
+    assert!(second.starts_with("command 2:1:1: expected a command"), "{second}");
+    session.line();
+    session.line();
+    let third = session.ask(b"add 0 priority 5 header 0: output 2\n");
+    assert!(third.starts_with("command 3 (add 0 "), "{third}");
+    assert_eq!(session.end(), (Some(2), String::new()));
+}
+
+#[test]
+fn lines_of_the_gate_and_objects() {
+    let mut session = Session::new(&["--gate", &k_file("gate")]);
+    assert_eq!(session.line(), "start holds");
+    assert_eq!(session.ask(b"add 0 priority 5: output 2\n"), "1 blocked 0 3");
+    assert_eq!(session.ask(b"ad\n"), "2 refused 12 0");
+    assert_eq!(session.ask(b"add 0 priority 5 header 0: output 2\n"), "3 forwarded 21");
+    // The last line may have no line break.
+    session.send(b"delete 0 priority 5");
+    drop(session.input.take());
+    assert_eq!(session.line(), "4 forwarded 21");
+    let (status, said) = session.end();
+    assert_eq!(status, Some(2));
+    assert!(said.starts_with("command 2:1:1: "), "{said}");
+
+    let mut session = Session::new(&["--json", &k_file("json")]);
+    session.line();
+    let first = session.ask(b"add 0 priority 5: output 2\n");
+    assert!(first.starts_with(r#"{"subject":"command","number":1,"command":"add "#), "{first}");
+    let second = session.ask(b"\x07\n");
+    let faulty =
+        r#"{"subject":"command","number":2,"answer":"faulty","file":"command 2","line":1,"#;
+    assert!(second.starts_with(faulty), "{second}");
+    assert_eq!(session.end(), (Some(2), String::new()));
+}
+
+#[test]
+fn records_one_at_a_time() {
+    let mut session = Session::new(&["--records", "--gate", &k_file("records")]);
+    assert_eq!(session.line(), "start holds");
+    assert_eq!(session.ask(&first_add()), "1 blocked 0 3");
+    session.send(&second_add()[..10]);
+    assert!(session.lines.recv_timeout(Duration::from_millis(200)).is_err());
+    assert_eq!(session.ask(&second_add()[10..]), "2 forwarded 21");
+    assert_eq!(session.ask(&[9; 24]), "3 refused 12 0");
+    assert_eq!(session.end(), (Some(1), String::new()));
+
+    let mut session = Session::new(&["--records", &k_file("cut")]);
+    session.line();
+    session.send(&[6, 0]);
+    drop(session.input.take());
+    assert_eq!(session.line(), "end: the input ends within a record");
+    assert_eq!(session.end(), (Some(2), String::new()));
+}
+
+/// The commands of the file are judged first, and numbers and the network go on from there.
+#[test]
+fn commands_of_the_file_come_first() {
+    let mut session = Session::new(&["--gate", K]);
+    for line in K_LINES.lines() {
+        assert_eq!(session.line(), line);
+    }
+    assert_eq!(session.ask(b"delete 0 priority 5 header 0\n"), "3 forwarded 20");
+    assert_eq!(session.end().0, Some(1));
+}
+
+#[test]
+fn a_network_that_does_not_hold_and_a_cut_file_have_no_session() {
+    let mut broken = k_with_d();
+    broken.remove(7);
+    let add = b"add 0 priority 8 header 1: output 0\n";
+    let broken = file("broken", &broken.concat());
+    expect(&["session", "--gate", &broken], add, 1, "start violated 0 3\n");
+    let refused = file("refused", &k().concat()[..48]);
+    expect(&["session", "--gate", &refused], add, 1, "start refused 7 2\n");
+    let cut = file("cut-network", &k().concat()[..50]);
+    expect(&["session", "--gate", &cut], add, 2, "end short\n");
+    let cut = file("cut-command", &[&k().concat()[..], &[6]].concat());
+    expect(&["session", "--gate", &cut], add, 2, "start holds\nend short\n");
+    complains(&["session", &file("text-fault", b"widths")], add, 2, ":1:7: expected `H`");
+}
+
+#[test]
+fn without_commands() {
+    expect(&["session", "--gate", &k_file("none")], b"", 0, "start holds\n");
+}
+
+/// Names of the text can be used in the session.
+#[test]
+fn names_of_the_text() {
+    let text = "widths H 2 P 2 W 1\nname switch 1 core\nname header 01 pump\nlink 0:2 - 1:1\n\
+                miss 0: output drop\nmiss 1: output drop\n\
+                policy 0 \"pumps stay\": exists Y. R(X,Y) & E(Y) & bit(Y,0)\n";
+    let file = file("names", text.as_bytes());
+    let ran = wegbaro(&["session", &file], b"add core priority 3 header pump: output 2\n");
+    let line = ran.text().lines().nth(1).unwrap();
+    let words = "command 1 (add core priority 3 port ** header pump: output 2): blocked: policy 0 \
+                 \"pumps stay\", line 7, is broken by state 21 (switch core (1), port 1, arriving, \
+                 header pump (1))";
+    assert_eq!(line, words, "{}", ran.said);
+}
+
+/// The session shown in README.md, on K.
+#[test]
+fn the_session_of_the_readme() {
+    let readme = include_str!("../README.md");
+    let block = &readme[readme.find("    wegbaro session ward.txt\n").unwrap()..];
+    let lines: Vec<&str> = block.lines().map_while(|line| line.strip_prefix("    ")).collect();
+    let [_, start, command, answer] = lines[..] else { panic!("{lines:?}") };
+    let mut session = Session::new(&[&k_file("readme")]);
+    assert_eq!(session.line(), start);
+    assert_eq!(session.ask(format!("{command}\n").as_bytes()), answer);
+    assert_eq!(session.end(), (Some(0), String::new()));
+}
