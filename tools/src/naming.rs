@@ -38,7 +38,7 @@ impl Reader {
     }
 
     /// Reads a name that is not taken and no word of the language.
-    pub(crate) fn new_name<'a>(
+    fn new_name<'a>(
         &self,
         named: &Named,
         statement: &mut Statement<'a>,
@@ -88,7 +88,7 @@ impl Reader {
     }
 
     /// `switch` and a switch, `ward` and a ward, a point, or the name of any of them.
-    pub(crate) fn area(&self, of: Widths, statement: &mut Statement) -> Result<Vec<Area>, Fault> {
+    fn area(&self, of: Widths, statement: &mut Statement) -> Result<Vec<Area>, Fault> {
         if statement.accept("switch") {
             return Ok(vec![Area::Switch(self.switch(of, statement)?)]);
         }
@@ -149,7 +149,7 @@ impl Reader {
     }
 
     /// Reads the word or the name of a port, if there is one.
-    pub(crate) fn port_word(
+    fn port_word(
         &self,
         of: Widths,
         switch: Option<u8>,
@@ -174,7 +174,7 @@ impl Reader {
     }
 
     /// The fault of a port's name where it is not the name of a port.
-    pub(crate) fn elsewhere(&self, token: Token, points: &[Point], switch: Option<u8>) -> Fault {
+    fn elsewhere(&self, token: Token, points: &[Point], switch: Option<u8>) -> Fault {
         let [other, port] = points[0];
         let name = quoted(token.text);
         let fault = match switch {
@@ -235,7 +235,7 @@ impl Reader {
         self.pattern(statement, "header", of.h)
     }
 
-    pub(crate) fn pattern(
+    fn pattern(
         &mut self,
         statement: &mut Statement,
         what: &str,
@@ -262,7 +262,7 @@ impl Reader {
     }
 
     /// The fault at a word, with the name that is nearest.
-    pub(crate) fn with_nearest(&self, statement: &Statement, fault: Fault) -> Fault {
+    fn with_nearest(&self, statement: &Statement, fault: Fault) -> Fault {
         match nearest(statement.peek().text, self.names.all()) {
             Some(name) => fault.hint(format!("did you mean `{name}`?")),
             None => fault,

@@ -8,7 +8,7 @@ use crate::record;
 use crate::templates::read_sentence;
 use crate::tokens::{Place, Statement, Token};
 use crate::widths::Widths;
-use crate::written::read_formula;
+use crate::written::{read_formula, Written};
 
 /// The most characters of a policy's name.
 const MOST_NAME: usize = 60;
@@ -64,15 +64,15 @@ impl Reader {
     ) -> Result<Vec<Node>, Fault> {
         let start = statement.peek();
         let source = statement.rest();
-        let written = match read_sentence(self, statement, of)? {
-            Some(written) => written,
-            None => read_formula(self, statement, of)?,
+        let forms = match read_sentence(self, statement, of)? {
+            Some(forms) => forms,
+            None => vec![read_formula(self, statement, of)?],
         };
         statement.finish()?;
-        if written.free()[1] {
+        if forms[0].free()[1] {
             return Err(start.fault("Y is free in this policy; only X may be"));
         }
-        match compile(&written, of) {
+        match compile_forms(&forms, of) {
             Compiled::One(nodes, constant) => {
                 if let Some(truth) = constant {
                     let what = if truth { "is broken by every state" } else { "forbids nothing" };
@@ -177,6 +177,13 @@ impl Reader {
         self.names.give_policy(policy, name);
         Ok(Some(name.to_string()))
     }
+}
+
+/// The first of several equal forms that is one policy, or else the first.
+fn compile_forms(forms: &[Written], of: Widths) -> Compiled {
+    let compiled: Vec<Compiled> = forms.iter().map(|form| compile(form, of)).collect();
+    let is_one = |form: &&Compiled| matches!(form, Compiled::One(..));
+    compiled.iter().find(is_one).unwrap_or(&compiled[0]).clone()
 }
 
 /// The records of a policy's nodes.

@@ -11,23 +11,24 @@ use crate::written::{Field, Written};
 /// The most hops that a route may be held to: the formula of more has more than 32 nodes.
 const MOST_HOPS: u16 = 7;
 
-/// Reads a sentence, if the statement goes on with one: the formula that it forbids.
+/// Reads a sentence, if the statement goes on with one: the formula that it forbids, and for some a
+/// second one that is true for the same states in every network with these links, and is shorter.
 pub fn read_sentence(
     reader: &mut Reader,
     statement: &mut Statement,
     of: Widths,
-) -> Result<Option<Written>, Fault> {
+) -> Result<Option<Vec<Written>>, Fault> {
     let [first, second] = [0, 1].map(|by| statement.ahead(by).text);
     let is_area = ["ward", "switch"].contains(&first) && second != "("
         || second == ":"
         || reader.names.named(first).is_some();
     let mut sentence = Sentence { reader, statement, of };
     Ok(Some(match first {
-        "no" => sentence.no()?,
-        "nothing" => sentence.nothing()?,
+        "no" => vec![sentence.no()?],
+        "nothing" => vec![sentence.nothing()?],
         "what" | "everything" => sentence.what()?,
-        "header" if second != "(" => sentence.header()?,
-        _ if is_area => sentence.apart()?,
+        "header" if second != "(" => vec![sentence.header()?],
+        _ if is_area => vec![sentence.apart()?],
         _ => return Ok(None),
     }))
 }
@@ -70,11 +71,11 @@ impl Sentence<'_, '_, '_> {
     /// `nothing [from AREAS] [with header PATTERN] is dropped`.
     fn nothing(&mut self) -> Result<Written, Fault> {
         self.statement.take();
-        let frames = Written::And(self.frames("from")?);
+        let (frames, _) = self.frames("from")?;
         self.words(&["is", "dropped"])?;
         let dropped = Written::Fits(Field::Port, Y, [0, self.of.controller()]);
         let walk = Written::And(vec![Written::reaches(X, Y), dropped]);
-        Ok(Written::And(vec![frames, walk.exists(Y)]))
+        Ok(Written::And([&frames[..], &[walk.exists(Y)]].concat()))
     }
 
     /// `header PATTERN never leaves [at AREAS]`.
@@ -84,7 +85,8 @@ impl Sentence<'_, '_, '_> {
         self.words(&["never", "leaves"])?;
         let mut out = vec![Written::reaches(X, Y), Written::External(Y), departing(Y)];
         if self.statement.accept("at") {
-            out.extend(self.outside(Y)?);
+            let areas = self.outside()?;
+            out.extend(self.at(Y, &areas));
         }
         out.push(Written::Fits(Field::Header, Y, pattern));
         let enters = [Written::External(X), arriving(X)];
@@ -93,53 +95,76 @@ impl Sentence<'_, '_, '_> {
 
     /// `what enters [at AREAS] [with header PATTERN]`, and what is then said of it; also with
     /// `everything that` for `what`.
-    fn what(&mut self) -> Result<Written, Fault> {
+    fn what(&mut self) -> Result<Vec<Written>, Fault> {
         if self.statement.take().text == "everything" {
             self.words(&["that"])?;
         }
         self.words(&["enters"])?;
-        let mut frames = self.frames("at")?;
-        if self.statement.accept("reaches") {
+        let (mut frames, from) = self.frames("at")?;
+        let walks = if self.statement.accept("reaches") {
             // A departing state at an external point gets nowhere, and is not meant.
             frames.push(arriving(X));
-            let there = self.areas(Y)?;
-            let walk = Written::And(vec![Written::reaches(X, Y), there]).exists(Y);
-            frames.push(walk.negated());
+            let there = self.reader.areas(self.of, self.statement)?;
+            let walks = self.walks(Written::Steps(X, Y), &from, &there);
+            walks.into_iter().map(Written::negated).collect()
         } else if self.statement.accept("never") {
             self.words(&["reaches"])?;
-            let there = self.areas(Y)?;
-            frames.push(Written::And(vec![Written::reaches(X, Y), there]).exists(Y));
+            let there = self.reader.areas(self.of, self.statement)?;
+            self.walks(Written::Steps(X, Y), &from, &there)
         } else if self.statement.accept("leaves") {
-            frames.push(self.leaves()?);
+            self.leaves(&from)?
         } else {
             return Err(self.statement.expected("`reaches`, `never reaches` or `leaves`"));
-        }
-        Ok(Written::And(frames))
+        };
+        let with_frames = |walk| Written::And([&frames[..], &[walk]].concat());
+        Ok(walks.into_iter().map(with_frames).collect())
     }
 
     /// `leaves only at AREAS`, `leaves [at AREAS] only by way of SWITCHES`.
-    fn leaves(&mut self) -> Result<Written, Fault> {
+    fn leaves(&mut self, from: &[Area]) -> Result<Vec<Written>, Fault> {
         if self.statement.accept_all(&["only", "at"]) {
-            let elsewhere = Written::And(self.outside(Y)?).negated();
+            let areas = self.outside()?;
+            let elsewhere = Written::And(self.at(Y, &areas)).negated();
             let out = vec![Written::reaches(X, Y), Written::External(Y), elsewhere];
-            return Ok(Written::And(out).exists(Y));
+            return Ok(vec![Written::And(out).exists(Y)]);
         }
-        let mut out = match self.statement.accept("at") {
-            true => self.outside(Y)?,
-            false => vec![Written::External(Y)],
+        let there = match self.statement.accept("at") {
+            true => self.outside()?,
+            false => vec![],
         };
         self.words(&["only", "by", "way", "of"])?;
         let start = self.statement.peek();
-        let areas = self.reader.areas(self.of, self.statement)?;
-        if areas.iter().any(|area| matches!(area, Area::Point(_))) {
+        let switches = self.reader.areas(self.of, self.statement)?;
+        if switches.iter().any(|area| matches!(area, Area::Point(_))) {
             return Err(start.fault("a way leads over switches, not over a point alone"));
         }
         // A walk to a departing state ends at the switch of the state before, so the first state of
         // each pair is enough.
-        let passed = Written::within(X, &areas, self.of).negated();
+        let passed = Written::within(X, &switches, self.of).negated();
         let step = Written::And(vec![Written::Steps(X, Y), passed]);
-        out.insert(0, Written::Closure(Box::new(step), X, Y));
-        Ok(Written::And(out).exists(Y))
+        if are_points(&there) {
+            return Ok(self.walks(step, from, &there));
+        }
+        let walk = Written::Closure(Box::new(step), X, Y);
+        let out = match there.is_empty() {
+            true => vec![Written::External(Y)],
+            false => self.at(Y, &there),
+        };
+        Ok(vec![Written::And([&[walk], &out[..]].concat()).exists(Y)])
+    }
+
+    /// A walk of such steps from X to the areas. Where X is at external points apart from these there
+    /// is a second form: a state in the areas is followed by every state, and X lies on a loop. No
+    /// step leads to X, so that the loop passes the areas.
+    fn walks(&self, step: Written, from: &[Area], there: &[Area]) -> Vec<Written> {
+        let walk = Written::Closure(Box::new(step.clone()), X, Y);
+        let walk = Written::And(vec![walk, Written::within(Y, there, self.of)]).exists(Y);
+        let apart = from.iter().all(|one| there.iter().all(|other| !overlap(one, other)));
+        if !are_points(from) || !apart {
+            return vec![walk];
+        }
+        let onward = Written::Or(vec![step, Written::within(X, there, self.of)]);
+        vec![walk, Written::Closure(Box::new(onward), X, X)]
     }
 
     /// `AREAS and AREAS never meet`.
@@ -160,38 +185,40 @@ impl Sentence<'_, '_, '_> {
         Ok(Written::And(vec![Written::External(X), met.exists(Y)]))
     }
 
-    /// What is so of a frame that enters, after the word at the areas named, with the header named. A
-    /// state at an external point that steps is arriving, so its direction need not be said.
-    fn frames(&mut self, word: &str) -> Result<Vec<Written>, Fault> {
-        let mut frames = match self.statement.accept(word) {
-            true => self.outside(X)?,
-            false => vec![Written::External(X)],
-        };
+    /// What is so of a frame that enters, after the word at the areas named, with the header named, and
+    /// the areas. A state at an external point that steps is arriving, so its direction need not be
+    /// said.
+    fn frames(&mut self, word: &str) -> Result<(Vec<Written>, Vec<Area>), Fault> {
+        let (mut frames, mut areas) = (vec![Written::External(X)], vec![]);
+        if self.statement.accept(word) {
+            areas = self.outside()?;
+            frames = self.at(X, &areas);
+        }
         if self.statement.accept("with") {
             self.words(&["header"])?;
             let pattern = self.reader.header_pattern(self.of, self.statement)?;
             frames.push(Written::Fits(Field::Header, X, pattern));
         }
-        Ok(frames)
+        Ok((frames, areas))
     }
 
-    fn areas(&mut self, variable: Variable) -> Result<Written, Fault> {
-        let areas = self.reader.areas(self.of, self.statement)?;
-        Ok(Written::within(variable, &areas, self.of))
-    }
-
-    /// The state is external and in one of the areas named; points among them must be external.
-    fn outside(&mut self, variable: Variable) -> Result<Vec<Written>, Fault> {
+    /// Areas at which something enters or leaves; points among them are external.
+    fn outside(&mut self) -> Result<Vec<Area>, Fault> {
         let start = self.statement.peek();
         let areas = self.reader.areas(self.of, self.statement)?;
         for area in &areas {
             self.is_outside(area, start)?;
         }
-        let within = Written::within(variable, &areas, self.of);
-        Ok(match areas.iter().all(|area| matches!(area, Area::Point(_))) {
+        Ok(areas)
+    }
+
+    /// The state is external and in one of the areas.
+    fn at(&self, variable: Variable, areas: &[Area]) -> Vec<Written> {
+        let within = Written::within(variable, areas, self.of);
+        match are_points(areas) {
             true => vec![within],
             false => vec![Written::External(variable), within],
-        })
+        }
     }
 
     /// At a linked point, at drop and at the controller nothing enters or leaves, so a sentence about
@@ -236,6 +263,11 @@ impl Sentence<'_, '_, '_> {
         }
         Ok(())
     }
+}
+
+/// Whether there are areas, and all of them are points.
+fn are_points(areas: &[Area]) -> bool {
+    !areas.is_empty() && areas.iter().all(|area| matches!(area, Area::Point(_)))
 }
 
 fn overlap(one: &Area, other: &Area) -> bool {

@@ -3,13 +3,19 @@
 mod common;
 
 use common::parsed;
+use wegbaro_tests::formulas::policy;
 use wegbaro_tests::gate::Checked;
 use wegbaro_tests::networks::{random_network, work_needed, Sizes, Widths};
 use wegbaro_tests::random::Random;
 use wegbaro_tests::records::Record;
 use wegbaro_tests::second;
-use wegbaro_tools::parse::parse;
+use wegbaro_tools::compile::{compile, Compiled};
+use wegbaro_tools::names::Names;
+use wegbaro_tools::parse::{parse, Reader};
 use wegbaro_tools::print::{print, whole_records};
+use wegbaro_tools::templates::read_sentence;
+use wegbaro_tools::tokens::statements;
+use wegbaro_tools::widths::Widths as Wide;
 
 /// Each sentence and its formula.
 fn sentences() -> Vec<(String, String)> {
@@ -68,6 +74,51 @@ fn every_sentence_is_its_formula() {
     }
 }
 
+/// The second form of a sentence is true for the same states as the first.
+#[test]
+fn both_forms_of_a_sentence() {
+    let mut random = Random::new(3);
+    let of = Widths { h: 1, p: 2, w: 2 };
+    let wide = Wide { h: 1, p: 2, w: 2 };
+    let most = Sizes { links: 4, rules: 12, policies: 0, nodes: 0 };
+    let sentences = [
+        "what enters at 0:1 with header 1 reaches 3:2",
+        "what enters at 0:1, 1:1 reaches switch 2",
+        "what enters at 0:1 never reaches 3:2, 0:2",
+        "what enters at 0:1 leaves at 3:2 only by way of switch 2",
+        "what enters at 0:1, 2:1 leaves at 3:2 only by way of switch 2, switch 1",
+    ];
+    for sentence in sentences {
+        let [mut held, mut violated] = [0, 0];
+        while held < 8 || violated < 8 {
+            let network = random_network(&mut random, of, most);
+            if with_policy(&network, sentence).is_none() {
+                continue;
+            }
+            let mut reader = Reader::with(wide, Names::default());
+            let forms = read_sentence(&mut reader, &mut statements(sentence)[0], wide);
+            let answers: Vec<Checked> = (forms.unwrap().unwrap().iter())
+                .map(|form| match compile(form, wide) {
+                    Compiled::One(nodes, _) => check(&[&network[..], &policy(0, &nodes)].concat()),
+                    other => panic!("{other:?} for {sentence}"),
+                })
+                .collect();
+            assert_eq!(answers.len(), 2);
+            assert_eq!(answers[0], answers[1], "{sentence}");
+            match answers[0] {
+                Checked::Holds => held += 1,
+                _ => violated += 1,
+            }
+        }
+    }
+    // A frame that comes back to its point by the first step: one form alone.
+    let mut reader = Reader::with(wide, Names::default());
+    for sentence in ["what enters at 0:1 reaches 0:1", "what enters reaches 0:1"] {
+        let forms = read_sentence(&mut reader, &mut statements(sentence)[0], wide);
+        assert_eq!(forms.unwrap().unwrap().len(), 1);
+    }
+}
+
 /// In a ward of ten bits one line says it, and every point reaches every other by one policy.
 #[test]
 fn wards_of_ten_bits() {
@@ -89,7 +140,11 @@ fn wards_of_ten_bits() {
                 format!("{}:{}", random.below(1 << w), 1 + random.below((1 << p) - 2))
             };
             let [one, other] = [point(&mut random), point(&mut random)];
+            let header = random.below(1 << h);
             nodes(&format!("what enters at {one} reaches {other}"));
+            if one != other {
+                nodes(&format!("what enters at {one} with header {header} reaches {other}"));
+            }
             nodes(&format!("what enters at {one} never reaches {other}"));
             nodes(&format!("what enters at {one} leaves only at {other}"));
             nodes(&format!("nothing from {one} is dropped"));

@@ -52,7 +52,7 @@ impl Gates<'_> {
     }
 
     /// Takes in the chains that a part is made of.
-    pub(super) fn gather(&mut self, id: Id) {
+    fn gather(&mut self, id: Id) {
         if self.chains.contains_key(&id) {
             return;
         }
@@ -77,7 +77,7 @@ impl Gates<'_> {
     }
 
     /// Makes the pair that most chains of a sign have a chain of its own; false if none has two.
-    pub(super) fn share_a_pair(&mut self) -> bool {
+    fn share_a_pair(&mut self) -> bool {
         let mut counts: BTreeMap<(Sign, Id, Id), usize> = BTreeMap::new();
         for (sign, set) in self.chains.values() {
             let ids: Vec<Id> = set.iter().copied().collect();
@@ -117,7 +117,7 @@ impl Gates<'_> {
     }
 
     /// The number of a part's node, whose operands come before it.
-    pub(super) fn emit(&mut self, id: Id) -> usize {
+    fn emit(&mut self, id: Id) -> usize {
         if let Some(number) = self.numbers.get(&id) {
             return *number;
         }
@@ -149,7 +149,7 @@ impl Gates<'_> {
         node
     }
 
-    pub(super) fn emit_chain(&mut self, id: Id) -> usize {
+    fn emit_chain(&mut self, id: Id) -> usize {
         let (sign, set) = self.chains[&id].clone();
         let mut whole = None;
         for member in set {

@@ -86,7 +86,7 @@ impl Parts {
         self.parts.len() - 1
     }
 
-    pub(super) fn free_of(&self, part: &Part) -> [bool; 2] {
+    fn free_of(&self, part: &Part) -> [bool; 2] {
         let only = |variable: Variable| Variable::BOTH.map(|other| other == variable);
         let both = |one: [bool; 2], other: [bool; 2]| [one[0] || other[0], one[1] || other[1]];
         match part {
@@ -132,7 +132,7 @@ impl Parts {
     }
 
     /// The negation of a part, if there is one so far.
-    pub(super) fn opposite(&self, id: Id) -> Option<Id> {
+    fn opposite(&self, id: Id) -> Option<Id> {
         match self.parts[id] {
             Part::Not(inside) => Some(inside),
             _ => self.ids.get(&Part::Not(id)).or(self.negations.get(&id)).copied(),
@@ -191,7 +191,7 @@ impl Parts {
 
     /// A set without the chains of the other sign that one of the set makes idle: of `a & (a | b)`
     /// the second, and of `a & (!a | b)` the `!a`.
-    pub(super) fn absorbed(&mut self, sign: Sign, set: BTreeSet<Id>) -> BTreeSet<Id> {
+    fn absorbed(&mut self, sign: Sign, set: BTreeSet<Id>) -> BTreeSet<Id> {
         let mut kept = BTreeSet::new();
         for id in &set {
             let alternatives = self.elements(*id, sign.other());
@@ -215,7 +215,7 @@ impl Parts {
     }
 
     /// A set in which a variable is bound once: `exists` among `|`, `forall` among `&`.
-    pub(super) fn quantified_once(&mut self, sign: Sign, mut set: BTreeSet<Id>) -> BTreeSet<Id> {
+    fn quantified_once(&mut self, sign: Sign, mut set: BTreeSet<Id>) -> BTreeSet<Id> {
         for variable in Variable::BOTH {
             let inside = |id: &Id| match (sign, &self.parts[*id]) {
                 (Sign::Or, Part::Some(inside, bound)) if *bound == variable => Some(*inside),
@@ -289,18 +289,13 @@ impl Parts {
         }
     }
 
-    pub(super) fn take_chain(&mut self, sign: Sign, parts: &[Written], of: Widths) -> Id {
+    fn take_chain(&mut self, sign: Sign, parts: &[Written], of: Widths) -> Id {
         let ids: Vec<Id> = parts.iter().map(|part| self.take(part, of)).collect();
         self.chain(sign, ids)
     }
 
     /// The bits from the lowest on fit the pattern.
-    pub(super) fn fits(
-        &mut self,
-        (lowest, width): (u8, u8),
-        one: Variable,
-        [value, care]: [u8; 2],
-    ) -> Id {
+    fn fits(&mut self, (lowest, width): (u8, u8), one: Variable, [value, care]: [u8; 2]) -> Id {
         let mut ids = vec![];
         for bit in (0..width).rev().filter(|bit| care >> bit & 1 == 1) {
             let is_one = self.id(Part::Bit(one, lowest + bit));

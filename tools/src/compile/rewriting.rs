@@ -6,7 +6,7 @@ use std::collections::{BTreeMap, HashMap};
 
 impl Parts {
     /// Whether a part is made of facts about Y alone.
-    pub(super) fn is_of_y(&self, id: Id) -> bool {
+    fn is_of_y(&self, id: Id) -> bool {
         match &self.parts[id] {
             Part::Bit(one, _) | Part::External(one) => *one == Variable::Y,
             Part::Not(inside) => self.is_of_y(*inside),
@@ -16,7 +16,7 @@ impl Parts {
     }
 
     /// A part made of facts about Y alone, with X for Y.
-    pub(super) fn of_x(&mut self, id: Id) -> Id {
+    fn of_x(&mut self, id: Id) -> Id {
         match self.parts[id].clone() {
             Part::Bit(_, bit) => self.id(Part::Bit(Variable::X, bit)),
             Part::External(_) => self.id(Part::External(Variable::X)),
