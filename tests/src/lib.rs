@@ -14,5 +14,6 @@ pub mod k;
 pub mod library;
 pub mod networks;
 pub mod random;
+pub mod reading;
 pub mod records;
 pub mod second;
