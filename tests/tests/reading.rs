@@ -1,4 +1,5 @@
-//! `docs/READING.md` against the crates: it names each definition that a promise rests on, and each edit.
+//! `docs/READING.md` against the crates: it names each definition that a promise rests on, each crate
+//! and each edit.
 
 use std::collections::{BTreeMap, BTreeSet};
 use std::fs;
@@ -23,14 +24,23 @@ fn sources() -> Sources {
     Sources::read(&root().join("crates")).unwrap()
 }
 
+fn text() -> String {
+    fs::read_to_string(root().join("docs/READING.md")).unwrap()
+}
+
 fn document() -> Document {
-    Document::parse(&fs::read_to_string(root().join("docs/READING.md")).unwrap())
+    Document::parse(&text())
 }
 
 /// What is wrong with the list of definitions that have to be believed.
-fn unlike(sources: &Sources, document: &Document, stops: &[Stop]) -> Result<Vec<String>, String> {
+fn differences(
+    sources: &Sources,
+    document: &Document,
+    stops: &[Stop],
+) -> Result<Vec<String>, String> {
     let promised = document.promised()?;
-    let functions: Result<Vec<Place>, String> = promised.iter().map(|f| sources.function(f)).collect();
+    let functions: Result<Vec<Place>, String> =
+        promised.iter().map(|f| sources.function(f)).collect();
     let theorems = document.theorems("The three demands")?;
     let walked = walk(sources, &functions?, &theorems, stops)?;
 
@@ -41,7 +51,8 @@ fn unlike(sources: &Sources, document: &Document, stops: &[Stop]) -> Result<Vec<
         wrong.push(format!("{place} is used by {} ({}), and not named", from.name, from.file));
     }
     for place in &named {
-        if !sources.files.get(&place.file).is_some_and(|f| f.definitions.contains_key(&place.name)) {
+        if !sources.files.get(&place.file).is_some_and(|f| f.definitions.contains_key(&place.name))
+        {
             wrong.push(format!("{place} is named, and does not exist"));
         } else if !walked.reached.contains_key(place) {
             wrong.push(format!("{place} is named, and no promise uses it"));
@@ -62,7 +73,23 @@ fn expect_none(wrong: Vec<String>) {
 
 #[test]
 fn names_what_has_to_be_believed() {
-    expect_none(unlike(&sources(), &document(), &STOPS).unwrap());
+    expect_none(differences(&sources(), &document(), &STOPS).unwrap());
+}
+
+#[test]
+fn misses_the_definitions_of_each_row() {
+    let (sources, text) = (sources(), text());
+    let believed = document().believed().unwrap().len();
+    let mut missed = 0;
+    for row in text.lines().filter(|line| line.starts_with("| ")) {
+        let less = Document::parse(&text.replacen(&format!("{row}\n"), "", 1));
+        let gone = believed - less.believed().unwrap().len();
+        if gone > 0 {
+            assert_eq!(differences(&sources, &less, &STOPS).unwrap().len(), gone, "{row}");
+        }
+        missed += gone;
+    }
+    assert_eq!(missed, believed);
 }
 
 #[test]
@@ -81,23 +108,31 @@ fn names_each_export() {
 #[test]
 fn exports_require_nothing() {
     let sources = sources();
-    let requires = |place: &Place| sources.files[&place.file].functions[&place.name].body.contains("requires");
-    expect_none(sources.exports().filter(requires).map(|p| format!("{p} requires something")).collect());
+    let requires =
+        |place: &Place| sources.files[&place.file].functions[&place.name].body.contains("requires");
+    expect_none(
+        sources.exports().filter(requires).map(|p| format!("{p} requires something")).collect(),
+    );
 }
 
 #[test]
 fn theorems_exist() {
     let (sources, document) = (sources(), document());
-    let exists = |p: &Place| sources.files.get(&p.file).is_some_and(|f| f.definitions.contains_key(&p.name));
+    let exists =
+        |p: &Place| sources.files.get(&p.file).is_some_and(|f| f.definitions.contains_key(&p.name));
     let theorems = document.theorems("What is proved of them").unwrap();
-    expect_none(theorems.iter().filter(|p| !exists(p)).map(|p| format!("{p} does not exist")).collect());
+    expect_none(
+        theorems.iter().filter(|p| !exists(p)).map(|p| format!("{p} does not exist")).collect(),
+    );
 }
 
 #[test]
 fn names_each_edit() {
     let mut edits = BTreeSet::new();
     for folder in entries(&root().join("crates")).unwrap() {
-        for edit in entries(&root().join("crates").join(&folder).join("must-fail")).unwrap_or_default() {
+        for edit in
+            entries(&root().join("crates").join(&folder).join("must-fail")).unwrap_or_default()
+        {
             edits.extend(edit.strip_suffix(".edit").map(|label| format!("{folder}/{label}")));
         }
     }
@@ -115,4 +150,177 @@ fn names_each_crate() {
         .map(|(name, rest)| (name, rest.split_whitespace().collect()))
         .collect();
     assert_eq!(document().crates().unwrap(), crates);
+}
+
+/// A call of a crate `high`, whose promise goes over the names of a crate `low`.
+const FILES: [(&str, &str); 4] = [
+    (
+        "low/src/lib.rt",
+        "// A number of bits.
+pub struct Size {
+    bits: u8,
+}
+",
+    ),
+    (
+        "low/specs/Base.antt",
+        "use Prim.Native.Nat.{ℕ}
+use Rattle.low.specs.declared.Size.{Size}
+
+-- shapes
+pub data Shape : Type 0 where
+  flat : Shape
+  round square : ℕ → Shape
+
+pub data Colour : Type 0 where
+  red : Colour
+
+-- what only a comment, a proof and what a proof unfolds name
+unfoldable pub extra : ℕ
+extra = 0
+
+module _ (of : Colour) where
+  -- the sides of a square
+  abbrev both : ℕ → ℕ
+  both n = sides (square n)  -- not extra
+
+-- twice the bits of a size
+unfoldable pub twice : Size → ℕ
+unfolding extra
+twice size = both (size .bits)
+
+-- a law
+pub law : (size : Size) → twice size ≡ twice size
+law size = proof {
+  extra
+}
+",
+    ),
+    (
+        "high/specs/Promise.antt",
+        "use Rattle.low.specs.Base.{twice as double, round}
+use Rattle.low.specs.declared.Size.{Size}
+
+-- it is kept
+pub record Kept (size : Size)
+    (r : ℕ) : Type 0 where
+  pub is : r ≡ double size
+  pub also : Rattle.high.specs.Promise.Other
+      → r ≡ r
+
+abbrev pub Other : Type 0
+Other = Type 0
+",
+    ),
+    (
+        "high/src/lib.rt",
+        "ghost use Rattle.high.specs.Promise.{Kept};
+use low::Size;
+
+// The call.
+#[no_mangle]
+pub extern \"C\" fn run(size: Size) -> u64
+    ensures { λ r. ⌜ Kept size r ⌝ }
+{
+    0
+}
+",
+    ),
+];
+
+/// What has to be believed of it.
+const SMALL: &str = "
+## What has to be believed
+| document | file | definitions |
+|---|---|---|
+| a | `low/src/lib.rt` | `Size` |
+| b | `low/specs/Base` | `twice`, `both`, `Shape`, `Colour` |
+| c | `high/specs/Promise` | `Kept`, `Other` |
+## What the code promises
+| function | promise |
+|---|---|
+| `run` | `Kept` |
+## The three demands
+| demand | theorems | file |
+|---|---|---|
+| d | `law` | `low/specs/Base` |
+| e | | |
+";
+
+/// The differences with a text changed in the document, and one in the files.
+fn small(
+    document: (&str, &str),
+    files: (&str, &str),
+    stops: &[Stop],
+) -> Result<Vec<String>, String> {
+    let mut sources = Sources::default();
+    for (path, text) in FILES {
+        sources.add(path, &text.replace(files.0, files.1))?;
+    }
+    differences(&sources, &Document::parse(&SMALL.replace(document.0, document.1)), stops)
+}
+
+const SAME: (&str, &str) = ("", "");
+
+fn one(result: Result<Vec<String>, String>, wrong: &str) {
+    assert_eq!(result, Ok(vec![wrong.to_string()]));
+}
+
+#[test]
+fn follows_types_and_bodies_but_no_proof() {
+    assert_eq!(small(SAME, SAME, &[]), Ok(vec![]));
+    for (name, file, user) in [
+        ("Size", "low/src/lib.rt", "law (low/specs/Base)"),
+        ("both", "low/specs/Base.antt", "twice (low/specs/Base)"),
+        ("Shape", "low/specs/Base.antt", "both (low/specs/Base)"),
+        ("Colour", "low/specs/Base.antt", "both (low/specs/Base)"),
+        ("Kept", "high/specs/Promise.antt", "run (high/src/lib.rt)"),
+        ("Other", "high/specs/Promise.antt", "Kept (high/specs/Promise)"),
+    ] {
+        let used = format!("crates/{file}: {name} is used by {user}, and not named");
+        one(small((&format!("`{name}`"), ""), SAME, &[]), &used);
+    }
+}
+
+#[test]
+fn follows_a_change_of_the_files() {
+    let third = ("twice size = both", "twice size = third\n\nthird : ℕ → ℕ\nthird n = both");
+    let used = "crates/low/specs/Base.antt: third is used by twice (low/specs/Base), and not named";
+    one(small(SAME, third, &[]), used);
+    let unused = "crates/low/specs/Base.antt: Shape is named, and no promise uses it";
+    one(small(SAME, ("square n", "n"), &[]), unused);
+}
+
+#[test]
+fn refuses_what_is_not_there_not_used_or_named_twice() {
+    let gone = "crates/low/specs/Base.antt: thrice is named, and does not exist";
+    one(small(("`both`", "`both`, `thrice`"), SAME, &[]), gone);
+    let unused = "crates/low/specs/Base.antt: extra is named, and no promise uses it";
+    one(small(("`both`", "`both`, `extra`"), SAME, &[]), unused);
+    let again = "crates/low/specs/Base.antt: both is named twice";
+    one(small(("`both`", "`both`, `both`"), SAME, &[]), again);
+}
+
+#[test]
+fn refuses_what_it_cannot_read() {
+    for promise in [("`run`", "`walk`"), ("`law`", "`flaw`"), ("| e | |", "| e | `law` |")] {
+        assert!(small(promise, SAME, &[]).is_err(), "{promise:?}");
+    }
+    for line in [
+        ("pub law :", "pub law of :"),
+        ("{twice as double,", "{thrice as double,"),
+        ("low.specs.Base.{", "low.specs.Bases.{"),
+        ("abbrev both :", "abbrev _both_ :"),
+    ] {
+        assert!(small(SAME, line, &[]).is_err(), "{line:?}");
+    }
+}
+
+#[test]
+fn stops_where_it_is_told_to() {
+    let body = [Stop::Body("low/specs/Base", "twice")];
+    assert_eq!(small((", `both`, `Shape`, `Colour`", ""), SAME, &body), Ok(vec![]));
+    let file = [Stop::Files("Promise")];
+    assert_eq!(small(("`Kept`, `Other`", ""), SAME, &file), Ok(vec![]));
+    one(small(SAME, SAME, &[Stop::Files("Computed")]), "Files(\"Computed\") stops nothing");
 }

@@ -66,7 +66,8 @@ fn until<'a>(lines: &[&'a str], brace: &str) -> Vec<&'a str> {
 
 /// The signature of a function, and what stands between the corners of its contract.
 fn contract(head: &[&str]) -> Definition {
-    let promised = |l: &&&str| l.trim_start().starts_with("requires") || l.trim_start().starts_with("ensures");
+    let promised =
+        |l: &&&str| l.trim_start().starts_with("requires") || l.trim_start().starts_with("ensures");
     let statement: Vec<&str> = head.iter().filter(|l| !promised(l)).copied().collect();
     let body: Vec<&str> = head.iter().filter(promised).copied().collect();
     Definition { statement: statement.join(" "), body: body.join(" ") }

@@ -78,8 +78,12 @@ impl Document {
     /// The edits that are refused: `CRATE/LABEL`.
     pub fn edits(&self) -> Result<BTreeSet<&str>, String> {
         let lines = self.section("Edits that the prover refuses")?;
-        let word = |part: &str| part.chars().all(|c| c.is_ascii_lowercase() || c.is_ascii_digit() || c == '_');
-        let edit = |name: &&str| name.split('/').count() == 2 && name.split('/').all(|p| !p.is_empty() && word(p));
+        let word = |part: &str| {
+            part.chars().all(|c| c.is_ascii_lowercase() || c.is_ascii_digit() || c == '_')
+        };
+        let edit = |name: &&str| {
+            name.split('/').count() == 2 && name.split('/').all(|p| !p.is_empty() && word(p))
+        };
         Ok(lines.iter().flat_map(|line| quoted(line)).filter(edit).collect())
     }
 
@@ -90,7 +94,9 @@ impl Document {
             let direct = quoted(row[2]);
             let further = direct.iter().filter_map(|d| crates.get(d)).flatten();
             let all = further.chain(&direct).copied().collect();
-            let [name] = quoted(row[0])[..] else { return Err(format!("not one crate: {}", row[0])) };
+            let [name] = quoted(row[0])[..] else {
+                return Err(format!("not one crate: {}", row[0]));
+            };
             crates.insert(name, all);
         }
         Ok(crates)

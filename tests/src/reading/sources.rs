@@ -69,7 +69,15 @@ const MARKS: &[char] = &['(', ')', '{', '}', '[', ']', ';', ',', ':', '&', '⌜'
 /// after a dot of its own, as `.count`, is a field, and no name.
 pub fn names(text: &str) -> BTreeSet<&str> {
     text.split(|c: char| c.is_whitespace() || MARKS.contains(&c))
-        .map(|token| if token.starts_with("Rattle·") { token } else { token.split('.').next().unwrap() })
+        .map(
+            |token| {
+                if token.starts_with("Rattle·") {
+                    token
+                } else {
+                    token.split('.').next().unwrap()
+                }
+            },
+        )
         .filter(|name| !name.is_empty())
         .collect()
 }
@@ -132,7 +140,11 @@ impl Sources {
         let place = self.in_program(place);
         let file = self.files.get(&place.file).ok_or(format!("{place}: there is no such file"))?;
         let owner = [&file.constructors, &file.fields].into_iter().find_map(|m| m.get(&place.name));
-        let name = if file.definitions.contains_key(&place.name) { &place.name } else { owner.unwrap_or(&place.name) };
+        let name = if file.definitions.contains_key(&place.name) {
+            &place.name
+        } else {
+            owner.unwrap_or(&place.name)
+        };
         if !file.definitions.contains_key(name) {
             return Err(format!("{place} is used, and not defined there"));
         }

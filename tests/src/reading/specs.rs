@@ -1,7 +1,7 @@
 //! Files of antt: their definitions, theorems and `use` lines.
 
 use super::code;
-use super::sources::{File, Place};
+use super::sources::{names, File, Place};
 
 /// A line without its comment.
 struct Line<'a> {
@@ -88,12 +88,21 @@ fn item(chunk: &[Line], parameters: &str, file: &mut File) -> Result<String, Str
     if !statement.starts_with([':', '{', '(']) || !statement.contains(':') {
         return Err(format!("neither a definition nor a theorem: {}", chunk[0].text));
     }
+    if name.contains('_') || !names(name).contains(name) {
+        return Err(format!("a name that is not found where it is used: {name}"));
+    }
     file.define(name, &format!("{parameters} {statement}"), "");
     Ok(name.to_string())
 }
 
 /// A `record` with its fields, or a `data` with its constructors.
-fn members(name: &str, data: bool, chunk: &[Line], parameters: &str, file: &mut File) -> Result<(), String> {
+fn members(
+    name: &str,
+    data: bool,
+    chunk: &[Line],
+    parameters: &str,
+    file: &mut File,
+) -> Result<(), String> {
     let start = head(chunk)?;
     file.define(name, &format!("{parameters} {}", joined(&chunk[..start])), "");
     for member in chunks(&chunk[start..]) {
@@ -133,7 +142,9 @@ pub fn used(path: &str, name: &str) -> Result<Place, String> {
     let parts: Vec<&str> = path.strip_prefix("Rattle·").unwrap_or(path).split('.').collect();
     let krate = parts[0].strip_suffix("·specs").unwrap_or(parts[0]);
     match parts[1..] {
-        ["specs", "declared", ref modules @ .., of, "the-variants"] => Ok(code::place(krate, modules, of)),
+        ["specs", "declared", ref modules @ .., of, "the-variants"] => {
+            Ok(code::place(krate, modules, of))
+        }
         ["specs", "declared", ref modules @ .., of] => Ok(code::place(krate, modules, of)),
         [_, _, ..] if !name.is_empty() => {
             Ok(Place::new(&format!("{krate}/{}", parts[1..].join("/")), name))

@@ -28,8 +28,14 @@ pub struct Walked<'a> {
     pub met: BTreeSet<&'a Stop>,
 }
 
-/// Walks from functions, by their contracts, and from theorems, by their statements.
-pub fn walk<'a>(sources: &Sources, functions: &[Place], theorems: &[Place], stops: &'a [Stop]) -> Result<Walked<'a>, String> {
+/// Walks from functions, by their contracts, and from theorems, by their statements. Whatever these use
+/// is followed by its type and by what it is.
+pub fn walk<'a>(
+    sources: &Sources,
+    functions: &[Place],
+    theorems: &[Place],
+    stops: &'a [Stop],
+) -> Result<Walked<'a>, String> {
     let mut walked = Walked { reached: BTreeMap::new(), met: BTreeSet::new() };
     let mut open: Vec<(Place, String)> = Vec::new();
     for place in functions {
@@ -37,7 +43,8 @@ pub fn walk<'a>(sources: &Sources, functions: &[Place], theorems: &[Place], stop
         open.push((place.clone(), format!("{statement} {body}")));
     }
     for place in theorems {
-        let found = sources.files.get(&place.file).and_then(|file| file.definitions.get(&place.name));
+        let found =
+            sources.files.get(&place.file).and_then(|file| file.definitions.get(&place.name));
         let theorem = found.ok_or(format!("{place}: there is no such theorem"))?;
         open.push((place.clone(), theorem.statement.clone()));
     }
