@@ -311,6 +311,7 @@ fn refuses_what_it_cannot_read() {
         ("{twice as double,", "{thrice as double,"),
         ("low.specs.Base.{", "low.specs.Bases.{"),
         ("abbrev both :", "abbrev _both_ :"),
+        ("    ensures { λ r. ⌜ Kept size r ⌝ }\n{", "{"),
     ] {
         assert!(small(SAME, line, &[]).is_err(), "{line:?}");
     }

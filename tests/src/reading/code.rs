@@ -13,17 +13,19 @@ pub fn place(krate: &str, modules: &[&str], name: &str) -> Place {
 pub fn parse(path: &str, text: &str) -> Result<File, String> {
     let own = path.split('/').next().unwrap();
     let lines: Vec<&str> = text.lines().map(|l| l.split("//").next().unwrap().trim_end()).collect();
+    let modules: Vec<&str> = lines.iter().filter_map(|l| named(l, &["pub mod ", "mod "])).collect();
     let mut file = File::default();
     for i in 0..lines.len() {
         let line = lines[i].trim_start();
         if let Some(used) = line.strip_prefix("ghost use ") {
             specs::use_line(used.trim_end_matches(';'), &mut file)?;
         } else if let Some(used) = line.strip_prefix("use ") {
-            use_type(own, used.trim_end_matches(';'), &mut file);
+            use_type(own, &modules, used.trim_end_matches(';'), &mut file);
         } else if let Some(name) = declared(line) {
-            file.define(name, "", &until(&lines[i..], "}").join(" "));
+            let end = lines[i..].iter().position(|l| l.starts_with('}')).unwrap_or(1);
+            file.define(name, "", &lines[i..i + end].join(" "));
         } else if let Some(name) = function(line) {
-            file.functions.insert(name.to_string(), contract(&until(&lines[i..], "{")));
+            file.functions.insert(name.to_string(), contract(&lines[i..]));
             if line.contains("extern \"C\"") {
                 file.exported.insert(name.to_string());
             }
@@ -32,15 +34,20 @@ pub fn parse(path: &str, text: &str) -> Result<File, String> {
     Ok(file)
 }
 
-/// A `use` of a type; functions are not followed.
-fn use_type(own: &str, path: &str, file: &mut File) {
+/// A `use` of a type; functions are not followed. A path begins with a crate, or with a module of the file.
+fn use_type(own: &str, modules: &[&str], path: &str, file: &mut File) {
     let parts: Vec<&str> = path.split("::").collect();
-    let (name, modules) = parts.split_last().unwrap();
-    if !name.starts_with(char::is_uppercase) || modules.is_empty() {
-        return;
+    let place = match parts[..] {
+        ["crate", ref inner @ .., name] => place(own, inner, name),
+        [first, .., name] if modules.contains(&first) => {
+            place(own, &parts[..parts.len() - 1], name)
+        }
+        [krate, ref inner @ .., name] => place(krate, inner, name),
+        _ => return,
+    };
+    if place.name.starts_with(char::is_uppercase) {
+        file.uses.insert(place.name.clone(), place);
     }
-    let krate = if modules[0] == "crate" { own } else { modules[0] };
-    file.uses.insert(name.to_string(), place(krate, &modules[1..], name));
 }
 
 /// The name that follows a word at the start of a line.
@@ -57,18 +64,19 @@ fn function(line: &str) -> Option<&str> {
     named(line, &["pub extern \"C\" fn ", "pub fn ", "fn "])
 }
 
-/// The lines up to the one that ends a head or a block: a brace as indented as the first.
-fn until<'a>(lines: &[&'a str], brace: &str) -> Vec<&'a str> {
-    let indent = lines[0].len() - lines[0].trim_start().len();
-    let end = lines.iter().position(|l| l.trim_start() == brace && l.len() == indent + 1);
-    lines[..end.unwrap_or(1)].to_vec()
+fn promises(line: &str) -> bool {
+    line.starts_with("requires") || line.starts_with("ensures")
 }
 
-/// The signature of a function, and what stands between the corners of its contract.
-fn contract(head: &[&str]) -> Definition {
-    let promised =
-        |l: &&&str| l.trim_start().starts_with("requires") || l.trim_start().starts_with("ensures");
-    let statement: Vec<&str> = head.iter().filter(|l| !promised(l)).copied().collect();
-    let body: Vec<&str> = head.iter().filter(promised).copied().collect();
-    Definition { statement: statement.join(" "), body: body.join(" ") }
+/// The signature of a function, and what it requires and ensures: the lines before its body.
+fn contract(lines: &[&str]) -> Definition {
+    let mut found = Definition::default();
+    for line in lines.iter().map(|line| line.trim_start()) {
+        let part = if promises(line) { &mut found.body } else { &mut found.statement };
+        *part += &format!(" {line}");
+        if line.ends_with('{') && !promises(line) {
+            break;
+        }
+    }
+    found
 }

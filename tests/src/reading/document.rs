@@ -13,6 +13,10 @@ fn quoted(text: &str) -> Vec<&str> {
     text.split('`').skip(1).step_by(2).collect()
 }
 
+fn cell<'a>(row: &[&'a str], column: usize) -> Result<&'a str, String> {
+    row.get(column).copied().ok_or(format!("no column {column}: {}", row.join("|")))
+}
+
 /// The names of a cell in the file of another one.
 fn places(file: &str, names: &str) -> Result<Vec<Place>, String> {
     let names = quoted(names);
@@ -57,7 +61,7 @@ impl Document {
     pub fn believed(&self) -> Result<Vec<Place>, String> {
         let rows = self.rows("What has to be believed")?;
         let lists: Result<Vec<Vec<Place>>, String> =
-            rows.iter().map(|row| places(row[1], row[2])).collect();
+            rows.iter().map(|row| places(cell(row, 1)?, cell(row, 2)?)).collect();
         Ok(lists?.concat())
     }
 
@@ -71,7 +75,7 @@ impl Document {
     pub fn theorems(&self, title: &str) -> Result<Vec<Place>, String> {
         let rows = self.rows(title)?;
         let lists: Result<Vec<Vec<Place>>, String> =
-            rows.iter().map(|row| places(row[2], row[1])).collect();
+            rows.iter().map(|row| places(cell(row, 2)?, cell(row, 1)?)).collect();
         Ok(lists?.concat())
     }
 
@@ -91,7 +95,7 @@ impl Document {
     pub fn crates(&self) -> Result<BTreeMap<&str, BTreeSet<&str>>, String> {
         let mut crates: BTreeMap<&str, BTreeSet<&str>> = BTreeMap::new();
         for row in self.rows("The crates")? {
-            let direct = quoted(row[2]);
+            let direct = quoted(cell(&row, 2)?);
             let further = direct.iter().filter_map(|d| crates.get(d)).flatten();
             let all = further.chain(&direct).copied().collect();
             let [name] = quoted(row[0])[..] else {

@@ -129,7 +129,9 @@ impl Sources {
             return self.owner(&specs::used(path, last)?).map(Some);
         }
         if let Some(place) = from.uses.get(name) {
-            return self.owner(place).map(Some);
+            let krate = &place.file[..place.file.find('/').unwrap() + 1];
+            let toolchain = !self.files.keys().any(|file| file.starts_with(krate));
+            return if toolchain { Ok(None) } else { self.owner(place).map(Some) };
         }
         let own = from.constructors.get(name).map_or(name, |data| data);
         Ok(from.definitions.contains_key(own).then(|| Place::new(file, own)))

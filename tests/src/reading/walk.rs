@@ -40,6 +40,9 @@ pub fn walk<'a>(
     let mut open: Vec<(Place, String)> = Vec::new();
     for place in functions {
         let Definition { statement, body } = &sources.files[&place.file].functions[&place.name];
+        if body.is_empty() {
+            return Err(format!("{place} promises nothing"));
+        }
         open.push((place.clone(), format!("{statement} {body}")));
     }
     for place in theorems {
