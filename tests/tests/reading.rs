@@ -106,13 +106,15 @@ fn names_each_export() {
 }
 
 #[test]
-fn exports_require_nothing() {
-    let sources = sources();
-    let requires =
-        |place: &Place| sources.files[&place.file].functions[&place.name].body.contains("requires");
-    expect_none(
-        sources.exports().filter(requires).map(|p| format!("{p} requires something")).collect(),
-    );
+fn names_each_promise_that_requires_nothing() {
+    let (sources, document) = (sources(), document());
+    let requires = |path: &str| {
+        let place = sources.function(path).unwrap();
+        sources.files[&place.file].functions[&place.name].body.contains("requires")
+    };
+    let promised = document.promised().unwrap();
+    let free: BTreeSet<&str> = promised.into_iter().filter(|path| !requires(path)).collect();
+    assert_eq!(document.unconditional().unwrap(), free);
 }
 
 #[test]

@@ -71,6 +71,12 @@ impl Document {
         Ok(rows.iter().flat_map(|row| quoted(row[0])).collect())
     }
 
+    /// What the text beside that table names, which are the functions that require nothing.
+    pub fn unconditional(&self) -> Result<BTreeSet<&str>, String> {
+        let text = self.section("What the code promises")?.iter().filter(|l| !l.starts_with('|'));
+        Ok(text.flat_map(|line| quoted(line)).filter(|name| *name != "requires").collect())
+    }
+
     /// The theorems of a section: what they are about, theorems, file.
     pub fn theorems(&self, title: &str) -> Result<Vec<Place>, String> {
         let rows = self.rows(title)?;
