@@ -51,8 +51,7 @@ fn differences(
         wrong.push(format!("{place} is used by {} ({}), and not named", from.name, from.file));
     }
     for place in &named {
-        if !sources.files.get(&place.file).is_some_and(|f| f.definitions.contains_key(&place.name))
-        {
+        if !sources.has(place) {
             wrong.push(format!("{place} is named, and does not exist"));
         } else if !walked.reached.contains_key(place) {
             wrong.push(format!("{place} is named, and no promise uses it"));
@@ -96,13 +95,8 @@ fn misses_the_definitions_of_each_row() {
 fn names_each_export() {
     let (sources, document) = (sources(), document());
     let promised = document.promised().unwrap();
-    expect_none(
-        sources
-            .exports()
-            .filter(|place| !promised.contains(&place.name.as_str()))
-            .map(|place| format!("{place} is exported, and its promise not named"))
-            .collect(),
-    );
+    let missing = sources.exports().filter(|place| !promised.contains(&place.name.as_str()));
+    expect_none(missing.map(|place| format!("{place} is exported, and not named")).collect());
 }
 
 #[test]
@@ -120,23 +114,19 @@ fn names_each_promise_that_requires_nothing() {
 #[test]
 fn theorems_exist() {
     let (sources, document) = (sources(), document());
-    let exists =
-        |p: &Place| sources.files.get(&p.file).is_some_and(|f| f.definitions.contains_key(&p.name));
     let theorems = document.theorems("What is proved of them").unwrap();
-    expect_none(
-        theorems.iter().filter(|p| !exists(p)).map(|p| format!("{p} does not exist")).collect(),
-    );
+    let missing = theorems.iter().filter(|place| !sources.has(place));
+    expect_none(missing.map(|place| format!("{place} does not exist")).collect());
 }
 
 #[test]
 fn names_each_edit() {
+    let crates = root().join("crates");
     let mut edits = BTreeSet::new();
-    for folder in entries(&root().join("crates")).unwrap() {
-        for edit in
-            entries(&root().join("crates").join(&folder).join("must-fail")).unwrap_or_default()
-        {
-            edits.extend(edit.strip_suffix(".edit").map(|label| format!("{folder}/{label}")));
-        }
+    for folder in entries(&crates).unwrap() {
+        let files = entries(&crates.join(&folder).join("must-fail")).unwrap_or_default();
+        let labels = files.iter().filter_map(|file| file.strip_suffix(".edit"));
+        edits.extend(labels.map(|label| format!("{folder}/{label}")));
     }
     let document = document();
     let named: BTreeSet<String> = document.edits().unwrap().iter().map(|e| e.to_string()).collect();

@@ -65,21 +65,18 @@ pub struct Sources {
 /// The characters that end a name besides white space.
 const MARKS: &[char] = &['(', ')', '{', '}', '[', ']', ';', ',', ':', '&', '⌜', '⌝', '<', '>'];
 
-/// The names in a text, with the part before a dot alone: `Verdict` of `Verdict.holds`. What stands
-/// after a dot of its own, as `.count`, is a field, and no name.
+/// The names in a text.
 pub fn names(text: &str) -> BTreeSet<&str> {
-    text.split(|c: char| c.is_whitespace() || MARKS.contains(&c))
-        .map(
-            |token| {
-                if token.starts_with("Rattle·") {
-                    token
-                } else {
-                    token.split('.').next().unwrap()
-                }
-            },
-        )
-        .filter(|name| !name.is_empty())
-        .collect()
+    let tokens = text.split(|c: char| c.is_whitespace() || MARKS.contains(&c));
+    tokens.map(before_dot).filter(|name| !name.is_empty()).collect()
+}
+
+/// `Verdict` of `Verdict.holds`, and nothing of a field, as `.count`; a whole path stays as it is.
+fn before_dot(token: &str) -> &str {
+    if token.starts_with("Rattle·") {
+        return token;
+    }
+    token.split('.').next().unwrap()
 }
 
 impl Sources {
@@ -129,28 +126,34 @@ impl Sources {
             return self.owner(&specs::used(path, last)?).map(Some);
         }
         if let Some(place) = from.uses.get(name) {
-            let krate = &place.file[..place.file.find('/').unwrap() + 1];
-            let toolchain = !self.files.keys().any(|file| file.starts_with(krate));
-            return if toolchain { Ok(None) } else { self.owner(place).map(Some) };
+            return if self.is_ours(place) { self.owner(place).map(Some) } else { Ok(None) };
         }
-        let own = from.constructors.get(name).map_or(name, |data| data);
-        Ok(from.definitions.contains_key(own).then(|| Place::new(file, own)))
+        let own = from.definitions.get_key_value(name).map(|(own, _)| own);
+        Ok(own.or(from.constructors.get(name)).map(|own| Place::new(file, own)))
+    }
+
+    /// There is a definition or theorem of this name in this file.
+    pub fn has(&self, place: &Place) -> bool {
+        self.files.get(&place.file).is_some_and(|file| file.definitions.contains_key(&place.name))
+    }
+
+    /// It is in one of these crates, and not in one of the toolchain's.
+    fn is_ours(&self, place: &Place) -> bool {
+        let krate = place.file.split_inclusive('/').next().unwrap();
+        self.files.keys().any(|file| file.starts_with(krate))
     }
 
     /// The definition that a used name belongs to: the `data` of a constructor, the `record` of a field.
     fn owner(&self, place: &Place) -> Result<Place, String> {
         let place = self.in_program(place);
         let file = self.files.get(&place.file).ok_or(format!("{place}: there is no such file"))?;
-        let owner = [&file.constructors, &file.fields].into_iter().find_map(|m| m.get(&place.name));
-        let name = if file.definitions.contains_key(&place.name) {
-            &place.name
-        } else {
-            owner.unwrap_or(&place.name)
-        };
-        if !file.definitions.contains_key(name) {
-            return Err(format!("{place} is used, and not defined there"));
+        if file.definitions.contains_key(&place.name) {
+            return Ok(place);
         }
-        Ok(Place::new(&place.file, name))
+        let parts = [&file.constructors, &file.fields];
+        let owner = parts.into_iter().find_map(|parts| parts.get(&place.name));
+        let owner = owner.ok_or(format!("{place} is used, and not defined there"))?;
+        Ok(Place::new(&place.file, owner))
     }
 
     /// A program's first file is `main.rt`.

@@ -18,11 +18,9 @@ pub fn parse(text: &str) -> Result<File, String> {
 }
 
 fn line(text: &str) -> Option<Line<'_>> {
-    let code = match text.find("--") {
-        Some(at) if at == 0 || text[..at].ends_with(' ') => &text[..at],
-        _ => text,
-    };
-    let code = code.trim_end();
+    let starts = |at: &usize| text[..*at].chars().next_back().is_none_or(char::is_whitespace);
+    let comment = text.match_indices("--").map(|(at, _)| at).find(starts);
+    let code = text[..comment.unwrap_or(text.len())].trim_end();
     let indent = code.len() - code.trim_start().len();
     (!code.is_empty()).then_some(Line { indent, text: code.trim_start() })
 }
@@ -61,7 +59,7 @@ fn items(lines: &[Line], parameters: &str, file: &mut File) -> Result<(), String
 
 /// Where the block of a `record`, a `data` or a `module` begins: after the line that ends its head.
 fn head(chunk: &[Line]) -> Result<usize, String> {
-    let end = chunk.iter().position(|l| l.text.ends_with("where"));
+    let end = chunk.iter().position(|l| l.text.split(' ').next_back() == Some("where"));
     end.map(|i| i + 1).ok_or(format!("no where: {}", chunk[0].text))
 }
 
@@ -123,8 +121,7 @@ pub fn use_line(text: &str, file: &mut File) -> Result<(), String> {
         return Ok(());
     }
     if let Some((path, alias)) = text.split_once(" as ").filter(|_| !text.contains('{')) {
-        let (of, last) = path.rsplit_once('.').ok_or(format!("use {text}"))?;
-        file.uses.insert(alias.to_string(), used(&format!("{of}.{last}"), "")?);
+        file.uses.insert(alias.to_string(), used(path, "")?);
         return Ok(());
     }
     let list = text.split_once(".{").and_then(|(path, list)| Some((path, list.strip_suffix('}')?)));

@@ -28,8 +28,31 @@ pub struct Walked<'a> {
     pub met: BTreeSet<&'a Stop>,
 }
 
-/// Walks from functions, by their contracts, and from theorems, by their statements. Whatever these use
-/// is followed by its type and by what it is.
+/// What a walk starts with: the contracts of functions and the statements of theorems.
+fn starts(
+    sources: &Sources,
+    functions: &[Place],
+    theorems: &[Place],
+) -> Result<Vec<(Place, String)>, String> {
+    let mut starts = Vec::new();
+    for place in functions {
+        let Definition { statement, body } = &sources.files[&place.file].functions[&place.name];
+        if body.is_empty() {
+            return Err(format!("{place} promises nothing"));
+        }
+        starts.push((place.clone(), format!("{statement} {body}")));
+    }
+    for place in theorems {
+        if !sources.has(place) {
+            return Err(format!("{place}: there is no such theorem"));
+        }
+        let theorem = &sources.files[&place.file].definitions[&place.name];
+        starts.push((place.clone(), theorem.statement.clone()));
+    }
+    Ok(starts)
+}
+
+/// Walks from functions and theorems. Whatever these use is followed by its type and by what it is.
 pub fn walk<'a>(
     sources: &Sources,
     functions: &[Place],
@@ -37,26 +60,13 @@ pub fn walk<'a>(
     stops: &'a [Stop],
 ) -> Result<Walked<'a>, String> {
     let mut walked = Walked { reached: BTreeMap::new(), met: BTreeSet::new() };
-    let mut open: Vec<(Place, String)> = Vec::new();
-    for place in functions {
-        let Definition { statement, body } = &sources.files[&place.file].functions[&place.name];
-        if body.is_empty() {
-            return Err(format!("{place} promises nothing"));
-        }
-        open.push((place.clone(), format!("{statement} {body}")));
-    }
-    for place in theorems {
-        let found =
-            sources.files.get(&place.file).and_then(|file| file.definitions.get(&place.name));
-        let theorem = found.ok_or(format!("{place}: there is no such theorem"))?;
-        open.push((place.clone(), theorem.statement.clone()));
-    }
+    let mut open = starts(sources, functions, theorems)?;
     while let Some((from, text)) = open.pop() {
         for name in names(&text) {
             let Some(place) = sources.resolve(&from.file, name)? else { continue };
             if let Some(stop) = stops.iter().find(|stop| stop.hides(&place)) {
                 walked.met.insert(stop);
-            } else if place != from && !walked.reached.contains_key(&place) {
+            } else if !walked.reached.contains_key(&place) {
                 let found = &sources.files[&place.file].definitions[&place.name];
                 let stop = stops.iter().find(|stop| stop.hides_body(&place));
                 walked.met.extend(stop);
