@@ -2,6 +2,8 @@
 //!
 //! A gate to be tested implements [`gate::Gate`]. [`cases`] holds calls with answers written by hand;
 //! [`compare`] runs a gate against another one on generated networks, commands and inputs.
+//!
+//! [`reading`] finds the definitions that a promise rests on, and reads `docs/READING.md`.
 
 pub mod build;
 pub mod cases;
@@ -15,5 +17,6 @@ pub mod k;
 pub mod library;
 pub mod networks;
 pub mod random;
+pub mod reading;
 pub mod records;
 pub mod second;
