@@ -3,6 +3,6 @@ pub mod Chosen
 pub mod Actions
 pub mod ByPlace
 pub mod Wards
-pub mod Lines
+pub mod Adds
 pub mod Sent
 pub mod Laws

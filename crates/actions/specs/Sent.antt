@@ -11,7 +11,7 @@ use Rattle.records.specs.State.{state, ordinary}
 use Rattle.records.specs.Pattern.{matches, putBits}
 use Rattle.records.specs.declared.Widths.{Widths}
 use Rattle.actions.specs.Actions.{reached}
-use Rattle.actions.specs.Lines.{lineBytes, LineRoom, Added}
+use Rattle.actions.specs.Adds.{lineBytes, LineRoom, Added}
 
 -- a copy at a switch with a header has its bit in the line
 pub record Sends (w : Widths) (line sw h : ℕ) (work : List ℕ) : Type 0 where

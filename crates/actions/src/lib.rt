@@ -13,7 +13,7 @@ ghost use Rattle.records.specs.Fields.{actionsGood};
 ghost use Rattle.records.specs.Pattern.{patternGood};
 ghost use Rattle.actions.specs.Actions.{reached, sent};
 ghost use Rattle.actions.specs.ByPlace.{arrival, ofBody};
-ghost use Rattle.actions.specs.Lines.{lineBytes, Added};
+ghost use Rattle.actions.specs.Adds.{lineBytes, Added};
 ghost use Rattle.actions.specs.Sent.{Sends, departing, flooded, UsedAction, Acted};
 
 pub mod choice;

@@ -1,3 +1,3 @@
 -- Laws that several proofs of this crate use.
-pub mod Calling
 pub mod InStore
+pub mod Promises

@@ -1,6 +1,6 @@
 -- Laws that several proofs of this crate use.
-pub mod Bytes
-pub mod Change
-pub mod Copy
-pub mod Found
-pub mod Rows
+pub mod CommandRows
+pub mod CopiedBytes
+pub mod EffectInStore
+pub mod FoundRule
+pub mod RecordBytes

@@ -1,6 +1,6 @@
 -- Laws that are cited, and need not be read to believe a promise.
 pub mod Applied
 pub mod Built
-pub mod Going
-pub mod Parts
-pub mod Stored
+pub mod RulePlace
+pub mod StillPasses
+pub mod StoredRule

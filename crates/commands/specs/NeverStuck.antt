@@ -15,8 +15,8 @@ use Rattle.records.specs.Laws.Records.{Whole}
 use Rattle.records.specs.Laws.Kinds.{longest-alike}
 use Rattle.rows.specs.Laws.Passing.{not-empty}
 use Rattle.commands.specs.Apply.{applied}
-use Rattle.commands.specs.Laws.Stored.{command}
-use Rattle.commands.specs.Laws.Going.{applied-kept}
+use Rattle.commands.specs.Laws.StoredRule.{command}
+use Rattle.commands.specs.Laws.StillPasses.{applied-kept}
 
 -- what holds of the network that a command would leave: widths, links, misses and policies are the same, and a series may go on with it
 pub record GoesOn (net : Net) (c : Rec) : Type 0 where

@@ -1,3 +1,3 @@
 -- Laws that several proofs of this crate use.
-pub mod Calls
-pub mod Range
+pub mod OneOfTwo
+pub mod Tested

@@ -8,5 +8,5 @@ pub mod Policy
 pub mod Fields
 pub mod Search
 pub mod NetK
-pub mod Example
+pub mod RuleA
 pub mod Laws

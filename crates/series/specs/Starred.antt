@@ -45,9 +45,9 @@ computing = tt
 unfoldable pub KD : Net
 KD = applied addD (applied addAny K)
 
--- a network in its store
-abbrev given : Net → Installed
-given net = record { count = length net; bytes = inStore net }
+-- a network at the start, in a store of 15,384 bytes
+abbrev pub installedAtStart : Net → Installed
+installedAtStart net = record { count = length net; bytes = inStore net }
 
 -- the states below 32 that pass a test
 unfoldable pub those : ℕ → ℕ → (ℕ → Bool) → List ℕ
@@ -63,13 +63,13 @@ pub data Case : Type 0 where
 -- the ten starred cases, in their order, with 2,048 bytes of work
 starred :
     checked (checkAnswer (inStore K) 20 2048)
-    ∷ commanded (outcomeOf (given K) addAny 2048 .answer)
-    ∷ commanded (outcomeOf (given K) addZero 2048 .answer)
-    ∷ commanded (outcomeOf (given K) addSet 2048 .answer)
-    ∷ commanded (outcomeOf (given K) addDrop 2048 .answer)
-    ∷ commanded (outcomeOf (given K) deleteAbsent 2048 .answer)
+    ∷ commanded (outcomeOf (installedAtStart K) addAny 2048 .answer)
+    ∷ commanded (outcomeOf (installedAtStart K) addZero 2048 .answer)
+    ∷ commanded (outcomeOf (installedAtStart K) addSet 2048 .answer)
+    ∷ commanded (outcomeOf (installedAtStart K) addDrop 2048 .answer)
+    ∷ commanded (outcomeOf (installedAtStart K) deleteAbsent 2048 .answer)
     ∷ checked (checkAnswer (inStore KD) 22 2048)
-    ∷ commanded (outcomeOf (given KD) deleteD 2048 .answer)
+    ∷ commanded (outcomeOf (installedAtStart KD) deleteD 2048 .answer)
     ∷ listed (let reaches = truth (tableOf K) (formula policy0 5) in those 32 0 (λ t. reaches 2 t))
     ∷ listed (let loops = truth (tableOf K) (TC (formula policy0 4) Y Y) in those 32 0 (λ y. loops 0 y))
     ∷ []

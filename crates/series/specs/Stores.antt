@@ -1,15 +1,10 @@
 -- What the starred commands leave in the store, by computation: the records after each, written by hand from document 01, "Commands".
 use mathlib.Core.Path.{_≡_, refl}
 use mathlib.Core.List.{[], _∷_, _++_, map}
-use lib.ListN.{length}
 use Rattle.records.specs.Record.{Rec, Net}
 use Rattle.records.specs.NetK.{record24, A, B, policy0, K, inStore, addAny, addZero, addSet, addDrop, deleteAbsent, deleteD}
-use Rattle.calls.specs.Reference.{Installed, outcomeOf}
-use Rattle.series.specs.Starred.{computing, KD}
-
--- a network in its store: its records, then zeros to byte 15,384
-abbrev installed : Net → Installed
-installed net = record { count = length net; bytes = inStore net }
+use Rattle.calls.specs.Reference.{outcomeOf}
+use Rattle.series.specs.Starred.{computing, KD, installedAtStart}
 
 -- K with these rules
 unfoldable withRules : Net → Net
@@ -38,17 +33,17 @@ ruleD = record24 (4 ∷ 0 ∷ 8 ∷ 0 ∷ 0 ∷ 0 ∷ 1 ∷ 1 ∷ 1 ∷ 1 ∷ 0 
 
 -- what is installed after each starred command on K: the new records where it was forwarded, else as before
 stores :
-    map (λ (c : Rec). outcomeOf (installed K) c 2048 .after) (addAny ∷ addZero ∷ addSet ∷ addDrop ∷ deleteAbsent ∷ [])
-    ≡ installed (withRules (A ∷ B ∷ []))
-    ∷ installed (withRules (A ∷ B ∷ ruleZero ∷ []))
-    ∷ installed (withRules (A ∷ B ∷ []))
-    ∷ installed (withRules (ruleDrop ∷ B ∷ []))
-    ∷ installed (withRules (A ∷ B ∷ []))
+    map (λ (c : Rec). outcomeOf (installedAtStart K) c 2048 .after) (addAny ∷ addZero ∷ addSet ∷ addDrop ∷ deleteAbsent ∷ [])
+    ≡ installedAtStart (withRules (A ∷ B ∷ []))
+    ∷ installedAtStart (withRules (A ∷ B ∷ ruleZero ∷ []))
+    ∷ installedAtStart (withRules (A ∷ B ∷ []))
+    ∷ installedAtStart (withRules (ruleDrop ∷ B ∷ []))
+    ∷ installedAtStart (withRules (A ∷ B ∷ []))
     ∷ []
 unfolding computing withRules ruleZero ruleDrop
 stores = refl
 
 -- the delete of D is blocked: the network with the first add's rule and D stays
-after-delete-D : outcomeOf (installed KD) deleteD 2048 .after ≡ installed (withRules (A ∷ B ∷ ruleAny ∷ ruleD ∷ []))
+after-delete-D : outcomeOf (installedAtStart KD) deleteD 2048 .after ≡ installedAtStart (withRules (A ∷ B ∷ ruleAny ∷ ruleD ∷ []))
 unfolding computing KD withRules ruleAny ruleD
 after-delete-D = refl

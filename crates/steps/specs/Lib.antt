@@ -1,6 +1,6 @@
 -- One step of a packet state.
 pub mod Step
-pub mod Example
+pub mod StepsOfK
 pub mod Table
 pub mod Relayed
 pub mod Carried

@@ -20,7 +20,7 @@ ghost use Rattle.records.specs.Record.{Net, records};
 ghost use Rattle.records.specs.Widths.{states, withinLimits, widthsOf};
 ghost use Rattle.steps.specs.Step.{external};
 ghost use Rattle.actions.specs.ByPlace.{arrival};
-ghost use Rattle.actions.specs.Lines.{lineBytes, Added};
+ghost use Rattle.actions.specs.Adds.{lineBytes, Added};
 ghost use Rattle.steps.specs.Filled.{Filled};
 ghost use Rattle.actions.specs.Sent.{Sends};
 ghost use Rattle.steps.specs.Relayed.{relayed, relays};

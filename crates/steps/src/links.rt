@@ -18,7 +18,7 @@ ghost use Rattle.records.specs.State.{state};
 ghost use Rattle.records.specs.Widths.{withinLimits};
 ghost use Rattle.steps.specs.Step.{across};
 ghost use Rattle.actions.specs.ByPlace.{ofBody};
-ghost use Rattle.actions.specs.Lines.{lineBytes, Adds};
+ghost use Rattle.actions.specs.Adds.{lineBytes, Adds};
 ghost use Rattle.steps.specs.Filled.{PlaneRoom};
 ghost use Rattle.steps.specs.Carried.{oneWay, Ends, pair, pairs, crosses, point, LinkedPoints};
 ghost use Rattle.scan.specs.Stored.{Stored};

@@ -1,8 +1,8 @@
 -- Laws that several proofs of this crate use.
-pub mod PassedRecords
 pub mod JudgedWork
 pub mod LowestState
 pub mod MarkedNodes
 pub mod NodeFields
+pub mod PassedRecords
 pub mod PolicyRuns
 pub mod PolicySearch

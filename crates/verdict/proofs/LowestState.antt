@@ -10,9 +10,9 @@ use Rattle.records.specs.Policy.{Formula}
 use Rattle.verdict.specs.declared.policy.Offender.{Offender}
 use Rattle.verdict.specs.declared.policy.Offender.the-variants.{State, None}
 use Rattle.verdict.specs.Computed.{firstFrom}
-use Rattle.verdict.specs.Laws.Search.{First, first-is}
+use Rattle.verdict.specs.Laws.FirstState.{First, first-is}
 use Rattle.truth.specs.Node.{modelAt, Shows}
-use Rattle.verdict.specs.Policy.{stateOf, LowestTrue}
+use Rattle.verdict.specs.Evaluated.{stateOf, LowestTrue}
 
 -- the first number below n that passes is sought from x on
 module _ (n x : ℕ) (f : ℕ → Bool) where

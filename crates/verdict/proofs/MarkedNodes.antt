@@ -21,7 +21,7 @@ use Rattle.records.specs.Laws.Records.{length-records, byte-of}
 use Rattle.rows.specs.Laws.Formulas.{first-formula}
 use Rattle.truth.specs.declared.node.Node.{Node}
 use Rattle.truth.specs.Node.{planeAt, arity, Operand, modelAt, Shows, Makeable, NodeMade}
-use Rattle.verdict.specs.Policy.{nodesAt, NodeAt, PolicyReady, Asked, Worked, Given}
+use Rattle.verdict.specs.Evaluated.{nodesAt, NodeAt, PolicyReady, Asked, Worked, Given}
 use Rattle.verdict.specs.Laws.Same.{SameModel, same-truth}
 use Rattle.truth.specs.Laws.NodePlanes.{plane-before, plane-after}
 

@@ -19,7 +19,7 @@ use Rattle.records.specs.Laws.Records.{length-records, record-at, byte-of}
 use Rattle.records.specs.Laws.Lists.{keep-slice}
 use Rattle.records.specs.Laws.Limits.{limits}
 use Rattle.records.specs.Laws.Policies.{count-more, count-follows}
-use Rattle.verdict.specs.Policy.{nodesAt, OperandOf, SoundNodes}
+use Rattle.verdict.specs.Evaluated.{nodesAt, OperandOf, SoundNodes}
 use Rattle.verdict.specs.Judge.{policyAt, NodeRows, CleanStore, Run}
 use Rattle.verdict.proofs.PassedRecords as clean
 use Rattle.verdict.proofs.NodeFields.{earlier-operand, bit-field}

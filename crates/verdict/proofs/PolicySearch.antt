@@ -18,7 +18,7 @@ use Rattle.verdict.specs.declared.policy.Offender.the-variants.{State, N
 use Rattle.truth.specs.Truth.{Truth, modelOf}
 use Rattle.verdict.specs.Verdict.{Breaks, Holds, Lowest}
 use Rattle.truth.specs.Node.{planeAt, modelAt}
-use Rattle.verdict.specs.Policy.{nodesAt, PolicyReady, Tested}
+use Rattle.verdict.specs.Evaluated.{nodesAt, PolicyReady, Tested}
 use Rattle.verdict.specs.Judge.{policyAt, CleanStore, Run, Testable}
 use Rattle.verdict.specs.Laws.Same.{same-truth}
 use Rattle.verdict.proofs.MarkedNodes.{same-model}

@@ -14,7 +14,7 @@ use Rattle.verdict.specs.Verdict.{Verdict, holds, violated, Breaks, Lowe
 use Rattle.truth.specs.Computed.{tableOf, truth}
 use Rattle.verdict.specs.Computed.{firstFrom, lowestState, verdictFrom}
 use Rattle.truth.specs.Laws.Tables.{truth-iff}
-use Rattle.verdict.specs.Laws.Search.{First, first-is}
+use Rattle.verdict.specs.Laws.FirstState.{First, first-is}
 
 module _ (net : Net) where
   a-state : 0 < states (widthsOf net)

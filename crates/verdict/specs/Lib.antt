@@ -3,6 +3,6 @@ pub mod Verdict
 pub mod Computed
 pub mod Judgement
 pub mod LastNode
-pub mod Policy
+pub mod Evaluated
 pub mod Judge
 pub mod Laws

@@ -5,7 +5,7 @@ ghost use lib.Bits.{bitOr};
 ghost use lib.ListN.{length};
 ghost use Rattle.planes.specs.Bit.{bitOf};
 ghost use Rattle.truth.specs.Node.{Makeable, NodeMade};
-ghost use Rattle.verdict.specs.Policy.{nodesAt, NodeAt, PolicyReady, Asked, Given, stateOf, Tested};
+ghost use Rattle.verdict.specs.Evaluated.{nodesAt, NodeAt, PolicyReady, Asked, Given, stateOf, Tested};
 ghost use Rattle.planes.specs.Plane.{cell};
 ghost use Rattle.verdict.specs.Computed.{firstFrom};
 ghost use Rattle.truth.specs.Shapes.{Plane};

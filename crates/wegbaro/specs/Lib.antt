@@ -1,4 +1,4 @@
 -- The answers of the calls for C and Rust.
 pub mod Code
 pub mod Decoded
-pub mod Theorem
+pub mod CodedSeries

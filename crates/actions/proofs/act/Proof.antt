@@ -13,7 +13,7 @@ use Rattle.records.specs.Laws.Limits.{limits}
 use Rattle.records.specs.Laws.Patterns.{put-mask}
 use Rattle.actions.specs.ByPlace.{ofBody}
 use Rattle.actions.specs.Actions.{reached}
-use Rattle.actions.specs.Lines.{lineBytes, Added}
+use Rattle.actions.specs.Adds.{lineBytes, Added}
 use Rattle.actions.specs.Sent.{departing}
 use Rattle.actions.specs.Laws.CopiesInOrder.{set-sends, set-header, output-sends, output-header}
 use Rattle.actions.specs.Laws.AddedBits.{added-none}

@@ -5,7 +5,7 @@ use native.Mathlib.Omega.{arith}
 use lib.ListN.{length}
 use Rattle.records.specs.Lists.{keep, from}
 use Rattle.records.specs.Laws.Limits.{limits}
-use Rattle.actions.specs.Lines.{lineBytes, Added}
+use Rattle.actions.specs.Adds.{lineBytes, Added}
 use Rattle.actions.specs.Sent.{departing, flooded}
 use Rattle.actions.specs.Laws.AddedBits.{TowardList, list-more, added-none}
 use Rattle.actions.specs.Laws.SentCopies.{sends-on, ports-left}

@@ -7,7 +7,7 @@ use native.Mathlib.Omega.{arith}
 use lib.ListN.{length, getD}
 use Rattle.actions.specs.Actions.{sent, copies}
 use Rattle.actions.specs.ByPlace.{arrival, ofBody}
-use Rattle.actions.specs.Lines.{lineBytes, Added}
+use Rattle.actions.specs.Adds.{lineBytes, Added}
 use Rattle.actions.specs.Sent.{sentBy}
 use Rattle.actions.specs.Laws.CopiesInOrder.{copies-left, header-after-lt}
 use Rattle.actions.specs.Laws.AddedBits.{TowardList, list-more, added-none}

@@ -13,7 +13,7 @@ use Rattle.planes.specs.Laws.Places.{byte-at}
 use Rattle.planes.specs.Laws.Tests.{same-test}
 use Rattle.records.specs.Lists.{any, member}
 use Rattle.records.specs.Laws.Lists.{any-append}
-use Rattle.actions.specs.Lines.{Adds, Added}
+use Rattle.actions.specs.Adds.{Adds, Added}
 
 or-swap : (a b c : Bool) → a || (b || c) ≡ (b || a) || c
 or-swap true true c = refl

@@ -14,7 +14,7 @@ use Rattle.records.specs.Pattern.{matches}
 use Rattle.records.specs.Laws.Lists.{keep-append}
 use Rattle.records.specs.Laws.States.{state-lt, whole-bytes}
 use Rattle.records.specs.declared.Widths.{Widths}
-use Rattle.actions.specs.Lines.{lineBytes, Added}
+use Rattle.actions.specs.Adds.{lineBytes, Added}
 use Rattle.actions.specs.Sent.{Sends, departing, flooded}
 use Rattle.actions.specs.Laws.AddedBits.{added-one}
 

@@ -1,7 +1,7 @@
 use denote.Ref.{now}
 use mathlib.Core.Path.{sym, ap, _∙_}
 use Rattle.commands.specs.Effect.{admissionRefusal}
-use Rattle.calls.proofs.Calling.{known, no-row, refused-late, command-refused}
+use Rattle.calls.proofs.Promises.{known, no-row, refused-late, command-refused}
 use borrow.Author.Needs.{needs}
 use Rattle.calls.proofs.after_check.Statement.{statement}
 use Rattle.calls.proofs.after_check.Tie as tie

@@ -1,7 +1,7 @@
 use denote.Ref.{now}
 use mathlib.Core.Path.{sym, ap, _∙_}
 use Rattle.scan.specs.Layout.{readingRefusal}
-use Rattle.calls.proofs.Calling.{check-refused, check-ready, check-judged}
+use Rattle.calls.proofs.Promises.{check-refused, check-ready, check-judged}
 use borrow.Author.Needs.{needs}
 use Rattle.calls.proofs.check.Statement.{statement}
 use Rattle.calls.proofs.check.Tie as tie

@@ -1,7 +1,7 @@
 use denote.Ref.{now}
 use mathlib.Core.Path.{sym, ap, _∙_}
 use Rattle.scan.specs.Layout.{readingRefusal}
-use Rattle.calls.proofs.Calling.{refused-early, command-refused}
+use Rattle.calls.proofs.Promises.{refused-early, command-refused}
 use borrow.Author.Needs.{needs}
 use Rattle.calls.proofs.command.Statement.{statement}
 use Rattle.calls.proofs.command.Tie as tie

@@ -1,5 +1,5 @@
 use denote.Ref.{now}
-use Rattle.calls.proofs.Calling.{ready, judged-ready, next-long, in-store, command-blocked, command-forwarded}
+use Rattle.calls.proofs.Promises.{ready, judged-ready, next-long, in-store, command-blocked, command-forwarded}
 use borrow.Author.Needs.{needs}
 use Rattle.calls.proofs.judged_in.Statement.{statement}
 use Rattle.calls.proofs.judged_in.Tie as tie

@@ -1,7 +1,7 @@
 use denote.Ref.{now}
 use mathlib.Core.Path.{sym, ap, _∙_}
 use Rattle.scan.specs.Layout.{readingRefusal}
-use Rattle.calls.proofs.Calling.{no-refusal, judgeable}
+use Rattle.calls.proofs.Promises.{no-refusal, judgeable}
 use borrow.Author.Needs.{needs}
 use Rattle.calls.proofs.verdict_on.Statement.{statement}
 use Rattle.calls.proofs.verdict_on.Tie as tie

@@ -8,9 +8,9 @@ use Rattle.records.specs.Record.{Rec, Net, records}
 use Rattle.rows.specs.Found.{placeOf, foundRule}
 use Rattle.commands.specs.Apply.{added}
 use Rattle.commands.specs.Effect.{spliced}
-use Rattle.commands.proofs.Bytes.{room-spliced}
-use Rattle.commands.proofs.Found.{at-below}
-use Rattle.commands.proofs.Change.{new-below, added-at, added-new}
+use Rattle.commands.proofs.RecordBytes.{room-spliced}
+use Rattle.commands.proofs.FoundRule.{at-below}
+use Rattle.commands.proofs.EffectInStore.{new-below, added-at, added-new}
 use Rattle.commands.proofs.add.Statement.{statement}
 use Rattle.commands.proofs.add.Tie as tie
 

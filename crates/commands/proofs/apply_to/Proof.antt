@@ -7,8 +7,8 @@ use Rattle.records.specs.Record.{Net, records}
 use Rattle.commands.specs.Apply.{applied}
 use Rattle.commands.specs.Effect.{BufferRoom}
 use Rattle.commands.specs.Laws.Applied.{applied-add, applied-modify, applied-delete, applied-none}
-use Rattle.commands.proofs.Bytes.{room-joined}
-use Rattle.commands.proofs.Change.{all-kept}
+use Rattle.commands.proofs.RecordBytes.{room-joined}
+use Rattle.commands.proofs.EffectInStore.{all-kept}
 use Rattle.commands.proofs.apply_to.Statement.{statement}
 use Rattle.commands.proofs.apply_to.Tie as tie
 

@@ -4,8 +4,8 @@ use mathlib.Core.Bool.{false}
 use mathlib.Core.Path.{_≡_, sym, _∙_}
 use Rattle.records.specs.Record.{Net, records}
 use Rattle.rows.specs.Rows.{row12}
-use Rattle.commands.specs.Laws.Stored.{faultless-length}
-use Rattle.commands.proofs.Rows.{refused-12, refused-13, passed-both}
+use Rattle.commands.specs.Laws.StoredRule.{faultless-length}
+use Rattle.commands.proofs.CommandRows.{refused-12, refused-13, passed-both}
 use Rattle.commands.proofs.command_row.Statement.{statement}
 use Rattle.commands.proofs.command_row.Tie as tie
 

@@ -8,9 +8,9 @@ use Rattle.records.specs.Record.{Net, records}
 use Rattle.rows.specs.Found.{placeOf, foundRule}
 use Rattle.commands.specs.Apply.{removed}
 use Rattle.commands.specs.Effect.{joined}
-use Rattle.commands.proofs.Bytes.{room-joined}
-use Rattle.commands.proofs.Found.{at-below}
-use Rattle.commands.proofs.Change.{removed-at, removed-none}
+use Rattle.commands.proofs.RecordBytes.{room-joined}
+use Rattle.commands.proofs.FoundRule.{at-below}
+use Rattle.commands.proofs.EffectInStore.{removed-at, removed-none}
 use Rattle.commands.proofs.delete.Statement.{statement}
 use Rattle.commands.proofs.delete.Tie as tie
 

@@ -5,7 +5,7 @@ use Prim.Native.Nat.{ℕ, _+_, _-_, _*_}
 use native.Mathlib.Omega.{arith}
 use lib.ListN.{take, drop}
 use Rattle.commands.specs.Effect.{padded}
-use Rattle.commands.proofs.Bytes.{part-length, flat-drop, finished}
+use Rattle.commands.proofs.RecordBytes.{part-length, flat-drop, finished}
 use borrow.Author.Needs.{needs}
 use Rattle.commands.proofs.finish.Statement.{statement}
 use Rattle.commands.proofs.finish.Tie as tie

@@ -5,7 +5,7 @@ use mathlib.Core.Path.{sym, ap, _∙_}
 use native.Mathlib.Omega.{arith}
 use Rattle.records.specs.Fields.{commandGood}
 use Rattle.records.specs.declared.Widths.{Widths}
-use Rattle.commands.proofs.Rows.{wrong-length, low-kind, high-kind, by-fields}
+use Rattle.commands.proofs.CommandRows.{wrong-length, low-kind, high-kind, by-fields}
 use Rattle.commands.proofs.is_faulty.Statement.{statement}
 use Rattle.commands.proofs.is_faulty.Tie as tie
 

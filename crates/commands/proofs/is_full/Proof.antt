@@ -4,7 +4,7 @@ use mathlib.Core.Bool.{not}
 use mathlib.Core.Path.{sym, ap, _∙_}
 use native.Mathlib.Omega.{arith}
 use Rattle.records.specs.Record.{records}
-use Rattle.commands.proofs.Rows.{no-add, not-full, when-full}
+use Rattle.commands.proofs.CommandRows.{no-add, not-full, when-full}
 use Rattle.commands.proofs.is_full.Statement.{statement}
 use Rattle.commands.proofs.is_full.Tie as tie
 

@@ -1,7 +1,7 @@
 use denote.Ref.{now}
 use mathlib.Core.Path.{sym}
 use native.Mathlib.Omega.{arith}
-use Rattle.commands.proofs.Bytes.{length-joined, joined-bytes}
+use Rattle.commands.proofs.RecordBytes.{length-joined, joined-bytes}
 use borrow.Author.Needs.{needs}
 use Rattle.commands.proofs.join.Statement.{statement}
 use Rattle.commands.proofs.join.Tie as tie

@@ -9,9 +9,9 @@ use Rattle.rows.specs.Found.{placeOf, foundRule}
 use Rattle.records.specs.Laws.Records.{part-is}
 use Rattle.commands.specs.Apply.{withActions, changed}
 use Rattle.commands.specs.Effect.{spliced, joined}
-use Rattle.commands.proofs.Bytes.{room-spliced, room-joined}
-use Rattle.commands.proofs.Found.{at-below}
-use Rattle.commands.proofs.Change.{changed-at, changed-none}
+use Rattle.commands.proofs.RecordBytes.{room-spliced, room-joined}
+use Rattle.commands.proofs.FoundRule.{at-below}
+use Rattle.commands.proofs.EffectInStore.{changed-at, changed-none}
 use Rattle.commands.proofs.modify.Statement.{statement}
 use Rattle.commands.proofs.modify.Tie as tie
 

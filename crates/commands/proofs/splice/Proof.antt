@@ -1,7 +1,7 @@
 use denote.Ref.{now}
 use mathlib.Core.Path.{sym}
 use native.Mathlib.Omega.{arith}
-use Rattle.commands.proofs.Bytes.{length-spliced, spliced-bytes}
+use Rattle.commands.proofs.RecordBytes.{length-spliced, spliced-bytes}
 use borrow.Author.Needs.{needs}
 use Rattle.commands.proofs.splice.Statement.{statement}
 use Rattle.commands.proofs.splice.Tie as tie

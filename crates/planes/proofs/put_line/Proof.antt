@@ -2,7 +2,7 @@
 use native.Mathlib.Nat.{zero-add}
 use native.Mathlib.Omega.{arith}
 use borrow.Author.Needs.{needs}
-use Rattle.planes.proofs.Laying.{part-put}
+use Rattle.planes.proofs.LaidBytes.{part-put}
 use Rattle.planes.proofs.put_line.Statement.{statement}
 use Rattle.planes.proofs.put_line.Tie as tie
 

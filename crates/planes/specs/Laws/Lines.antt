@@ -10,14 +10,9 @@ use lib.ListN.{getD, replicate}
 use lib.Bits.{bitOr}
 use Rattle.planes.specs.Bit.{bitOf}
 use Rattle.planes.specs.Plane.{bit, cell, planeSize}
-use Rattle.planes.specs.Lines.{BitSet, Laid, Cleared, Put, Ored, Loaded}
+use Rattle.planes.specs.Lines.{Laid, Cleared, Put, Ored, Loaded}
 use Rattle.planes.specs.Laws.Bits.{bit-or, bit-zero}
-use Rattle.planes.specs.Laws.Places.{bit-at, line-before, in-line, same-place}
-
--- the bits of a byte that stayed
-pub bit-kept : (a b : List ℕ) (n : ℕ) → getD b (n / 8) 0 ≡ getD a (n / 8) 0 → bit b n ≡ bit a n
-unfolding bit
-bit-kept a b n e = ap (λ (v : ℕ). bitOf v (n % 8)) e
+use Rattle.planes.specs.Laws.Places.{bit-at, line-before, in-line}
 
 -- bytes that are zero, and their bits
 pub no-byte : (n j : ℕ) → getD {A = ℕ} (replicate n 0) j 0 ≡ 0
@@ -78,8 +73,3 @@ line-apart f base pitch i a b P x y ne hy = line-kept (base + x * pitch) pitch a
     go (no g) j hj =
         let h : i < x = omega (arith, ne) in
         P .over (base + x * pitch + j) (omega (arith, line-before i x pitch h))
-
--- the other bits of a plane, where one bit was set
-pub cell-apart : (base pitch i j : ℕ) (a b : List ℕ) → BitSet ((base + i * pitch) * 8 + j) a b → j < pitch * 8 → (x y : ℕ) → y < pitch * 8 → ((x ≡ i) × (y ≡ j) → ⊥)
-    → cell b base pitch x y ≡ cell a base pitch x y
-cell-apart base pitch i j a b S hj x y hy ne = S .others ((base + x * pitch) * 8 + y) (λ e. ne (same-place base pitch x y i j hy hj e))

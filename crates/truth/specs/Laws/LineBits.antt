@@ -16,7 +16,7 @@ use Rattle.planes.specs.Bit.{bitOf}
 use Rattle.planes.specs.Plane.{bit}
 use Rattle.planes.specs.Laws.Lines.{no-bit}
 use Rattle.planes.specs.Laws.Bits.{bit-and, bit-or, bit-not, bit-zero, digit-cases}
-use Rattle.planes.proofs.Setting.{bit-set}
+use Rattle.planes.proofs.StoredBit.{bit-set}
 use Rattle.truth.specs.declared.lines.Op.{Op}
 use Rattle.truth.specs.declared.lines.Op.the-variants.{Not, And, Or}
 use Rattle.truth.specs.Shapes.{opBool, opByte, fullByte, weightIf, Line, Joined, Pushed}

@@ -8,7 +8,7 @@ use Prim.Native.Nat.{ℕ, _≤_, _<_, _-_}
 use native.Mathlib.Omega.{arith}
 use Rattle.records.specs.Fields.{actionGood}
 use Rattle.records.specs.Laws.Fields.{count-low, count-high, action-fails, actions-pass}
-use Rattle.records.proofs.Calls.{refused, passed}
+use Rattle.records.proofs.Tested.{refused, passed}
 use Rattle.records.proofs.fields.actions_good.Statement.{statement}
 use Rattle.records.proofs.fields.actions_good.Tie as tie
 

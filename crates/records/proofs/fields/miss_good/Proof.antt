@@ -4,7 +4,7 @@ use native.Mathlib.Omega.{arith}
 use Rattle.records.specs.Laws.Limits.{limits}
 use denote.Ref.{now}
 use Rattle.records.specs.Laws.Fields.{body-length, miss-fields, actions-body}
-use Rattle.records.proofs.Calls.{refused, passed}
+use Rattle.records.proofs.Tested.{refused, passed}
 use Rattle.records.proofs.fields.miss_good.Statement.{statement}
 use Rattle.records.proofs.fields.miss_good.Tie as tie
 

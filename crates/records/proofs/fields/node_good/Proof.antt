@@ -6,7 +6,7 @@ use Rattle.records.specs.Laws.Limits.{limits}
 use Rattle.records.specs.Laws.Fields.{no-node}
 use Rattle.records.specs.Fields.{nodeGood}
 use Rattle.records.specs.Policy.{nodeKind}
-use Rattle.records.proofs.Range.{one-of-two}
+use Rattle.records.proofs.OneOfTwo.{one-of-two}
 use Rattle.records.proofs.fields.node_good.Statement.{statement}
 use Rattle.records.proofs.fields.node_good.Tie as tie
 

@@ -9,7 +9,7 @@ use Rattle.records.specs.Record.{Net, records, ofKind}
 use Rattle.records.specs.Widths.{states}
 use Rattle.records.specs.Laws.Parts.{part, part-none}
 use Rattle.steps.specs.Step.{across}
-use Rattle.actions.specs.Lines.{lineBytes, Adds}
+use Rattle.actions.specs.Adds.{lineBytes, Adds}
 use Rattle.steps.specs.Carried.{pairs, crosses}
 use Rattle.actions.specs.Laws.AddedBits.{Toward, toward-more, adds-none, adds-as}
 use Rattle.actions.specs.Laws.Bodies.{body-length}

@@ -6,7 +6,7 @@ use denote.Ref.{now}
 use Rattle.records.specs.Policy.{formula}
 use Rattle.records.specs.Laws.Records.{length-records}
 use Rattle.truth.specs.Node.{modelAt}
-use Rattle.verdict.specs.Policy.{nodesAt, LowestTrue}
+use Rattle.verdict.specs.Evaluated.{nodesAt, LowestTrue}
 use Rattle.truth.specs.Laws.NodePlanes.{plane-before, offset-fits}
 use Rattle.verdict.proofs.MarkedNodes.{ask-last}
 use Rattle.verdict.proofs.LowestState.{lowest-true}

@@ -9,7 +9,7 @@ use Rattle.planes.specs.Lines.{Cleared, Put}
 use Rattle.records.specs.Record.{Rec, Net, storeBytes, records, flat}
 use Rattle.records.specs.Laws.Records.{length-records, records-split}
 use Rattle.commands.specs.Effect.{padded, filled, spliced, joined, BufferRoom}
-use Rattle.commands.proofs.Copy.{put-upto, cleared-upto}
+use Rattle.commands.proofs.CopiedBytes.{put-upto, cleared-upto}
 
 flat-append : (xs ys : Net) → flat (xs ++ ys) ≡ flat xs ++ flat ys
 unfolding flat

@@ -19,8 +19,8 @@ use Rattle.rows.specs.Laws.Passing.{not-empty}
 use Rattle.rows.specs.Laws.Edits.{matchOf, present-match, Kept, stands, rule-replaced, rule-removed, some-front, rule-inserted}
 use Rattle.commands.specs.Apply.{asRule, withActions, changed, inserted, removed, added, applied}
 use Rattle.commands.specs.Laws.Applied.{applied-add, applied-modify, applied-delete}
-use Rattle.commands.specs.Laws.Parts.{Found, found, changed-none, removed-none, Place, place}
-use Rattle.commands.specs.Laws.Stored.{Command, same-rule, as-rule-kind, as-rule-match, as-rule-bytes, as-rule-good, with-actions-bytes, with-actions-kind, with-actions-match, with-actions-good}
+use Rattle.commands.specs.Laws.RulePlace.{Found, found, changed-none, removed-none, Place, place}
+use Rattle.commands.specs.Laws.StoredRule.{Command, same-rule, as-rule-kind, as-rule-match, as-rule-bytes, as-rule-good, with-actions-bytes, with-actions-kind, with-actions-match, with-actions-good}
 
 module _ (net : Net) (c : Rec) (whole : Whole net) (e : fileRow [] net ≡ none) (cmd : Command net c) where
   -- nothing changed

@@ -27,7 +27,7 @@ use Rattle.calls.specs.Reference.{Installed, Outcome, stored, judged as 
 use Rattle.commands.specs.NeverStuck.{GoesOn, work-same}
 use Rattle.calls.specs.Command.{Promised, call}
 use Rattle.calls.specs.Laws.Store.{installed-whole}
-use Rattle.commands.specs.Laws.Stored.{command}
+use Rattle.commands.specs.Laws.StoredRule.{command}
 use Rattle.calls.specs.Laws.Refusals.{checks, passed, goes-on}
 use Rattle.calls.proofs.InStore.{stored-filled}
 use Rattle.commands.specs.Laws.Built.{built-records}

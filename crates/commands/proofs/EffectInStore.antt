@@ -13,7 +13,7 @@ use Rattle.records.specs.Laws.Records.{length-records}
 use Rattle.rows.specs.Laws.Found.{first-none, found-present, found-absent}
 use Rattle.commands.specs.Apply.{asRule, changed, inserted, removed, added}
 use Rattle.commands.specs.Effect.{spliced, joined, aboveRules}
-use Rattle.commands.proofs.Found.{first-le, at-first, at-record}
+use Rattle.commands.proofs.FoundRule.{first-le, at-first, at-record}
 
 -- a new rule goes before the first record of a higher kind
 pub inserted-at : (c : Rec) (net : Net) → inserted c net ≡ spliced net (firstAt aboveRules net) (firstAt aboveRules net) (asRule c)
