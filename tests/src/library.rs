@@ -29,10 +29,14 @@ impl Gate for Library {
     }
 }
 
+/// The program, not yet started.
+pub fn program_command() -> Command {
+    Command::new(Path::new(env!("CARGO_MANIFEST_DIR")).join("../target/bin/gate"))
+}
+
 /// What the program prints for a whole input.
 pub fn program(input: &[u8]) -> Vec<u8> {
-    let path = Path::new(env!("CARGO_MANIFEST_DIR")).join("../target/bin/gate");
-    let mut gate = Command::new(path)
+    let mut gate = program_command()
         .stdin(Stdio::piped())
         .stdout(Stdio::piped())
         .spawn()

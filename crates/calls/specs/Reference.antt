@@ -3,6 +3,7 @@ use mathlib.Core.List.{List, [], _∷_, _++_}
 use Prim.Native.Nat.{ℕ, _-_}
 use lib.ListN.{length, drop, replicate}
 use Rattle.records.specs.Record.{Rec, Net, storeBytes, records, flat}
+use Rattle.records.specs.NetK.{inStore}
 use Rattle.rows.specs.Rows.{workNeeded}
 use Rattle.rows.specs.Refusal.{commandRefusal}
 use Rattle.verdict.specs.Verdict.{Verdict, holds, violated}
@@ -19,6 +20,10 @@ pub record Installed : Type 0 where
 -- the installed network: the store's records up to the count
 abbrev pub network : Installed → Net
 network i = records (i .count) (i .bytes)
+
+-- a network at the start, in a store of 15,384 bytes
+abbrev pub installedAtStart : Net → Installed
+installedAtStart net = record { count = length net; bytes = inStore net }
 
 -- what a command is answered, and what it leaves
 pub record Outcome : Type 0 where

@@ -1,6 +1,5 @@
 -- Laws that several proofs of this crate use.
 pub mod CommandRows
-pub mod CopiedBytes
 pub mod EffectInStore
 pub mod FoundRule
 pub mod RecordBytes

@@ -1,20 +1,15 @@
 -- The bytes of records that are put one after the other.
 use mathlib.Core.Path.{_≡_, refl, sym, ap, ap₂, subst, _∙_}
-use mathlib.Core.List.{List, [], _∷_, _++_, append-assoc}
+use mathlib.Core.List.{List, _∷_, _++_, append-assoc}
 use Prim.Native.Nat.{ℕ, zero, suc, _+_, _-_, _*_, _≤_}
 use native.Mathlib.Omega.{arith}
 use lib.ListN.{length, take, drop, replicate, length-append, length-drop}
 use lib.Seq.{take-all, take-add, take-at, drop-at, length-take-le}
 use Rattle.planes.specs.Lines.{Cleared, Put}
 use Rattle.records.specs.Record.{Rec, Net, storeBytes, records, flat}
-use Rattle.records.specs.Laws.Records.{length-records, records-split}
+use Rattle.records.specs.Laws.Records.{flat-append, length-records, records-split}
 use Rattle.commands.specs.Effect.{padded, filled, spliced, joined, BufferRoom}
-use Rattle.commands.proofs.CopiedBytes.{put-upto, cleared-upto}
-
-flat-append : (xs ys : Net) → flat (xs ++ ys) ≡ flat xs ++ flat ys
-unfolding flat
-flat-append [] ys = refl
-flat-append (x ∷ xs) ys = ap (λ (l : List ℕ). x ++ l) (flat-append xs ys) ∙ sym (append-assoc x (flat xs) (flat ys))
+use Rattle.planes.specs.Laws.Copies.{put-upto, cleared-upto}
 
 flat-records : (n : ℕ) (s : List ℕ) → flat (records n s) ≡ take (n * 24) s
 unfolding flat records

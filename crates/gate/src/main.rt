@@ -1,172 +1,190 @@
 // The gate: judges a network and then commands, read from standard input, and prints a line for each.
 use calls::Checked;
 use calls::Commanded;
-
-// How the network's records ended.
-enum Met {
-    Command,
-    End,
-    Cut,
-    CutCommand,
-}
+use libc::STDIN_FILENO;
+use libc::STDOUT_FILENO;
+use streams::input::Later;
+use streams::input::Next;
+use streams::input::Piece;
+use streams::input::Said;
+ghost use mathlib.Core.Path.{_≡_};
+ghost use mathlib.Core.List.{[]};
+ghost use Prim.Native.Nat.{_-_, _≤_};
+ghost use lib.ListN.{length};
+ghost use Rattle.records.specs.NetK.{inStore};
+ghost use Rattle.calls.specs.Answer.{checkAnswerOf, commandAnswerOf};
+ghost use Rattle.calls.specs.Check.{checkAnswer};
+ghost use Rattle.streams.specs.Reading.{InRoom, Within, Loads};
+ghost use Rattle.streams.specs.Output.{workBytes, installedWith, OutcomeIs};
 
 // How many network records were read, and what came after them.
 struct Loaded {
     n: usize,
-    met: Met,
+    met: Next,
 }
 
-// A record of this kind is a command.
-fn is_command(kind: u8) -> bool {
-    match kind {
-        6..=8 => true,
-        0..=5 | 9..=255 => false,
-    }
+// What a command was answered, and the count of records that it leaves.
+struct Answered {
+    answer: Commanded,
+    count: usize,
 }
 
-// Reads network records up to the first command, the end, a cut record, or one record too many.
-fn load(store: &mut [u8; 15384], rec: &mut [u8; 24]) -> Loaded {
-    let mut n = 0;
-    while n < 642 {
-        let got = io::read_full(0, rec);
-        if got == 0 {
-            return Loaded { n, met: Met::End };
+// Reads once, behind the first done bytes of the buffer.
+fn read_at(buffer: &mut [u8], done: usize) -> Said
+    requires { ⌜ done ≤ length (now buffer) ⌝ }
+    ensures { λ r. ⌜ InRoom r (length (now (buffer .entry)) - done) ⌝ }
+{
+    let got = libc::read(STDIN_FILENO, &mut buffer[done..]);
+    streams::input::read_said(got)
+}
+
+// Reads until the buffer is full, the input ends or a read fails.
+fn fill(buffer: &mut [u8]) -> Piece
+    ensures { λ r. ⌜ Within r (now (buffer .exit)) ⌝ }
+{
+    let mut done = 0;
+    while done < buffer.len() {
+        let said = read_at(buffer, done);
+        match said {
+            Said::More(k) => {
+                done += k;
+            }
+            Said::End => {
+                return Piece::Bytes(done);
+            }
+            Said::Failed => {
+                return Piece::Failed;
+            }
         }
-        let kind = rec[0];
-        let command = is_command(kind);
-        if got < 24 {
-            if command {
+    }
+    Piece::Bytes(done)
+}
+
+// Reads the next piece of the input. The array is whole, so that the caller owes no proof of its length.
+fn read_piece(rec: &mut [u8; 24]) -> Piece
+    ensures { λ r. ⌜ Within r (now (rec .exit)) ⌝ }
+{
+    fill(rec)
+}
+
+// Reads network records up to the first command, the end, a cut record, one record too many, or a read that fails.
+fn load(store: &mut [u8; records::STORE_BYTES], rec: &mut [u8; 24]) -> Loaded
+    ensures { λ r. ⌜ (now (store .entry) ≡ inStore [] → Loads (r .met) (r .n) (now (store .exit))) ⌝ }
+{
+    let mut n = 0;
+    loop {
+        let piece = read_piece(rec);
+        let next = streams::input::next_of(n, rec, piece);
+        match next {
+            Next::Network => {
+                streams::input::keep(store, n, rec);
+                n += 1;
+            }
+            Next::TooMany => {
                 return Loaded {
-                    n,
-                    met: Met::CutCommand,
+                    n: n + 1,
+                    met: next,
                 };
             }
-            return Loaded { n, met: Met::Cut };
+            Next::Command | Next::CutCommand | Next::Cut | Next::End | Next::Failed => {
+                return Loaded { n, met: next };
+            }
         }
-        if command {
-            return Loaded {
-                n,
-                met: Met::Command,
-            };
-        }
-        if n < 641 {
-            planes::put(store, n * 24, rec);
-        }
-        n += 1;
     }
-    Loaded { n, met: Met::End }
 }
 
-// Writes a space and a number.
-fn tell_number(n: usize) {
-    io::write_all(1, b" ");
-    io::print_decimal(1, n as u64);
+// Reads the next piece behind a command, and tells what it is.
+fn read_later(rec: &mut [u8; 24]) -> Later {
+    let piece = read_piece(rec);
+    streams::input::later_of(rec, piece)
 }
 
-// Writes a word and two numbers.
-fn tell_two(word: &[u8], a: usize, b: usize) {
-    io::write_all(1, word);
-    tell_number(a);
-    tell_number(b);
+// Writes the start line, and tells whether all of it was written.
+fn tell_start(a: Checked) -> bool {
+    let mut line = [0u8; 80];
+    let k = streams::start_line(&mut line, a);
+    io::write_all(STDOUT_FILENO, &line[..k])
 }
 
-// Tells that the last record was cut.
+// Writes the line of command number turn, and tells whether all of it was written.
+fn tell(turn: u64, a: Commanded) -> bool {
+    let mut line = [0u8; 80];
+    let k = streams::answer_line(&mut line, turn, a);
+    io::write_all(STDOUT_FILENO, &line[..k])
+}
+
+// Writes the line of a cut last record.
 fn tell_short() {
-    io::write_all(1, b"end short\n");
+    let mut line = [0u8; 80];
+    let k = streams::short_line(&mut line);
+    io::write_all(STDOUT_FILENO, &line[..k]);
 }
 
-// Tells what the check call answered.
-fn tell_start(a: Checked) {
-    io::write_all(1, b"start");
-    match a {
-        Checked::Holds => {
-            io::write_all(1, b" holds");
-        }
-        Checked::Violated { policy, state } => tell_two(b" violated", policy, state),
-        Checked::Refused { number, place } => tell_two(b" refused", number, place),
-    }
-    io::write_all(1, b"\n");
-}
-
-// Tells what the command call answered to command number turn.
-fn tell(turn: u64, a: Commanded) {
-    io::print_decimal(1, turn);
-    match a {
-        Commanded::Forwarded { count } => {
-            io::write_all(1, b" forwarded");
-            tell_number(count);
-        }
-        Commanded::Blocked { policy, state } => tell_two(b" blocked", policy, state),
-        Commanded::Refused { number, place } => tell_two(b" refused", number, place),
-    }
-    io::write_all(1, b"\n");
-}
-
-// The count last answered as forwarded.
-fn count_after(a: Commanded, n: usize) -> usize {
-    match a {
-        Commanded::Forwarded { count } => count,
-        Commanded::Blocked {
-            policy: _,
-            state: _,
-        }
-        | Commanded::Refused {
-            number: _,
-            place: _,
-        } => n,
-    }
-}
-
-// The check call on whole arrays, so that the caller owes no proof of a length.
-fn check(store: &[u8; 15384], n: usize, work: &mut [u8; 65536]) -> Checked {
+// The check call on the program's store and work.
+fn check(store: &[u8; records::STORE_BYTES], n: usize, work: &mut [u8; 65536]) -> Checked
+    ensures { λ r. ⌜ checkAnswerOf r ≡ checkAnswer (now (store .entry)) n workBytes ⌝ }
+{
     calls::check(store, n, work)
 }
 
-// The command call on whole arrays.
-fn command(store: &mut [u8; 15384], n: usize, work: &mut [u8; 65536], rec: &[u8; 24]) -> Commanded {
-    calls::command(store, n, work, rec)
-}
-
-// Reads the next record, and tells how much of it there was.
-fn next(rec: &mut [u8; 24]) -> usize {
-    io::read_full(0, rec)
+// The command call on the program's store and work, and the count that it leaves.
+fn answer(
+    store: &mut [u8; records::STORE_BYTES],
+    n: usize,
+    work: &mut [u8; 65536],
+    rec: &[u8; 24],
+) -> Answered
+    ensures { λ r. ⌜ OutcomeIs (installedWith n (now (store .entry))) (now (rec .entry)) (commandAnswerOf (r .answer)) (installedWith (r .count) (now (store .exit))) ⌝ }
+{
+    let answer = calls::command(store, n, work, rec);
+    let count = streams::count_after(n, answer);
+    Answered { answer, count }
 }
 
 fn main() {
-    let mut store = [0u8; 15384];
+    let mut store = [0u8; records::STORE_BYTES];
     let mut work = [0u8; 65536];
     let mut rec = [0u8; 24];
     let loaded = load(&mut store, &mut rec);
     let met = loaded.met;
-    if let Met::Cut = met {
+    if let Next::Failed = met {
+        return;
+    }
+    if let Next::Cut = met {
         tell_short();
         return;
     }
     let mut n = loaded.n;
     let start = check(&store, n, &mut work);
-    tell_start(start);
+    if !tell_start(start) {
+        return;
+    }
     let Checked::Holds = start else {
         return;
     };
-    if let Met::CutCommand = met {
+    if let Next::CutCommand = met {
         tell_short();
         return;
     }
-    if let Met::End = met {
+    let Next::Command = met else {
         return;
-    }
+    };
     let mut turn: u64 = 1;
     while turn < u64::MAX {
-        let a = command(&mut store, n, &mut work, &rec);
-        tell(turn, a);
-        n = count_after(a, n);
-        let got = next(&mut rec);
-        if got < 24 {
-            if 0 < got {
-                tell_short();
-            }
+        let done = answer(&mut store, n, &mut work, &rec);
+        n = done.count;
+        let a = done.answer;
+        if !tell(turn, a) {
             return;
         }
+        let later = read_later(&mut rec);
+        if let Later::Cut = later {
+            tell_short();
+            return;
+        }
+        let Later::Command = later else {
+            return;
+        };
         turn += 1;
     }
 }

@@ -33,7 +33,7 @@ use Rattle.truth.specs.Laws.Tables.{truth-iff, all-iff}
 use Rattle.calls.specs.Answer.{CheckAnswer, CommandAnswer, forwarded, blocked}
 use Rattle.commands.specs.Apply.{asRule, withActions, changed, inserted, removed, added, applied}
 use Rattle.calls.specs.Check.{checkAnswer}
-use Rattle.calls.specs.Reference.{Installed, outcomeOf, judged, stored}
+use Rattle.calls.specs.Reference.{installedAtStart, outcomeOf, judged, stored}
 use Rattle.records.specs.NetK.{record24, node, A, B, policy0, K, inStore, addAny, addZero, addSet, addDrop, deleteAbsent, addD, deleteD}
 
 -- all that a starred case computes with
@@ -44,10 +44,6 @@ computing = tt
 -- the network with the first add's rule and D in the file
 unfoldable pub KD : Net
 KD = applied addD (applied addAny K)
-
--- a network at the start, in a store of 15,384 bytes
-abbrev pub installedAtStart : Net → Installed
-installedAtStart net = record { count = length net; bytes = inStore net }
 
 -- the states below 32 that pass a test
 unfoldable pub those : ℕ → ℕ → (ℕ → Bool) → List ℕ

@@ -2,9 +2,9 @@
 use mathlib.Core.Path.{_≡_, refl}
 use mathlib.Core.List.{[], _∷_, _++_, map}
 use Rattle.records.specs.Record.{Rec, Net}
-use Rattle.records.specs.NetK.{record24, A, B, policy0, K, inStore, addAny, addZero, addSet, addDrop, deleteAbsent, deleteD}
-use Rattle.calls.specs.Reference.{outcomeOf}
-use Rattle.series.specs.Starred.{computing, KD, installedAtStart}
+use Rattle.records.specs.NetK.{record24, A, B, policy0, K, addAny, addZero, addSet, addDrop, deleteAbsent, deleteD}
+use Rattle.calls.specs.Reference.{installedAtStart, outcomeOf}
+use Rattle.series.specs.Starred.{computing, KD}
 
 -- K with these rules
 unfoldable withRules : Net → Net

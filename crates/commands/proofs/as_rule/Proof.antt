@@ -7,7 +7,7 @@ use native.Mathlib.Omega.{arith}
 use lib.ListN.{set}
 use lib.Seq.{set-split}
 use Rattle.commands.specs.Apply.{asRule}
-use Rattle.commands.proofs.CopiedBytes.{put-whole}
+use Rattle.planes.specs.Laws.Copies.{put-whole}
 use Rattle.commands.proofs.as_rule.Statement.{statement}
 use Rattle.commands.proofs.as_rule.Tie as tie
 

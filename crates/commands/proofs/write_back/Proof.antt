@@ -6,7 +6,7 @@ use Prim.Native.Nat.{ℕ, _+_}
 use native.Mathlib.Omega.{arith}
 use lib.ListN.{length, drop}
 use Rattle.records.specs.Record.{storeBytes}
-use Rattle.commands.proofs.CopiedBytes.{put-is}
+use Rattle.planes.specs.Laws.Copies.{put-is}
 use Rattle.commands.proofs.write_back.Statement.{statement}
 use Rattle.commands.proofs.write_back.Tie as tie
 

@@ -16,7 +16,7 @@ use Rattle.records.specs.declared.Widths.{Widths}
 use Rattle.records.specs.Laws.Records.{Whole, whole-parts}
 use Rattle.records.specs.Laws.Kinds.{kinds-append, widths-append, present-append}
 use Rattle.rows.specs.Laws.Passing.{not-empty}
-use Rattle.rows.specs.Laws.Edits.{matchOf, present-match, Kept, stands, rule-replaced, rule-removed, some-front, rule-inserted}
+use Rattle.rows.specs.Laws.Edits.{matchOf, present-match, PassesStill, stands, rule-replaced, rule-removed, some-front, rule-inserted}
 use Rattle.commands.specs.Apply.{asRule, withActions, changed, inserted, removed, added, applied}
 use Rattle.commands.specs.Laws.Applied.{applied-add, applied-modify, applied-delete}
 use Rattle.commands.specs.Laws.RulePlace.{Found, found, changed-none, removed-none, Place, place}
@@ -24,9 +24,9 @@ use Rattle.commands.specs.Laws.StoredRule.{Command, same-rule, as-rule-k
 
 module _ (net : Net) (c : Rec) (whole : Whole net) (e : fileRow [] net ≡ none) (cmd : Command net c) where
   -- nothing changed
-  unchanged : (after : Net) → after ≡ net → Kept net after
+  unchanged : (after : Net) → after ≡ net → PassesStill net after
   unchanged after q =
-      subst (Kept net) (sym q)
+      subst (PassesStill net) (sym q)
       (record { passes = e; alike = record { some = not-empty net e; some′ = not-empty net e; widths = refl; same = λ k h. refl }; whole = whole })
 
   -- the same rule changed, or removed
@@ -45,18 +45,18 @@ module _ (net : Net) (c : Rec) (whole : Whole net) (e : fileRow [] net ≡ none)
         ap widthsOf (f .parts) ∙ widths-append (f .front) (f .rule ∷ f .back) (stands (f .front) (f .rule) (f .back) rule-kind whole-there passes-there .some)
 
     changed-kept : (g : Rec → Rec) → kind (g (f .rule)) ≡ 4 → length (g (f .rule)) ≡ 24 → matchOf (g (f .rule)) ≡ matchOf (f .rule)
-        → fieldsGood (widthsOf net) (g (f .rule)) ≡ true → Kept net (changed g c net)
+        → fieldsGood (widthsOf net) (g (f .rule)) ≡ true → PassesStill net (changed g c net)
     changed-kept g k l m good =
-        subst₂ Kept (sym (f .parts)) (sym (f .changed-is g))
+        subst₂ PassesStill (sym (f .parts)) (sym (f .changed-is g))
         (rule-replaced (f .front) (f .rule) (f .back) rule-kind whole-there passes-there (g (f .rule)) k l m
         (subst (λ (w : Widths). fieldsGood w (g (f .rule)) ≡ true) widths-there good))
 
-    replaced-kept : kind c ≡ 6 → Kept net (changed (λ r. asRule c) c net)
+    replaced-kept : kind c ≡ 6 → PassesStill net (changed (λ r. asRule c) c net)
     replaced-kept q =
         changed-kept (λ r. asRule c) (as-rule-kind c) (as-rule-bytes c (cmd .bytes)) (as-rule-match c ∙ same-rule c (f .rule) (f .same) .1)
         (as-rule-good (widthsOf net) c (cmd .bytes) q (cmd .good))
 
-    modified-kept : kind c ≡ 7 → Kept net (changed (withActions c) c net)
+    modified-kept : kind c ≡ 7 → PassesStill net (changed (withActions c) c net)
     modified-kept q =
         let l = whole-parts (f .front) (f .rule ∷ f .back) whole-there .1 .0 in
         let b = cmd .bytes in
@@ -64,11 +64,11 @@ module _ (net : Net) (c : Rec) (whole : Whole net) (e : fileRow [] net ≡ none)
         changed-kept (withActions c) (with-actions-kind c (f .rule) b l ∙ rule-kind) (with-actions-bytes c (f .rule) b l) (with-actions-match c (f .rule) b l)
         (with-actions-good c (f .rule) b l (widthsOf net) q rule-kind (cmd .good) (subst (λ (w : Widths). fieldsGood w (f .rule) ≡ true) (sym widths-there) good))
 
-    removed-kept : Kept net (removed c net)
-    removed-kept = subst₂ Kept (sym (f .parts)) (sym (f .removed-is)) (rule-removed (f .front) (f .rule) (f .back) rule-kind whole-there passes-there)
+    removed-kept : PassesStill net (removed c net)
+    removed-kept = subst₂ PassesStill (sym (f .parts)) (sym (f .removed-is)) (rule-removed (f .front) (f .rule) (f .back) rule-kind whole-there passes-there)
 
   -- a new rule inserted
-  inserted-kept : kind c ≡ 6 → present c net ≡ false → Place c net → Kept net (inserted c net)
+  inserted-kept : kind c ≡ 6 → present c net ≡ false → Place c net → PassesStill net (inserted c net)
   inserted-kept q absent p =
       let w : Whole (p .front ++ p .back) = subst Whole (p .parts) whole in
       let passes : fileRow [] (p .front ++ p .back) ≡ none = subst (λ (n : Net). fileRow [] n ≡ none) (p .parts) e in
@@ -77,37 +77,37 @@ module _ (net : Net) (c : Rec) (whole : Whole net) (e : fileRow [] net ≡ none)
       let widths : widthsOf net ≡ widthsOf (p .front) = ap widthsOf (p .parts) ∙ widths-append (p .front) (p .back) some in
       let none-there = or-none (present c (p .front)) (present c (p .back)) (sym (present-append c (p .front) (p .back)) ∙ ap (present c) (sym (p .parts)) ∙ absent) .0 in
       let count = ap (λ (n : Net). length (ofKind 4 n)) (p .parts) ∙ ap length (kinds-append 4 (p .front) (p .back)) ∙ length-append (ofKind 4 (p .front)) (ofKind 4 (p .back)) in
-      subst₂ Kept (sym (p .parts)) (sym (p .inserted-is))
+      subst₂ PassesStill (sym (p .parts)) (sym (p .inserted-is))
       (rule-inserted (p .front) (p .back) (p .no-node) last (p .high) w passes (asRule c) (as-rule-kind c) (as-rule-bytes c (cmd .bytes))
       (subst (λ (v : Widths). fieldsGood v (asRule c) ≡ true) widths (as-rule-good (widthsOf net) c (cmd .bytes) q (cmd .good)))
       (present-match (asRule c) c (p .front) (as-rule-match c) ∙ none-there) (omega (arith, count, cmd .room q absent)))
 
-  added-kept : kind c ≡ 6 → Kept net (added c net)
+  added-kept : kind c ≡ 6 → PassesStill net (added c net)
   unfolding added
   added-kept q = go (present c net) refl
     where
-      go : (b : Bool) → present c net ≡ b → Kept net (elim b [ true ↦ changed (λ r. asRule c) c net | false ↦ inserted c net ])
+      go : (b : Bool) → present c net ≡ b → PassesStill net (elim b [ true ↦ changed (λ r. asRule c) c net | false ↦ inserted c net ])
       go true t = replaced-kept (found c net t) q
       go false t = inserted-kept q t (place c net)
 
-  modify-kept : kind c ≡ 7 → Kept net (changed (withActions c) c net)
+  modify-kept : kind c ≡ 7 → PassesStill net (changed (withActions c) c net)
   modify-kept q = go (present c net) refl
     where
-      go : (b : Bool) → present c net ≡ b → Kept net (changed (withActions c) c net)
+      go : (b : Bool) → present c net ≡ b → PassesStill net (changed (withActions c) c net)
       go true t = modified-kept (found c net t) q
       go false t = unchanged (changed (withActions c) c net) (changed-none (withActions c) c net t)
 
-  delete-kept : Kept net (removed c net)
+  delete-kept : PassesStill net (removed c net)
   delete-kept = go (present c net) refl
     where
-      go : (b : Bool) → present c net ≡ b → Kept net (removed c net)
+      go : (b : Bool) → present c net ≡ b → PassesStill net (removed c net)
       go true t = removed-kept (found c net t)
       go false t = unchanged (removed c net) (removed-none c net t)
 
-  pub applied-kept : Kept net (applied c net)
+  pub applied-kept : PassesStill net (applied c net)
   applied-kept = go (ℕ-discrete (kind c) 6) (ℕ-discrete (kind c) 7)
     where
-      go : Dec (kind c ≡ 6) → Dec (kind c ≡ 7) → Kept net (applied c net)
-      go (yes q) t = subst (Kept net) (sym (applied-add c net q)) (added-kept q)
-      go (no s) (yes q) = subst (Kept net) (sym (applied-modify c net q)) (modify-kept q)
-      go (no s) (no t) = subst (Kept net) (sym (applied-delete c net (omega (arith, s, t, cmd .least, cmd .most)))) delete-kept
+      go : Dec (kind c ≡ 6) → Dec (kind c ≡ 7) → PassesStill net (applied c net)
+      go (yes q) t = subst (PassesStill net) (sym (applied-add c net q)) (added-kept q)
+      go (no s) (yes q) = subst (PassesStill net) (sym (applied-modify c net q)) (modify-kept q)
+      go (no s) (no t) = subst (PassesStill net) (sym (applied-delete c net (omega (arith, s, t, cmd .least, cmd .most)))) delete-kept

@@ -1,5 +1,5 @@
 -- Laws of records and their bytes, and of the records of a store: by number, one more, those before and those from a number on.
-use mathlib.Core.Path.{_≡_, refl, ap, ap₂, subst⁻¹, _∙_}
+use mathlib.Core.Path.{_≡_, refl, sym, ap, ap₂, subst⁻¹, _∙_}
 use mathlib.Core.List.{List, [], _∷_, _++_, append-assoc}
 use Prim.Native.Nat.{ℕ, zero, suc, _+_, _-_, _*_, _<_, _≤_}
 use native.Mathlib.Nat.{not-suc-le-zero, le-of-suc-le-suc}
@@ -30,6 +30,11 @@ pub length-flat : (net : Net) → Whole net → length (flat net) ≡ length net
 unfolding flat
 length-flat [] w = refl
 length-flat (r ∷ rs) w = length-append r (flat rs) ∙ omega (arith, w .0, length-flat rs (w .1))
+
+pub flat-append : (xs ys : Net) → flat (xs ++ ys) ≡ flat xs ++ flat ys
+unfolding flat
+flat-append [] ys = refl
+flat-append (x ∷ xs) ys = ap (λ (l : List ℕ). x ++ l) (flat-append xs ys) ∙ sym (append-assoc x (flat xs) (flat ys))
 
 -- reading back the bytes of a list of records gives the list, whatever follows them
 pub flat-back : (net : Net) (rest : List ℕ) → Whole net → records (length net) (flat net ++ rest) ≡ net

@@ -74,7 +74,7 @@ module _ (front : Net) (r : Rec) (back : Net) where
       }
 
 -- a network and what it becomes: it passes again, reads alike but for its rules, and has whole records
-pub record Kept (net net′ : Net) : Type 0 where
+pub record PassesStill (net net′ : Net) : Type 0 where
   pub passes : fileRow [] net′ ≡ none
   pub alike : Alike net net′
   pub whole : Whole net′
@@ -116,7 +116,7 @@ module _ (front : Net) (r : Rec) (back : Net) (q : kind r ≡ 4) (whole : Whole 
       }) (here .1)))
 
   pub rule-replaced : (r′ : Rec) → kind r′ ≡ 4 → length r′ ≡ 24 → matchOf r′ ≡ matchOf r → fieldsGood (widthsOf front) r′ ≡ true
-      → Kept (front ++ (r ∷ back)) (front ++ (r′ ∷ back))
+      → PassesStill (front ++ (r ∷ back)) (front ++ (r′ ∷ back))
   rule-replaced r′ k l m good =
       let t = whole-parts front (r ∷ back) whole in
       record {
@@ -137,7 +137,7 @@ module _ (front : Net) (r : Rec) (back : Net) (q : kind r ≡ 4) (whole : Whole 
         absent = λ s a. or-none (present s front) (present s (r ∷ [])) (sym (present-append s front (r ∷ [])) ∙ a) .0;
       }) (here .1))
 
-  pub rule-removed : Kept (front ++ (r ∷ back)) (front ++ back)
+  pub rule-removed : PassesStill (front ++ (r ∷ back)) (front ++ back)
   rule-removed =
       let t = whole-parts front (r ∷ back) whole in
       record {
@@ -181,7 +181,7 @@ module _ (front back : Net) (no-node : any isNode front ≡ false) (last : lastK
       (λ t. not-both t (no-rule back nodes after)) after))
 
   pub rule-inserted : (r : Rec) → kind r ≡ 4 → length r ≡ 24 → fieldsGood (widthsOf front) r ≡ true → present r front ≡ false → length (ofKind 4 front) < 256
-      → Kept (front ++ back) (front ++ (r ∷ back))
+      → PassesStill (front ++ back) (front ++ (r ∷ back))
   rule-inserted r k l good absent room =
       let t = whole-parts front back whole in
       record {

@@ -87,7 +87,7 @@ module _ (c : Call) (d : Promised c) where
   abbrev after : Installed
   after = record { count = countAfter (c .count) (c .answer); bytes = c .store-after }
 
-  call-after : after ≡ outcomeOf (startOf c) (c .given) (length (c .work)) .after
+  pub call-after : after ≡ outcomeOf (startOf c) (c .given) (length (c .work)) .after
   unfolding outcomeOf
   call-after =
       ap₂ (λ (n : ℕ) (s : List ℕ). record { count = n; bytes = s })

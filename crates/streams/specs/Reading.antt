@@ -1,0 +1,82 @@
+-- What the program does with each piece of the input, 24 bytes or the fewer that are left.
+use mathlib.Core.Bool.{false, cond}
+use mathlib.Core.Path.{_≡_}
+use mathlib.Core.List.{List, [], _∷_, _++_}
+use Prim.Native.Nat.{ℕ, zero, suc, _<_, _≤_, min}
+use lib.Dec.{eqb, ltb}
+use lib.IntN.{ℤ, pos, negsuc}
+use lib.ListN.{length, take}
+use Rattle.io.specs.Counts.{Counts}
+use Rattle.records.specs.Record.{Rec, Net, mostRecords}
+use Rattle.records.specs.NetK.{inStore}
+use Rattle.records.specs.Laws.Records.{Whole}
+use Rattle.streams.specs.declared.input.Next.{Next}
+use Rattle.streams.specs.declared.input.Next.the-variants as next
+use Rattle.streams.specs.declared.input.Later.{Later}
+use Rattle.streams.specs.declared.input.Later.the-variants as later
+use Rattle.streams.specs.declared.input.Piece.{Piece}
+use Rattle.streams.specs.declared.input.Piece.the-variants as piece
+use Rattle.streams.specs.declared.input.Said.{Said}
+use Rattle.streams.specs.declared.input.Said.the-variants as said
+use Rattle.streams.specs.Input.{isCommand}
+
+-- what a call of read said: a negative number that it failed, 0 that the input ended, else how many bytes it read
+abbrev pub saidBy : ℤ → Said
+saidBy (pos zero) = said.End
+saidBy (pos (suc k)) = said.More (suc k)
+saidBy (negsuc k) = said.Failed
+
+-- what was read is not nothing, and there was room for it
+abbrev pub InRoom : Said → ℕ → Type 0
+InRoom (said.More k) room = (0 < k) × (k ≤ room)
+InRoom said.End room = Unit {0}
+InRoom said.Failed room = Unit {0}
+
+-- the bytes of a piece are at the start of the buffer
+abbrev pub Within : Piece → List ℕ → Type 0
+Within (piece.Bytes k) buffer = Counts k buffer
+Within piece.Failed buffer = Unit {0}
+
+-- what bytes are behind n network records, before any command
+unfoldable pub nextOf : ℕ → List ℕ → Next
+nextOf n bytes =
+    cond (eqb (length bytes) 0) next.End
+    (cond (ltb (length bytes) 24) (cond (isCommand bytes) next.CutCommand next.Cut)
+    (cond (isCommand bytes) next.Command (cond (ltb n mostRecords) next.Network next.TooMany)))
+
+-- what a piece is there: a read that failed is neither the end of the input nor a cut record
+abbrev pub nextBy : ℕ → Piece → List ℕ → Next
+nextBy n (piece.Bytes k) buffer = nextOf n (take k buffer)
+nextBy n piece.Failed buffer = next.Failed
+
+-- what bytes are behind a command
+unfoldable pub laterOf : List ℕ → Later
+laterOf bytes = cond (eqb (length bytes) 0) later.End (cond (ltb (length bytes) 24) later.Cut later.Command)
+
+-- what a piece is there
+abbrev pub laterBy : Piece → List ℕ → Later
+laterBy (piece.Bytes k) buffer = laterOf (take k buffer)
+laterBy piece.Failed buffer = later.Failed
+
+-- one more record of a network stands in its store
+pub record RecordKept (r : Rec) (n : ℕ) (before after : List ℕ) : Type 0 where
+  pub stored : (net : Net) → Whole net → length net ≡ n → before ≡ inStore net → after ≡ inStore (net ++ (r ∷ []))
+
+-- none of the records is a command
+abbrev pub NoCommand : Net → Type 0
+NoCommand [] = Unit {0}
+NoCommand (r ∷ rs) = (isCommand r ≡ false) × NoCommand rs
+
+-- a store holds a network of n whole records, none of them a command, and then zeros
+pub record Holding (n : ℕ) (store : List ℕ) : Type 0 where
+  pub net : Net
+  pub whole : Whole net
+  pub none : NoCommand net
+  pub size : length net ≡ n
+  pub stored : store ≡ inStore net
+
+-- what reading the network leaves, with what came after its records: of more than 641 the store has the first 641
+pub record Loads (met : Next) (n : ℕ) (store : List ℕ) : Type 0 where
+  pub held : Holding (min n mostRecords) store
+  pub many : met ≡ next.TooMany → mostRecords < n
+  pub few : (met ≡ next.TooMany → ⊥) → n ≤ mostRecords
