@@ -14,7 +14,7 @@ ghost use lib.ListN.{length};
 ghost use Rattle.records.specs.NetK.{inStore};
 ghost use Rattle.calls.specs.Answer.{checkAnswerOf, commandAnswerOf};
 ghost use Rattle.calls.specs.Check.{checkAnswer};
-ghost use Rattle.streams.specs.Reading.{InRoom, Within, Loads};
+ghost use Rattle.streams.specs.Reading.{InRoom, PieceWithin, Loads};
 ghost use Rattle.streams.specs.Output.{workBytes, installedWith, OutcomeIs};
 
 // How many network records were read, and what came after them.
@@ -40,7 +40,7 @@ fn read_at(buffer: &mut [u8], done: usize) -> Said
 
 // Reads until the buffer is full, the input ends or a read fails.
 fn fill(buffer: &mut [u8]) -> Piece
-    ensures { λ r. ⌜ Within r (now (buffer .exit)) ⌝ }
+    ensures { λ r. ⌜ PieceWithin r (now (buffer .exit)) ⌝ }
 {
     let mut done = 0;
     while done < buffer.len() {
@@ -62,7 +62,7 @@ fn fill(buffer: &mut [u8]) -> Piece
 
 // Reads the next piece of the input. The array is whole, so that the caller owes no proof of its length.
 fn read_piece(rec: &mut [u8; 24]) -> Piece
-    ensures { λ r. ⌜ Within r (now (rec .exit)) ⌝ }
+    ensures { λ r. ⌜ PieceWithin r (now (rec .exit)) ⌝ }
 {
     fill(rec)
 }

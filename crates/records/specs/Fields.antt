@@ -1,6 +1,6 @@
 -- The fields of a record, as its kind reads them: ranges, widths, patterns, actions and unnamed bytes.
 use mathlib.Core.Bool.{Bool, true, false, not, _&&_, _||_}
-use Prim.Native.Nat.{ℕ, suc, _+_, _-_, _*_, _^_}
+use Prim.Native.Nat.{ℕ, suc, _+_, _*_, _^_}
 use lib.Dec.{eqb, leb, ltb}
 use lib.ListN.{take, drop}
 use Rattle.records.specs.Lists.{all}

@@ -1,6 +1,6 @@
 // The 24-byte records of a network.
 ghost use mathlib.Core.Path.{_≡_};
-ghost use Prim.Native.Nat.{ℕ, _≤_, _^_};
+ghost use Prim.Native.Nat.{_≤_};
 ghost use Rattle.records.specs.Widths.{width, states, planeBytes, withinLimits};
 
 pub mod fields;

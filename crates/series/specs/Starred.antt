@@ -6,7 +6,7 @@ use mathlib.Core.List.{List, [], _∷_, map, flatMap}
 use mathlib.Core.Logic.{_↔_}
 use Prim.Native.Nat.{ℕ, zero, suc, _<_}
 use lib.Dec.{lit<}
-use lib.ListN.{length, getD}
+use lib.ListN.{getD}
 use Rattle.planes.specs.Bit.{bitOf}
 use Rattle.planes.specs.Laws.Tests.{not-both}
 use Rattle.closure.specs.Walk.{Walk}
@@ -26,15 +26,16 @@ use Rattle.actions.specs.Actions.{reached, copies, sent}
 use Rattle.steps.specs.Step.{across, next, Step, external}
 use Rattle.truth.specs.Truth.{Truth}
 use Rattle.verdict.specs.Verdict.{Verdict, holds, violated, Holds, Lowest, Is}
-use Rattle.truth.specs.Computed.{tableOf, anyBelow, allBelow, truth}
-use Rattle.verdict.specs.Computed.{firstFrom, lowestState, verdictFrom}
+use Rattle.truth.specs.Computed.{anyBelow, allBelow, truth}
+use Rattle.verdict.specs.Computed.{firstFrom, lowestState, verdictFrom, tableOf}
 use Rattle.verdict.specs.Judgement.{judgement, verdict, verdict-meant}
-use Rattle.truth.specs.Laws.Tables.{truth-iff, all-iff}
+use Rattle.truth.specs.Laws.Tables.{all-iff}
 use Rattle.calls.specs.Answer.{CheckAnswer, CommandAnswer, forwarded, blocked}
 use Rattle.commands.specs.Apply.{asRule, withActions, changed, inserted, removed, added, applied}
 use Rattle.calls.specs.Check.{checkAnswer}
 use Rattle.calls.specs.Reference.{installedAtStart, outcomeOf, judged, stored}
 use Rattle.records.specs.NetK.{record24, node, A, B, policy0, K, inStore, addAny, addZero, addSet, addDrop, deleteAbsent, addD, deleteD}
+use Rattle.verdict.specs.Laws.Tabled.{truth-iff}
 
 -- all that a starred case computes with
 unfoldable pub computing : Unit {0}

@@ -33,9 +33,9 @@ InRoom said.End room = Unit {0}
 InRoom said.Failed room = Unit {0}
 
 -- the bytes of a piece are at the start of the buffer
-abbrev pub Within : Piece → List ℕ → Type 0
-Within (piece.Bytes k) buffer = Counts k buffer
-Within piece.Failed buffer = Unit {0}
+abbrev pub PieceWithin : Piece → List ℕ → Type 0
+PieceWithin (piece.Bytes k) buffer = Counts k buffer
+PieceWithin piece.Failed buffer = Unit {0}
 
 -- what bytes are behind n network records, before any command
 unfoldable pub nextOf : ℕ → List ℕ → Next

@@ -6,7 +6,7 @@ use lib.ListN.{length, take}
 use Rattle.io.specs.Counts.{Counts}
 
 -- the text stands behind the first at bytes of the line, which then has r
-pub record Added (text : List ℕ) (at : ℕ) (before after : List ℕ) (r : ℕ) : Type 0 where
+pub record TextAdded (text : List ℕ) (at : ℕ) (before after : List ℕ) (r : ℕ) : Type 0 where
   pub size : r ≡ at + length text
   pub within : r ≤ length after
   pub len : length after ≡ length before

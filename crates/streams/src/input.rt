@@ -4,7 +4,7 @@ ghost use Prim.Native.Nat.{_<_};
 ghost use lib.ListN.{length};
 ghost use Rattle.records.specs.Record.{storeBytes, mostRecords};
 ghost use Rattle.streams.specs.Input.{isCommandKind};
-ghost use Rattle.streams.specs.Reading.{saidBy, Within, nextOf, nextBy, laterOf, laterBy, RecordKept};
+ghost use Rattle.streams.specs.Reading.{saidBy, PieceWithin, nextOf, nextBy, laterOf, laterBy, RecordKept};
 
 // What a call of read said.
 pub enum Said {
@@ -89,7 +89,7 @@ fn next_in(n: usize, piece: &[u8]) -> Next
     if command {
         return Next::Command;
     }
-    if n < 641 {
+    if n < records::MOST_RECORDS {
         return Next::Network;
     }
     Next::TooMany
@@ -110,7 +110,7 @@ fn later_in(piece: &[u8]) -> Later
 
 // What a piece is behind n network records, before any command; its bytes are at the start of the buffer.
 pub fn next_of(n: usize, buffer: &[u8], piece: Piece) -> Next
-    requires { ⌜ Within piece (now buffer) ⌝ }
+    requires { ⌜ PieceWithin piece (now buffer) ⌝ }
     ensures { λ r. ⌜ r ≡ nextBy n piece (now (buffer .entry)) ⌝ }
 {
     match piece {
@@ -121,7 +121,7 @@ pub fn next_of(n: usize, buffer: &[u8], piece: Piece) -> Next
 
 // What a piece is behind a command.
 pub fn later_of(buffer: &[u8], piece: Piece) -> Later
-    requires { ⌜ Within piece (now buffer) ⌝ }
+    requires { ⌜ PieceWithin piece (now buffer) ⌝ }
     ensures { λ r. ⌜ r ≡ laterBy piece (now (buffer .entry)) ⌝ }
 {
     match piece {

@@ -4,12 +4,8 @@ use mathlib.Core.List.{List}
 use Prim.Native.Nat.{ℕ, zero, suc}
 use lib.ListN.{getD}
 use Rattle.planes.specs.Bit.{bitOf}
-use Rattle.records.specs.Lists.{member}
-use Rattle.records.specs.Record.{Net}
-use Rattle.records.specs.Widths.{states, widthsOf}
 use Rattle.records.specs.Policy.{Formula, absent, BIT, R, E, NOT, AND, OR, SOME, ALL, TC}
-use Rattle.steps.specs.Step.{next, external}
-use Rattle.planes.specs.Tabulated.{Grid, gridTest, tab}
+use Rattle.planes.specs.Tabulated.{Grid, gridTest}
 use Rattle.closure.specs.Computed.{closed}
 use Rattle.truth.specs.Truth.{value, withX, withY}
 
@@ -18,16 +14,6 @@ pub record Table : Type 0 where
   pub count : ℕ
   pub steps : Grid
   pub externals : List Bool
-
--- the table of a network
-unfoldable pub tableOf : Net → Table
-tableOf net =
-    let count = states (widthsOf net) in
-    record {
-      count = count;
-      steps = tab count 0 (λ s. let ts = next net s in tab count 0 (λ t. member t ts));
-      externals = tab count 0 (external net);
-    }
 
 -- some number below k passes a test
 unfoldable pub anyBelow : ℕ → (ℕ → Bool) → Bool

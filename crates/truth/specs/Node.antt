@@ -6,6 +6,7 @@ use mathlib.Core.Logic.{_↔_, _⊎_}
 use Prim.Native.Nat.{ℕ, _+_, _*_, _≤_, _<_}
 use lib.ListN.{length, getD}
 use Rattle.planes.specs.Plane.{bit, On, planeSize}
+use Rattle.records.specs.Record.{mostNodes}
 use Rattle.records.specs.Policy.{Formula, NodeKind, kBIT, kR, kE, kNOT, kAND, kOR, kSOME, kALL, kTC, kNone, nodeKind, nodeSays}
 use Rattle.truth.specs.Truth.{Model, Truth}
 use Rattle.truth.specs.Shapes.{Outside}
@@ -41,7 +42,7 @@ pub record Shows (m : Model) (pitch base : ℕ) (work : List ℕ) (f : Formula) 
 
 -- there is room for the plane of node k, its operands are earlier nodes, and BIT names a bit of a number
 pub record Makeable (kind a b k pitch : ℕ) (work : List ℕ) : Type 0 where
-  pub few : k < 32
+  pub few : k < mostNodes
   pub small : pitch ≤ 128
   pub within : planeAt pitch k + planeSize pitch ≤ length work
   pub earlier : (j : ℕ) → Operand (nodeKind kind) a b j → j < k

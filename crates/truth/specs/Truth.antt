@@ -4,10 +4,7 @@ use mathlib.Core.Bool.{true}
 use mathlib.Core.Logic.{_⊎_}
 use Prim.Native.Nat.{ℕ, _<_}
 use Rattle.planes.specs.Bit.{bitOf}
-use Rattle.records.specs.Record.{Net}
-use Rattle.records.specs.Widths.{states, widthsOf}
 use Rattle.records.specs.Policy.{Var, X, Y, Formula, absent, BIT, R, E, NOT, AND, OR, SOME, ALL, TC}
-use Rattle.steps.specs.Step.{Step, external}
 use Rattle.closure.specs.Walk.{Walk}
 
 -- a model of the policy logic: the states, their steps, and those whose point is external
@@ -15,10 +12,6 @@ pub record Model : Type 1 where
   pub count : ℕ
   pub Steps : ℕ → ℕ → Type 0
   pub External : ℕ → Type 0
-
--- the model that a network is
-abbrev pub modelOf : Net → Model
-modelOf net = record { count = states (widthsOf net); Steps = Step net; External = λ s. external net s ≡ true }
 
 -- the value of a variable
 abbrev pub value : Var → ℕ → ℕ → ℕ

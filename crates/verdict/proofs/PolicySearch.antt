@@ -15,7 +15,7 @@ use Rattle.scan.specs.declared.Layout.{Layout}
 use Rattle.records.specs.Laws.Records.{length-records}
 use Rattle.verdict.specs.declared.policy.Offender.{Offender}
 use Rattle.verdict.specs.declared.policy.Offender.the-variants.{State, None}
-use Rattle.truth.specs.Truth.{Truth, modelOf}
+use Rattle.truth.specs.Truth.{Truth}
 use Rattle.verdict.specs.Verdict.{Breaks, Holds, Lowest}
 use Rattle.truth.specs.Node.{planeAt, modelAt}
 use Rattle.verdict.specs.Evaluated.{nodesAt, PolicyReady, Tested}
@@ -24,6 +24,7 @@ use Rattle.verdict.specs.Laws.Same.{same-truth}
 use Rattle.verdict.proofs.MarkedNodes.{same-model}
 use Rattle.verdict.proofs.PassedRecords.{up-to}
 use Rattle.verdict.proofs.PolicyRuns.{counted-end, counted-first, first-named, counted-stop, next-named, nodes-are, few-nodes, a-policy, sound-nodes, at-most-longest}
+use Rattle.verdict.specs.Model.{modelOf}
 
 -- the policies below p, whose nodes stand before record start, are not broken; the buffer keeps its steps and what lies behind its planes
 pub record Passed (store : List ℕ) (first end bytes start p : ℕ) (before after : List ℕ) : Type 0 where

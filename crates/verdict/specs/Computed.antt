@@ -6,6 +6,20 @@ use Rattle.records.specs.Record.{Net}
 use Rattle.records.specs.Policy.{forbidden}
 use Rattle.verdict.specs.Verdict.{Verdict, holds, violated}
 use Rattle.truth.specs.Computed.{Table, truth}
+use Rattle.records.specs.Lists.{member}
+use Rattle.records.specs.Widths.{states, widthsOf}
+use Rattle.steps.specs.Step.{next, external}
+use Rattle.planes.specs.Tabulated.{tab}
+
+-- the table of a network
+unfoldable pub tableOf : Net → Table
+tableOf net =
+    let count = states (widthsOf net) in
+    record {
+      count = count;
+      steps = tab count 0 (λ s. let ts = next net s in tab count 0 (λ t. member t ts));
+      externals = tab count 0 (external net);
+    }
 
 -- the first number from i on, of k numbers, that passes a test
 unfoldable pub firstFrom : ℕ → ℕ → (ℕ → Bool) → Option ℕ

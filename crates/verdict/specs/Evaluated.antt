@@ -7,7 +7,7 @@ use Prim.Native.Nat.{ℕ, _+_, _-_, _*_, _≤_, _<_}
 use lib.ListN.{length, getD, drop}
 use Rattle.planes.specs.Bit.{bitOf}
 use Rattle.planes.specs.Plane.{planeSize}
-use Rattle.records.specs.Record.{Rec, Net, at, records}
+use Rattle.records.specs.Record.{Rec, Net, at, records, mostNodes}
 use Rattle.records.specs.Policy.{Formula, nodeKind, formula}
 use Rattle.truth.specs.Truth.{Model, Truth}
 use Rattle.truth.specs.Node.{planeAt, arity, Operand, modelAt, Shows}
@@ -44,7 +44,7 @@ Held nodes pitch ext model marks work =
 pub record PolicyReady (store : List ℕ) (start count pitch : ℕ) (work : List ℕ) : Type 0 where
   pub stored : (start + count) * 24 ≤ length store
   pub sound : SoundNodes (nodesAt store start count)
-  pub few : count ≤ 32
+  pub few : count ≤ mostNodes
   pub small : pitch ≤ 128
   pub room : planeAt pitch count ≤ length work
 

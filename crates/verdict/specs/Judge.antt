@@ -6,7 +6,7 @@ use mathlib.Core.Logic.{_⊎_}
 use mathlib.Core.Option.{none}
 use Prim.Native.Nat.{ℕ, suc, _+_, _*_, _≤_, _<_}
 use lib.ListN.{length, getD, drop, replicate}
-use Rattle.records.specs.Record.{Rec, Net, at, records}
+use Rattle.records.specs.Record.{Rec, Net, at, records, mostNodes}
 use Rattle.records.specs.Policy.{nodesOf, policyCount, longest}
 use Rattle.rows.specs.Rows.{operandsGood, workNeeded}
 use Rattle.rows.specs.Refusal.{fileRow}
@@ -14,11 +14,11 @@ use Rattle.scan.specs.Layout.{LayoutOf}
 use Rattle.scan.specs.declared.Layout.{Layout}
 use Rattle.verdict.specs.declared.judge.Judged.{Judged}
 use Rattle.verdict.specs.declared.judge.Judged.the-variants.{Holds, Violated}
-use Rattle.truth.specs.Truth.{modelOf}
 use Rattle.verdict.specs.Verdict.{Verdict, holds, violated, Is}
 use Rattle.verdict.specs.Judgement.{verdict}
 use Rattle.verdict.specs.Laws.Same.{SameModel}
 use Rattle.truth.specs.Node.{planeAt, modelAt}
+use Rattle.verdict.specs.Model.{modelOf}
 
 -- the verdict that an answer gives: the network holds, or its lowest broken policy and the lowest state that breaks it
 abbrev pub verdictOf : Judged → Verdict
@@ -29,7 +29,7 @@ verdictOf (Violated p x) = violated p x
 pub record NodeRows (before : Net) (r : Rec) : Type 0 where
   pub operands : operandsGood (at r 2) (at r 3) (at r 4) (length (nodesOf (at r 1) before)) ≡ true
   pub follows : (suc (at r 1) ≡ policyCount before) ⊎ (at r 1 ≡ policyCount before)
-  pub few : length (nodesOf (at r 1) before) < 32
+  pub few : length (nodesOf (at r 1) before) < mostNodes
 
 -- a store holds `end` records that no row refuses, and they stand as the layout says
 pub record CleanStore (end : ℕ) (l : Layout) (store : List ℕ) : Type 0 where

@@ -11,10 +11,10 @@ use Rattle.records.specs.Record.{Net}
 use Rattle.records.specs.Widths.{width, states, widthsOf}
 use Rattle.records.specs.Policy.{forbidden, policyCount}
 use Rattle.verdict.specs.Verdict.{Verdict, holds, violated, Breaks, Lowest, Is}
-use Rattle.truth.specs.Computed.{tableOf, truth}
-use Rattle.verdict.specs.Computed.{firstFrom, lowestState, verdictFrom}
-use Rattle.truth.specs.Laws.Tables.{truth-iff}
+use Rattle.truth.specs.Computed.{truth}
+use Rattle.verdict.specs.Computed.{firstFrom, lowestState, verdictFrom, tableOf}
 use Rattle.verdict.specs.Laws.FirstState.{First, first-is}
+use Rattle.verdict.specs.Laws.Tabled.{truth-iff}
 
 module _ (net : Net) where
   a-state : 0 < states (widthsOf net)

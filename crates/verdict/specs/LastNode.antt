@@ -8,8 +8,9 @@ use Rattle.records.specs.Record.{Net}
 use Rattle.records.specs.Policy.{forbidden, policyCount}
 use Rattle.rows.specs.Refusal.{fileRow}
 use Rattle.rows.specs.Laws.Closed.{forbidden-closed}
-use Rattle.truth.specs.Truth.{Truth, modelOf}
+use Rattle.truth.specs.Truth.{Truth}
 use Rattle.truth.specs.Laws.Free.{any-Y}
+use Rattle.verdict.specs.Model.{modelOf}
 
 -- in every network that rows 3 to 10 pass, the forbidden condition of a policy has the same truth for every Y
 pub last-node-any-Y : (net : Net) → fileRow [] net ≡ none → (p : ℕ) → p < policyCount net → (x y y′ : ℕ)

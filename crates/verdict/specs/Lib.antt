@@ -1,4 +1,5 @@
 -- The verdict on a network.
+pub mod Model
 pub mod Verdict
 pub mod Computed
 pub mod Judgement

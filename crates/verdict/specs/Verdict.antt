@@ -3,7 +3,8 @@ use Prim.Native.Nat.{ℕ, _<_}
 use Rattle.records.specs.Record.{Net}
 use Rattle.records.specs.Widths.{states, widthsOf}
 use Rattle.records.specs.Policy.{forbidden, policyCount}
-use Rattle.truth.specs.Truth.{Truth, modelOf}
+use Rattle.truth.specs.Truth.{Truth}
+use Rattle.verdict.specs.Model.{modelOf}
 
 -- it holds, or the lowest broken policy and its lowest offending state are named
 pub data Verdict : Type 0 where

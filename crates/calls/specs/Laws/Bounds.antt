@@ -10,7 +10,7 @@ use lib.ListN.{length, length-append}
 use lib.Pow.{pow-mono}
 use Rattle.records.specs.Widths.{states, widthsOf}
 use Rattle.rows.specs.Count.{policies-bound, widths-bound}
-use Rattle.records.specs.Record.{Rec, Net, records}
+use Rattle.records.specs.Record.{Rec, Net, records, mostRecords}
 use Rattle.rows.specs.Rows.{row1, row2, row3, row4, row5, row6, row7, row8, row9, row10, row11, row12, row13, missesIncomplete}
 use Rattle.rows.specs.Refusal.{Refusal, orElse, row, recordRow, fileRow, argumentsRow, networkRow, checkRefusal, commandRow, commandRefusal}
 use Rattle.records.specs.Laws.Records.{length-records}
@@ -69,7 +69,7 @@ file-within before (r ∷ after) =
     (λ e. wider (omega (arith, length-append before (r ∷ []))) (file-within (before ++ (r ∷ [])) after))
 
 -- what the check call refuses
-pub check-within : (store : List ℕ) (n work : ℕ) → Within 641 (checkRefusal store n work)
+pub check-within : (store : List ℕ) (n work : ℕ) → Within mostRecords (checkRefusal store n work)
 unfolding checkRefusal networkRow argumentsRow
 check-within store n work =
     either-within (argumentsRow store n) (line-before (row1 n) 1 0 (lit≤ tt) (omega arith) (last-row (row2 store) 2 0 (lit≤ tt) (omega arith)))
@@ -78,7 +78,7 @@ check-within store n work =
     (λ f. last-row (row11 (records n store) work) 11 0 (lit≤ tt) (omega arith)))
 
 -- what the command call refuses
-pub command-within : (store : List ℕ) (n work : ℕ) (c : Rec) → Within 641 (commandRefusal store n work c)
+pub command-within : (store : List ℕ) (n work : ℕ) (c : Rec) → Within mostRecords (commandRefusal store n work c)
 unfolding commandRefusal commandRow
 command-within store n work c =
     either-within (checkRefusal store n work) (check-within store n work)

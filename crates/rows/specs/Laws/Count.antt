@@ -3,7 +3,7 @@ use mathlib.Core.Path.{_≡_, refl, sym, subst, subst⁻¹, subst₂, _∙_}
 use mathlib.Core.Bool.{Bool, true, false, _&&_}
 use mathlib.Core.List.{[], _∷_, _++_}
 use mathlib.Core.Option.{none}
-use Prim.Native.Nat.{ℕ, zero, suc, _^_, _<_, _≤_}
+use Prim.Native.Nat.{ℕ, _*_, zero, suc, _^_, _<_, _≤_}
 use native.Mathlib.Decide.{ℕ-discrete}
 use native.Mathlib.Omega.{arith}
 use borrow.Author.Tests.{eqb-true, ne-eqb, lt-ltb}
@@ -12,7 +12,7 @@ use lib.ListN.{length, getD, length-append}
 use lib.Pow.{pow-mono}
 use Rattle.planes.specs.Laws.Tests.{both}
 use Rattle.records.specs.Lists.{keep, all}
-use Rattle.records.specs.Record.{Rec, Net, mostRecords, at, kind, ofKind}
+use Rattle.records.specs.Record.{Rec, Net, mostRecords, at, kind, ofKind, mostRules, mostPolicies, mostNodes}
 use Rattle.records.specs.Widths.{widthsOf}
 use Rattle.records.specs.Policy.{nodesOf, policyCount, longestOf, longest}
 use Rattle.rows.specs.Refusal.{fileRow}
@@ -97,45 +97,45 @@ module _ (r₀ : Rec) (rest : Net) (e : fileRow [] (r₀ ∷ rest) ≡ none) whe
       (λ before r after q s t. subst₂ (λ (n : ℕ) (v : Widths). n < 2 ^ v .w) (miss-next before r after s t) q (miss-switch before r after s t)) in
       omega arith
 
-  pub kind-4 : length (ofKind 4 (r₀ ∷ rest)) ≤ 256
-  kind-4 = kind-bounded 4 256 (λ q. omega arith) (λ before r after q s t. rule-room before r after s t)
+  pub kind-4 : length (ofKind 4 (r₀ ∷ rest)) ≤ mostRules
+  kind-4 = kind-bounded 4 mostRules (λ q. omega arith) (λ before r after q s t. rule-room before r after s t)
 
-  policy-nodes : (p : ℕ) → length (nodesOf p (r₀ ∷ rest)) ≤ 32
+  policy-nodes : (p : ℕ) → length (nodesOf p (r₀ ∷ rest)) ≤ mostNodes
   unfolding nodesOf keep
   policy-nodes p =
-      bounded (λ r. isNode r && eqb (at r 1) p) 32 (rw first-kind (omega arith))
+      bounded (λ r. isNode r && eqb (at r 1) p) mostNodes (rw first-kind (omega arith))
       (λ before r after h q s t.
       let n = both (isNode r) (eqb (at r 1) p) t in
-      subst (λ (k : ℕ). length (nodesOf k before) < 32) (eqb-true (at r 1) p (n .1)) (node-room before r after s (eqb-true (kind r) 5 (n .0)) .1))
+      subst (λ (k : ℕ). length (nodesOf k before) < mostNodes) (eqb-true (at r 1) p (n .1)) (node-room before r after s (eqb-true (kind r) 5 (n .0)) .1))
 
-  longest-of-bound : (k : ℕ) → longestOf k (r₀ ∷ rest) ≤ 32
+  longest-of-bound : (k : ℕ) → longestOf k (r₀ ∷ rest) ≤ mostNodes
   unfolding longestOf
   longest-of-bound zero = omega arith
   longest-of-bound (suc k) = omega (arith, policy-nodes k, longest-of-bound k)
 
-  pub longest-policy : longest (r₀ ∷ rest) ≤ 32
+  pub longest-policy : longest (r₀ ∷ rest) ≤ mostNodes
   unfolding longest
   longest-policy = longest-of-bound (policyCount (r₀ ∷ rest))
 
-  pub few-policies : policyCount (r₀ ∷ rest) ≤ 8
+  pub few-policies : policyCount (r₀ ∷ rest) ≤ mostPolicies
   unfolding policyCount
   few-policies =
-      clean-all (λ before. policyCount before ≤ 8) (λ before r after i s. go before r after i s (ℕ-discrete (kind r) 5)) [] (r₀ ∷ rest) (omega arith) e
+      clean-all (λ before. policyCount before ≤ mostPolicies) (λ before r after i s. go before r after i s (ℕ-discrete (kind r) 5)) [] (r₀ ∷ rest) (omega arith) e
     where
-      go : (before : Net) (r : Rec) (after : Net) → policyCount before ≤ 8 → Passes before r after → Dec (kind r ≡ 5) → policyCount (before ++ (r ∷ [])) ≤ 8
+      go : (before : Net) (r : Rec) (after : Net) → policyCount before ≤ mostPolicies → Passes before r after → Dec (kind r ≡ 5) → policyCount (before ++ (r ∷ [])) ≤ mostPolicies
       go before r after i s (yes k) = omega (arith, count-node before r k, node-room before r after s k .0)
       go before r after i s (no k) = omega (arith, count-other before r k)
 
-  policies-within : all (λ r. ltb (at r 1) 8) (ofKind 5 (r₀ ∷ rest)) ≡ true
+  policies-within : all (λ r. ltb (at r 1) mostPolicies) (ofKind 5 (r₀ ∷ rest)) ≡ true
   unfolding ofKind all
   policies-within =
-      all-kept isNode (λ l. all (λ r. ltb (at r 1) 8) l ≡ true) (rw (none-first 5 (λ q. omega arith)))
-      (λ before r after h q s t i. all-append (λ r. ltb (at r 1) 8) (keep isNode before) (r ∷ []) ∙ rw (i, lt-ltb (at r 1) 8 (node-room before r after s (eqb-true (kind r) 5 t) .0)))
+      all-kept isNode (λ l. all (λ r. ltb (at r 1) mostPolicies) l ≡ true) (rw (none-first 5 (λ q. omega arith)))
+      (λ before r after h q s t i. all-append (λ r. ltb (at r 1) mostPolicies) (keep isNode before) (r ∷ []) ∙ rw (i, lt-ltb (at r 1) mostPolicies (node-room before r after s (eqb-true (kind r) 5 t) .0)))
 
-  pub kind-5 : length (ofKind 5 (r₀ ∷ rest)) ≤ 256
+  pub kind-5 : length (ofKind 5 (r₀ ∷ rest)) ≤ mostPolicies * mostNodes
   kind-5 =
-      spread (λ r. at r 1) (λ v. 32) 8 (ofKind 5 (r₀ ∷ rest)) policies-within
-      (λ v l. subst (λ (n : Net). length n ≤ 32) (nodes-kind v (r₀ ∷ rest)) (policy-nodes v))
+      spread (λ r. at r 1) (λ v. mostNodes) mostPolicies (ofKind 5 (r₀ ∷ rest)) policies-within
+      (λ v l. subst (λ (n : Net). length n ≤ mostNodes) (nodes-kind v (r₀ ∷ rest)) (policy-nodes v))
 
   kinds-within : all (λ r. ltb (kind r) 6) (r₀ ∷ rest) ≡ true
   unfolding all
@@ -148,7 +148,7 @@ module _ (r₀ : Rec) (rest : Net) (e : fileRow [] (r₀ ∷ rest) ≡ none) whe
 
   -- at most so many of each kind
   abbrev most : ℕ → ℕ
-  most k = getD (0 ∷ 1 ∷ 112 ∷ 16 ∷ 256 ∷ 256 ∷ []) k 0
+  most k = getD (0 ∷ 1 ∷ 112 ∷ 16 ∷ mostRules ∷ mostPolicies * mostNodes ∷ []) k 0
 
   by-kind : (k : ℕ) → k < 6 → length (ofKind k (r₀ ∷ rest)) ≤ most k
   by-kind zero h = kind-0

@@ -10,7 +10,7 @@ use lib.Dec.{eqb}
 use lib.ListN.{length, take, drop}
 use Rattle.planes.specs.Laws.Tests.{not-both, or-none}
 use Rattle.records.specs.Lists.{any, all, sameNumbers}
-use Rattle.records.specs.Record.{Rec, Net, kind, ofKind, sameRule, present}
+use Rattle.records.specs.Record.{Rec, Net, kind, ofKind, sameRule, present, mostRules}
 use Rattle.records.specs.Widths.{widthsOf}
 use Rattle.rows.specs.Rows.{row4, row5, row6, row7, row8, row9, row10, missesIncomplete}
 use Rattle.records.specs.Fields.{fieldsGood}
@@ -39,7 +39,7 @@ from-lower j k (r ∷ rest) h f = omega arith
 -- a rule where a rule may stand
 module _ (front : Net) (r : Rec) (back : Net) where
   pub rule-passes : 0 < length front → lastKind front ≤ 4 → kind r ≡ 4 → fieldsGood (widthsOf front) r ≡ true → missesIncomplete front ≡ false
-      → present r front ≡ false → length (ofKind 4 front) < 256 → Passes front r back
+      → present r front ≡ false → length (ofKind 4 front) < mostRules → Passes front r back
   unfolding row4 row5 row6 row7 row8 row9 row10
   rule-passes h l q good misses absent room = record {
     not3 = ordered-later front r h (omega arith) (omega arith) (omega arith);
@@ -49,7 +49,7 @@ module _ (front : Net) (r : Rec) (back : Net) where
     not7 = rw (misses, q);
     not8 = rw (absent, q);
     not9 = rw q;
-    not10 = rw (lt-leb 256 (length (ofKind 4 front)) room, q);
+    not10 = rw (lt-leb mostRules (length (ofKind 4 front)) room, q);
   }
 
   -- what is known of one that stands
@@ -59,7 +59,7 @@ module _ (front : Net) (r : Rec) (back : Net) where
     pub good : fieldsGood (widthsOf front) r ≡ true
     pub misses : missesIncomplete front ≡ false
     pub absent : present r front ≡ false
-    pub room : length (ofKind 4 front) < 256
+    pub room : length (ofKind 4 front) < mostRules
 
   pub rule-stands : kind r ≡ 4 → Passes front r back → Rule
   rule-stands q s =
@@ -170,7 +170,7 @@ module _ (front back : Net) (no-node : any isNode front ≡ false) (last : lastK
   pub some-front : 0 < length front
   some-front = first-there front back nodes e
 
-  inserted-passes : (r : Rec) → kind r ≡ 4 → fieldsGood (widthsOf front) r ≡ true → present r front ≡ false → length (ofKind 4 front) < 256
+  inserted-passes : (r : Rec) → kind r ≡ 4 → fieldsGood (widthsOf front) r ≡ true → present r front ≡ false → length (ofKind 4 front) < mostRules
       → fileRow [] (front ++ (r ∷ back)) ≡ none
   inserted-passes r k good absent room =
       front-kept front [] back (r ∷ back) no-node e
@@ -180,7 +180,7 @@ module _ (front back : Net) (no-node : any isNode front ≡ false) (last : lastK
       (from-lower (lastKind (front ++ (r ∷ []))) 5 back (omega (arith, k, last-kind front r)) nodes)
       (λ t. not-both t (no-rule back nodes after)) after))
 
-  pub rule-inserted : (r : Rec) → kind r ≡ 4 → length r ≡ 24 → fieldsGood (widthsOf front) r ≡ true → present r front ≡ false → length (ofKind 4 front) < 256
+  pub rule-inserted : (r : Rec) → kind r ≡ 4 → length r ≡ 24 → fieldsGood (widthsOf front) r ≡ true → present r front ≡ false → length (ofKind 4 front) < mostRules
       → PassesStill (front ++ back) (front ++ (r ∷ back))
   rule-inserted r k l good absent room =
       let t = whole-parts front back whole in

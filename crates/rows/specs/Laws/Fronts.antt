@@ -10,7 +10,7 @@ use lib.Dec.{leb}
 use lib.ListN.{length, length-append}
 use Rattle.planes.specs.Laws.Tests.{or-none, or-left, or-right}
 use Rattle.records.specs.Lists.{any, all}
-use Rattle.records.specs.Record.{Rec, Net, at, kind, ofKind, present, linked}
+use Rattle.records.specs.Record.{Rec, Net, at, kind, ofKind, present, linked, mostRules, mostPolicies, mostNodes}
 use Rattle.records.specs.Widths.{widthsOf}
 use Rattle.records.specs.Policy.{nodesOf}
 use Rattle.rows.specs.Rows.{row5, row6, row7, row8, row9, row10, missesIncomplete, freeAt}
@@ -59,12 +59,12 @@ module _ (p p′ : Net) (r : Rec) (after : Net) (a : Alike p p′) where
   kept-10 : (isRule r ≡ true → Fewer p p′) → row10 p r ≡ false → row10 p′ r ≡ false
   unfolding row10
   kept-10 f e =
-      let nodes = isNode r && (leb 8 (at r 1) || leb 32 (length (nodesOf (at r 1) p))) in
-      let t = or-none (isRule r && leb 256 (length (ofKind 4 p))) nodes e in
+      let nodes = isNode r && (leb mostPolicies (at r 1) || leb mostNodes (length (nodesOf (at r 1) p))) in
+      let t = or-none (isRule r && leb mostRules (length (ofKind 4 p))) nodes e in
       rw (go (isRule r) f (t .0), nodes-alike p′ p (a .same 5 (λ q. omega arith)) (at r 1)) (t .1)
     where
-      go : (b : Bool) → (b ≡ true → Fewer p p′) → (b && leb 256 (length (ofKind 4 p))) ≡ false → (b && leb 256 (length (ofKind 4 p′))) ≡ false
-      go true f e = lt-leb 256 (length (ofKind 4 p′)) (omega (arith, f refl .count, leb-false 256 (length (ofKind 4 p)) e))
+      go : (b : Bool) → (b ≡ true → Fewer p p′) → (b && leb mostRules (length (ofKind 4 p))) ≡ false → (b && leb mostRules (length (ofKind 4 p′))) ≡ false
+      go true f e = lt-leb mostRules (length (ofKind 4 p′)) (omega (arith, f refl .count, leb-false mostRules (length (ofKind 4 p)) e))
       go false f e = refl
 
   kept : lastKind p′ ≤ kind r → (isRule r ≡ true → Fewer p p′) → Passes p r after → Passes p′ r after

@@ -4,7 +4,7 @@ use mathlib.Core.Bool.{Bool, true, false, not, _&&_, _||_, or-true}
 use mathlib.Core.Option.{some}
 use lib.Dec.{leb}
 use lib.ListN.{length}
-use Rattle.records.specs.Record.{Rec, Net, at, kind}
+use Rattle.records.specs.Record.{Rec, Net, at, kind, mostPolicies, mostNodes}
 use Rattle.records.specs.Policy.{nodesOf, policyCount}
 use Rattle.rows.specs.Rows.{row9, row10, operandsGood, endsPolicy, freeAt}
 use Rattle.rows.specs.Refusal.{orElse, row}
@@ -18,7 +18,7 @@ nodeFault before r after =
 module _ (before : Net) (r : Rec) (after : Net) where
   pub node-row-is : kind r ≡ 5
       → nodeRow before r after
-      ≡ orElse (row (nodeFault before r after) 9 (length before)) (row (leb 8 (at r 1) || leb 32 (length (nodesOf (at r 1) before))) 10 (length before))
+      ≡ orElse (row (nodeFault before r after) 9 (length before)) (row (leb mostPolicies (at r 1) || leb mostNodes (length (nodesOf (at r 1) before))) 10 (length before))
   unfolding nodeRow row9 row10
   node-row-is k = rw k
 
@@ -35,5 +35,5 @@ module _ (before : Net) (r : Rec) (after : Net) where
 
     pub row-ten : follows (at r 1) (policyCount before) ≡ true → operandsGood (at r 2) (at r 3) (at r 4) (length (nodesOf (at r 1) before)) ≡ true
         → (endsPolicy r after && freeAt before r) ≡ false
-        → nodeRow before r after ≡ row (leb 8 (at r 1) || leb 32 (length (nodesOf (at r 1) before))) 10 (length before)
+        → nodeRow before r after ≡ row (leb mostPolicies (at r 1) || leb mostNodes (length (nodesOf (at r 1) before))) 10 (length before)
     row-ten f o e = node-row-is k ∙ rw (o, f, e)

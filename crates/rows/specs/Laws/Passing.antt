@@ -12,7 +12,7 @@ use lib.Dec.{eqb, leb, ltb}
 use lib.ListN.{length, getD, take, drop}
 use Rattle.planes.specs.Laws.Tests.{not-both, both, or-none, or-cases}
 use Rattle.records.specs.Lists.{keep, any}
-use Rattle.records.specs.Record.{Rec, Net, at, kind, ofKind, present}
+use Rattle.records.specs.Record.{Rec, Net, at, kind, ofKind, present, mostRules, mostPolicies, mostNodes}
 use Rattle.records.specs.Policy.{nodesOf, policyCount}
 use Rattle.records.specs.Widths.{withinLimits, widthsOf}
 use Rattle.rows.specs.Rows.{row3, row4, row5, row6, row7, row8, row9, row10, missesIncomplete, operandsGood, endsPolicy, freeAt}
@@ -209,16 +209,16 @@ module _ (before : Net) (r : Rec) (after : Net) (p : Passes before r after) wher
   unfolding row8
   rule-new k = and-test _ _ (p .not8) (eq-eqb (kind r) 4 k)
 
-  pub rule-room : kind r ≡ 4 → length (ofKind 4 before) < 256
+  pub rule-room : kind r ≡ 4 → length (ofKind 4 before) < mostRules
   unfolding row10
-  rule-room k = leb-false 256 (length (ofKind 4 before)) (and-test _ _ (or-none _ _ (p .not10) .0) (eq-eqb (kind r) 4 k))
+  rule-room k = leb-false mostRules (length (ofKind 4 before)) (and-test _ _ (or-none _ _ (p .not10) .0) (eq-eqb (kind r) 4 k))
 
-  pub node-room : kind r ≡ 5 → (at r 1 < 8) × (length (nodesOf (at r 1) before) < 32)
+  pub node-room : kind r ≡ 5 → (at r 1 < mostPolicies) × (length (nodesOf (at r 1) before) < mostNodes)
   unfolding row10
   node-room k =
-      let many = leb 8 (at r 1) || leb 32 (length (nodesOf (at r 1) before)) in
-      let n = or-none _ _ (and-test _ _ (or-none (isRule r && leb 256 (length (ofKind 4 before))) (isNode r && many) (p .not10) .1) (eq-eqb (kind r) 5 k)) in
-      (leb-false 8 (at r 1) (n .0), leb-false 32 (length (nodesOf (at r 1) before)) (n .1))
+      let many = leb mostPolicies (at r 1) || leb mostNodes (length (nodesOf (at r 1) before)) in
+      let n = or-none _ _ (and-test _ _ (or-none (isRule r && leb mostRules (length (ofKind 4 before))) (isNode r && many) (p .not10) .1) (eq-eqb (kind r) 5 k)) in
+      (leb-false mostPolicies (at r 1) (n .0), leb-false mostNodes (length (nodesOf (at r 1) before)) (n .1))
 
   node-tests : kind r ≡ 5
       → (operandsGood (at r 2) (at r 3) (at r 4) (length (nodesOf (at r 1) before)) ≡ true)

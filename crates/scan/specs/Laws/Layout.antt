@@ -11,7 +11,7 @@ use lib.ListN.{length, take, drop, length-append}
 use lib.Seq.{length-take-le, take-append-le, take-at, drop-at}
 use borrow.Author.Tests.{eq-eqb, ne-eqb, ltb-false, not-false}
 use Rattle.records.specs.Lists.{keep}
-use Rattle.records.specs.Record.{Rec, Net, kind, ofKind}
+use Rattle.records.specs.Record.{Rec, Net, kind, ofKind, mostRules, mostPolicies, mostNodes}
 use Rattle.records.specs.Widths.{withinLimits, widthsOf}
 use Rattle.records.specs.Policy.{policyCount, longestOf, longest}
 use Rattle.rows.specs.Rows.{row4, missesIncomplete}
@@ -126,9 +126,9 @@ abbrev Numbers : Net → Type 0
 Numbers net =
     (0 < length net → withinLimits (widthsOf net) ≡ true)
     × (0 < length net → length (ofKind 3 net) ≤ 2 ^ widthsOf net .w)
-    × (length (ofKind 4 net) ≤ 256)
-    × (policyCount net ≤ 8)
-    × (longest net ≤ 32)
+    × (length (ofKind 4 net) ≤ mostRules)
+    × (policyCount net ≤ mostPolicies)
+    × (longest net ≤ mostNodes)
 
 module _ (before : Net) (r : Rec) (after : Net) (q : Numbers before) (p : Passes before r after) where
   sound : Ordered before r
@@ -173,21 +173,21 @@ module _ (before : Net) (r : Rec) (after : Net) (q : Numbers before) (p : Passes
           let l : 0 < length before = omega (arith, ap length e) in
           rw (widths-append before (r ∷ []) l) (q .1 l)
 
-  rules-more : length (ofKind 4 (before ++ (r ∷ []))) ≤ 256
+  rules-more : length (ofKind 4 (before ++ (r ∷ []))) ≤ mostRules
   rules-more =
       ⊎-elim
       (λ k. omega (arith, ap length (kind-in 4 before r k) ∙ length-append (ofKind 4 before) (r ∷ []), rule-room before r after p k))
       (λ k. rw (kind-out 4 before r k) (q .2))
       (same-or-not (kind r) 4)
 
-  policies-more : policyCount (before ++ (r ∷ [])) ≤ 8
+  policies-more : policyCount (before ++ (r ∷ [])) ≤ mostPolicies
   policies-more =
       ⊎-elim
       (λ k. omega (arith, count-node before r k, node-room before r after p k, q .3))
       (λ k. rw (count-other before r k) (q .3))
       (same-or-not (kind r) 5)
 
-  longest-more : longest (before ++ (r ∷ [])) ≤ 32
+  longest-more : longest (before ++ (r ∷ [])) ≤ mostNodes
   longest-more =
       ⊎-elim
       (λ k. omega (arith, longest-follows before r k (node-follows before r after p k), node-room before r after p k, q .4))

@@ -9,7 +9,7 @@ use native.Mathlib.Omega.{arith}
 use lib.Dec.{eqb, leb, ltb, eqb·suc-zero}
 use lib.ListN.{length}
 use borrow.Author.Tests.{ne-eqb, lt-ltb, le-ltb}
-use Rattle.records.specs.Record.{Rec, Net, at, kind, ofKind, present}
+use Rattle.records.specs.Record.{Rec, Net, at, kind, ofKind, present, mostRules}
 use Rattle.records.specs.Widths.{withinLimits, widthsOf}
 use Rattle.rows.specs.Rows.{row3, row4, row5, row6, row7, row8, row9, row10, missesIncomplete}
 use Rattle.records.specs.Fields.{fieldsGood}
@@ -59,13 +59,13 @@ module _ (before : Net) (r : Rec) (after : Net) where
       → recordRow before r after
       ≡ orElse (formRow before r)
       (orElse (row (missesIncomplete before) 7 (length before))
-      (orElse (row (present r before) 8 (length before)) (row (leb 256 (length (ofKind 4 before))) 10 (length before))))
+      (orElse (row (present r before) 8 (length before)) (row (leb mostRules (length (ofKind 4 before))) 10 (length before))))
   unfolding recordRow row4 row6 row7 row8 row9 row10
   rule-rows k =
-      rw (k, or-false (leb 256 (length (ofKind 4 before))))
+      rw (k, or-false (leb mostRules (length (ofKind 4 before))))
       (form-first
       (orElse (row (missesIncomplete before) 7 (length before))
-      (orElse (row (present r before) 8 (length before)) (row (leb 256 (length (ofKind 4 before))) 10 (length before)))))
+      (orElse (row (present r before) 8 (length before)) (row (leb mostRules (length (ofKind 4 before))) 10 (length before)))))
 
   pub node-rows : kind r ≡ 5
       → recordRow before r after ≡ orElse (formRow before r) (orElse (row (missesIncomplete before) 7 (length before)) (nodeRow before r after))

@@ -13,7 +13,7 @@ use Rattle.verdict.specs.Judgement.{verdict, verdict-meant, only}
 use Rattle.calls.specs.Answer.{CheckAnswer, CommandAnswer, forwarded, blocked}
 use Rattle.commands.specs.Apply.{applied}
 use Rattle.calls.specs.Check.{unless, ofVerdict, checkAnswer}
-use Rattle.calls.specs.Reference.{Installed, network, Outcome, unchanged, judged, outcomeOf, answers, installed}
+use Rattle.calls.specs.Reference.{Installed, network, Outcome, judged, outcomeOf, answers, installed}
 use Rattle.calls.specs.Command.{Call, startOf, Promised, left, NotRefused}
 use Rattle.series.specs.Series.{countAfter, Series, end, next, SaidToHold, fed, ifForwarded, forwardedApplied, JudgedByResult, EachJudged, Kept}
 use Rattle.calls.specs.Laws.Store.{holds-passes, stored-records}

@@ -3,23 +3,18 @@ use mathlib.Core.Path.{_≡_, refl, sym, ap, subst, subst⁻¹, _∙_}
 use mathlib.Core.Bool.{Bool, true, false, not, false≢true}
 use mathlib.Core.Logic.{_↔_, _⊎_, inl, inr, ⊎-elim}
 use Prim.Native.Nat.{ℕ, zero, suc, _<_}
-use native.Mathlib.Nat.{not-suc-le-zero, zero-add}
+use native.Mathlib.Nat.{not-suc-le-zero}
 use native.Mathlib.Omega.{arith}
 use native.Mathlib.Decide.{ℕ-discrete}
 use lib.ListN.{getD}
-use Rattle.records.specs.Lists.{member}
-use Rattle.records.specs.Record.{Net}
-use Rattle.records.specs.Widths.{states, widthsOf}
 use Rattle.records.specs.Policy.{Var, X, Y, Formula, absent, BIT, R, E, NOT, AND, OR, SOME, ALL, TC}
-use Rattle.steps.specs.Step.{next, Step, external}
 use Rattle.closure.specs.Walk.{Walk}
-use Rattle.planes.specs.Tabulated.{gridTest, grid}
-use Rattle.planes.specs.Laws.Tabulated.{tab-at, grid-at}
+use Rattle.planes.specs.Tabulated.{gridTest}
 use Rattle.closure.specs.Computed.{closed}
 use Rattle.closure.specs.Laws.Walks.{map-walk}
 use Rattle.closure.specs.Laws.Closing.{closed-iff}
-use Rattle.truth.specs.Truth.{Model, modelOf, value, withX, withY, Truth}
-use Rattle.truth.specs.Computed.{Table, tableOf, anyBelow, allBelow, truth}
+use Rattle.truth.specs.Truth.{Model, value, withX, withY, Truth}
+use Rattle.truth.specs.Computed.{Table, anyBelow, allBelow, truth}
 
 -- a table has a model's states, steps and external points
 pub record Agrees (m : Model) (t : Table) : Type 0 where
@@ -83,7 +78,7 @@ all-iff (suc k) f = go (f k) refl (all-iff k f)
     go false e ih = (λ t. absurd (false≢true t), λ r. absurd (false≢true (sym e ∙ r k (omega arith))))
 
 module _ (m : Model) (t : Table) (a : Agrees m t) where
-  truth-at : (f : Formula) (x y : ℕ) → x < m .count → y < m .count → truth t f x y ≡ true ↔ Truth m f x y
+  pub truth-at : (f : Formula) (x y : ℕ) → x < m .count → y < m .count → truth t f x y ≡ true ↔ Truth m f x y
   unfolding truth Truth
   truth-at absent x y hx hy = (λ e. false≢true e, λ e. absurd e)
   truth-at (BIT v i) x y hx hy = (λ e. e, λ e. e)
@@ -113,22 +108,3 @@ module _ (m : Model) (t : Table) (a : Agrees m t) where
         λ e. map-walk (λ i j hi hj s. truth-at f i j hi hj .0 s) (closes .0 e),
         λ p. closes .1 (map-walk (λ i j hi hj s. truth-at f i j hi hj .1 s) p),
       )
-
--- a test that equals another passes as it does
-same : {a b : Bool} → a ≡ b → a ≡ true ↔ b ≡ true
-same e = (λ t. sym e ∙ t, λ t. e ∙ t)
-
--- the table of a network has its model
-pub table-agrees : (net : Net) → Agrees (modelOf net) (tableOf net)
-unfolding tableOf Step grid
-table-agrees net =
-    record {
-      counts = refl;
-      steps-agree = λ x y hx hy. same (grid-at (states (widthsOf net)) (λ (s t : ℕ). member t (next net s)) x y hx hy);
-      externals-agree = λ x hx. same (tab-at (states (widthsOf net)) 0 (external net) x false hx ∙ ap (external net) (zero-add x));
-    }
-
--- the computed truth is the truth, of every formula
-pub truth-iff : (net : Net) (f : Formula) (x y : ℕ) → x < states (widthsOf net) → y < states (widthsOf net)
-    → truth (tableOf net) f x y ≡ true ↔ Truth (modelOf net) f x y
-truth-iff net = truth-at (modelOf net) (tableOf net) (table-agrees net)

@@ -10,10 +10,11 @@ use Rattle.records.specs.Policy.{Formula, absent, BIT, R, E, NOT, AND, OR, SOME
 use Rattle.steps.specs.Step.{Step, external}
 use Rattle.closure.specs.Walk.{Walk}
 use Rattle.closure.specs.Laws.Walks.{map-walk}
-use Rattle.truth.specs.Truth.{Model, modelOf, value, withX, withY, Truth}
+use Rattle.truth.specs.Truth.{Model, value, withX, withY, Truth}
 use Rattle.verdict.specs.Verdict.{Verdict, holds, violated, Breaks, Is}
 use Rattle.verdict.specs.Judgement.{verdict, verdict-meant, only}
 use Rattle.truth.specs.Laws.Tables.{value-lt, withX-lt, withY-lt}
+use Rattle.verdict.specs.Model.{modelOf}
 
 -- two models have the same states, steps and external points
 pub record SameModel (m k : Model) : Type 0 where

@@ -1,7 +1,7 @@
 -- `verdict::node::make` meets its contract: an arm for each kind of node.
 use Rattle.records.specs.Policy.{nodeKind}
 use Prim.Native.Nat.{zero-le}
-use Rattle.truth.specs.Laws.NodePlanes.{offset-fits, from-next, first-operand, second-operand, own-plane, step-source, scratch-source, operand-source, operand-sources, operand-scratch, bit-node, step-node, external-node, not-node, and-node, or-node, some-node, all-node, closure-node, no-node}
+use Rattle.truth.specs.Laws.NodePlanes.{offset-fits, from-next, first-operand, own-plane, step-source, scratch-source, operand-source, operand-sources, operand-scratch, bit-node, step-node, external-node, not-node, and-node, or-node, some-node, all-node, closure-node, no-node}
 use native.Mathlib.Omega.{arith}
 use borrow.Author.Needs.{needs}
 use Rattle.truth.proofs.node.make.Statement.{statement}
