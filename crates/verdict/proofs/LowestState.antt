@@ -10,7 +10,7 @@ use Rattle.records.specs.Policy.{Formula}
 use Rattle.verdict.specs.declared.policy.Offender.{Offender}
 use Rattle.verdict.specs.declared.policy.Offender.the-variants.{State, None}
 use Rattle.verdict.specs.Computed.{firstFrom}
-use Rattle.verdict.specs.Laws.FirstState.{First, first-is}
+use Rattle.verdict.specs.Laws.FirstState.{FirstPassing, first-is}
 use Rattle.truth.specs.Node.{modelAt, Shows}
 use Rattle.verdict.specs.Evaluated.{stateOf, LowestTrue}
 
@@ -47,7 +47,7 @@ module _ (pitch base : ℕ) (ext model work : List ℕ) (f : Formula) (S : Shows
   abbrev column : ℕ → Bool
   column x = cell work base pitch x 0
 
-  meant : (r : Offender) → First column 0 (pitch * 8) (stateOf r) → LowestTrue (modelAt pitch ext model) f r
+  meant : (r : Offender) → FirstPassing column 0 (pitch * 8) (stateOf r) → LowestTrue (modelAt pitch ext model) f r
   meant (State x) t =
       let h : x < pitch * 8 = omega (arith, t .1) in (
         h,
@@ -57,4 +57,4 @@ module _ (pitch base : ℕ) (ext model work : List ℕ) (f : Formula) (S : Shows
   meant None t = λ z h u. t z (omega arith) (omega arith) (S .at z 0 h (omega arith) .1 u)
 
   pub lowest-true : (r : Offender) → stateOf r ≡ firstFrom (pitch * 8) 0 column → LowestTrue (modelAt pitch ext model) f r
-  lowest-true r e = meant r (subst (First column 0 (pitch * 8)) (sym e) (first-is (pitch * 8) 0 column))
+  lowest-true r e = meant r (subst (FirstPassing column 0 (pitch * 8)) (sym e) (first-is (pitch * 8) 0 column))

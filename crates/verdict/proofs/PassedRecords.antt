@@ -12,7 +12,7 @@ use Rattle.records.specs.Fields.{fieldsGood}
 use Rattle.records.specs.declared.Widths.{Widths}
 use Rattle.scan.specs.declared.Layout.{Layout}
 use Rattle.records.specs.Laws.Records.{length-records}
-use Rattle.records.specs.Laws.Parts.{part, kind-in}
+use Rattle.records.specs.Laws.Parts.{part, kind-at}
 use Rattle.rows.specs.Laws.Passing.{clean-at, ordered, node-operands, node-follows, node-room}
 use Rattle.rows.specs.Laws.Good.{clean-good}
 use Rattle.scan.specs.Stored.{Stored}
@@ -41,7 +41,7 @@ module _ (end : ℕ) (l : Layout) (store : List ℕ) (C : CleanStore end l store
   nodes-part = C .laid .nodes ∙ sym (take-all (end - l .nodes) (drop (l .nodes) net) (omega (arith, length-drop (l .nodes) net, size)))
 
   pub node-kind : (i : ℕ) → l .nodes ≤ i → i < end → kind (getD net i []) ≡ 5
-  node-kind i h k = kind-in 5 net (l .nodes) end i nodes-part (omega (arith, size)) h k
+  node-kind i h k = kind-at 5 net (l .nodes) end i nodes-part (omega (arith, size)) h k
 
   -- no policy node stands before the first
   pub other-kind : (i : ℕ) → i < l .nodes → kind (getD net i []) ≡ 5 → ⊥
@@ -52,9 +52,9 @@ module _ (end : ℕ) (l : Layout) (store : List ℕ) (C : CleanStore end l store
           let p = clean-at net i (C .passes) (omega (arith, size, up-to)) in
           let none : length (take i net) ≡ 0 = length-take-le i net (omega (arith, size, up-to)) ∙ omega arith in
           omega (arith, e, ordered (take i net) (getD net i []) (p .not3) .first none)
-      go (no a) (yes b) f = omega (arith, e, kind-in 2 net 1 (l .misses) i (C .laid .links) (omega (arith, C .laid .switches, C .laid .few-rules, C .laid .within)) (omega arith) b)
-      go (no a) (no b) (yes c) = omega (arith, e, kind-in 3 net (l .misses) (l .rules) i (C .laid .misses) (omega (arith, C .laid .few-rules, C .laid .within)) (omega arith) c)
-      go (no a) (no b) (no c) = omega (arith, e, kind-in 4 net (l .rules) (l .nodes) i (C .laid .rules) (C .laid .within) (omega arith) h)
+      go (no a) (yes b) f = omega (arith, e, kind-at 2 net 1 (l .misses) i (C .laid .links) (omega (arith, C .laid .switches, C .laid .few-rules, C .laid .within)) (omega arith) b)
+      go (no a) (no b) (yes c) = omega (arith, e, kind-at 3 net (l .misses) (l .rules) i (C .laid .misses) (omega (arith, C .laid .few-rules, C .laid .within)) (omega arith) c)
+      go (no a) (no b) (no c) = omega (arith, e, kind-at 4 net (l .rules) (l .nodes) i (C .laid .rules) (C .laid .within) (omega arith) h)
 
   -- rows 9 and 10 of a policy node
   pub node-rows : (i : ℕ) → l .nodes ≤ i → i < end → NodeRows (take i net) (getD net i [])

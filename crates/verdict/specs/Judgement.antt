@@ -13,7 +13,7 @@ use Rattle.records.specs.Policy.{forbidden, policyCount}
 use Rattle.verdict.specs.Verdict.{Verdict, holds, violated, Breaks, Lowest, Is}
 use Rattle.truth.specs.Computed.{truth}
 use Rattle.verdict.specs.Computed.{firstFrom, lowestState, verdictFrom, tableOf}
-use Rattle.verdict.specs.Laws.FirstState.{First, first-is}
+use Rattle.verdict.specs.Laws.FirstState.{FirstPassing, first-is}
 use Rattle.verdict.specs.Laws.Tabled.{truth-iff}
 
 module _ (net : Net) where
@@ -26,7 +26,7 @@ module _ (net : Net) where
   LowestOf p none = (z : ℕ) → z < states (widthsOf net) → Breaks net p z → ⊥
   LowestOf p (some x) = (x < states (widthsOf net)) × Breaks net p x × ((z : ℕ) → z < x → Breaks net p z → ⊥)
 
-  meant : (p : ℕ) (o : Option ℕ) → First (λ x. truth (tableOf net) (forbidden net p) x 0) 0 (states (widthsOf net)) o → LowestOf p o
+  meant : (p : ℕ) (o : Option ℕ) → FirstPassing (λ x. truth (tableOf net) (forbidden net p) x 0) 0 (states (widthsOf net)) o → LowestOf p o
   meant p none f = λ z hz b. f z (omega arith) (omega arith) (truth-iff net (forbidden net p) z 0 hz a-state .1 b)
   meant p (some x) f =
       let hx : x < states (widthsOf net) = omega (arith, f .1) in (

@@ -7,7 +7,7 @@ use lib.Pow.{pow-pos}
 use Rattle.records.specs.Laws.Limits.{limits}
 use Rattle.actions.specs.Sent.{departing}
 use Rattle.actions.specs.Laws.CopiesInOrder.{reached-one, reached-flooded}
-use Rattle.actions.specs.Laws.GoodActions.{value-lt}
+use Rattle.actions.specs.Laws.GoodActions.{pattern-value-lt}
 use Rattle.actions.specs.Laws.SentCopies.{has-byte, state-added}
 use Rattle.actions.proofs.output.Statement.{statement}
 use Rattle.actions.proofs.output.Tie as tie
@@ -24,7 +24,7 @@ set-at-requires c κs =
     let a = s .args in
     let S = s .pre .0 in
     has-byte (a .w) (S .ready .limits) (a .line) _ (a .sw) (a .value) (a .h) (c .number .result) (omega arith) (S .switch)
-    (value-lt (a .w .p) (a .value) (a .care) (s .pre .1)) (S .ready .header) (c .number .ensures) (now (a .work)) (S .ready .room)
+    (pattern-value-lt (a .w .p) (a .value) (a .care) (s .pre .1)) (S .ready .header) (c .number .ensures) (now (a .work)) (S .ready .room)
 
 returns : tie.Need-returns
 unfolding departing
@@ -37,7 +37,7 @@ returns c =
     let e : a .care ≡ 2 ^ a .w .p - 1 = n .before .before .if1 .taken ∙ ap (λ (k : ℕ). k - 1) (p .values .ensures) in
     rw (reached-one (a .w) (a .value) (a .care) e)
     (state-added (a .w) (S .ready .limits) (a .line) _ (a .sw) (a .value) (a .h) (n .number .result) (omega arith) (S .switch)
-    (value-lt (a .w .p) (a .value) (a .care) (s .pre .1)) (S .ready .header) (n .number .ensures)
+    (pattern-value-lt (a .w .p) (a .value) (a .care) (s .pre .1)) (S .ready .header) (n .number .ensures)
     (now (a .work)) (c .before .before .set-at .last .0) (c .before .before .set-at .ensures))
 
 returns-2 : tie.Need-returns-2

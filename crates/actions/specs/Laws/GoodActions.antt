@@ -37,8 +37,8 @@ module _ (w : Widths) (r : Rec) (good : matchGood w r ≡ true) where
       (matches-mask (w .h) (at r 6) (at r 7) header-pattern (a .header))
 
 -- a value lies within its width
-pub value-lt : (k value care : ℕ) → patternGood k value care ≡ true → value < 2 ^ k
-value-lt k value care good = omega (arith, value-within k value care good, and-le-r value care, care-lt k value care good)
+pub pattern-value-lt : (k value care : ℕ) → patternGood k value care ≡ true → value < 2 ^ k
+pattern-value-lt k value care good = omega (arith, value-within k value care good, and-le-r value care, care-lt k value care good)
 
 -- a used action is OUTPUT with a port pattern or SET with a header pattern
 module _ (w : Widths) (r : Rec) (i : ℕ) (U : UsedAction w r i) where

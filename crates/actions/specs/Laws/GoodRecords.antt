@@ -12,7 +12,7 @@ use Rattle.records.specs.Record.{Net, at, records}
 use Rattle.records.specs.Fields.{zeros, pointGood, actionsGood, matchGood}
 use Rattle.records.specs.Laws.Fields.{link-fields, miss-fields, rule-fields}
 use Rattle.records.specs.Laws.Records.{length-records}
-use Rattle.records.specs.Laws.Parts.{kind-in}
+use Rattle.records.specs.Laws.Parts.{kind-at}
 use Rattle.scan.specs.declared.Layout.{Layout}
 use Rattle.scan.specs.Stored.{Stored}
 
@@ -29,7 +29,7 @@ module _ (n : ℕ) (l : Layout) (s : List ℕ) (st : Stored n l s) where
   link-good i a b =
       let r = getD net i [] in
       let q = st .laid in
-      let k = kind-in 2 net 1 (l .misses) i (q .links) (omega (arith, q .switches, q .few-rules, q .within)) a b in
+      let k = kind-at 2 net 1 (l .misses) i (q .links) (omega (arith, q .switches, q .few-rules, q .within)) a b in
       let g = sym (link-fields (l .widths) r k) ∙ st .fields i a (omega (arith, q .switches, q .few-rules)) in
       both (pointGood (l .widths) (at r 1) (at r 2)) (pointGood (l .widths) (at r 3) (at r 4))
       (and-left (pointGood (l .widths) (at r 1) (at r 2) && pointGood (l .widths) (at r 3) (at r 4)) (zeros 5 23 r) g)
@@ -38,7 +38,7 @@ module _ (n : ℕ) (l : Layout) (s : List ℕ) (st : Stored n l s) where
   rule-good i a b =
       let r = getD net i [] in
       let q = st .laid in
-      let k = kind-in 4 net (l .rules) (l .nodes) i (q .rules) (q .within) a b in
+      let k = kind-at 4 net (l .rules) (l .nodes) i (q .rules) (q .within) a b in
       and-left (matchGood (l .widths) r && actionsGood (l .widths) r) (zeros 21 23 r)
       (sym (rule-fields (l .widths) r k) ∙ st .fields i (omega (arith, q .some-widths, q .switches)) b)
 
@@ -49,7 +49,7 @@ module _ (n : ℕ) (l : Layout) (s : List ℕ) (st : Stored n l s) where
   miss-good i a b =
       let r = getD net i [] in
       let q = st .laid in
-      let k = kind-in 3 net (l .misses) (l .rules) i (q .misses) (omega (arith, q .few-rules, q .within)) a b in
+      let k = kind-at 3 net (l .misses) (l .rules) i (q .misses) (omega (arith, q .few-rules, q .within)) a b in
       let g = sym (miss-fields (l .widths) r k) ∙ st .fields i (omega (arith, q .some-widths)) (omega (arith, q .few-rules)) in
       and-right (ltb (at r 1) (2 ^ l .widths .w) && zeros 2 7 r) (actionsGood (l .widths) r)
       (and-left (ltb (at r 1) (2 ^ l .widths .w) && zeros 2 7 r && actionsGood (l .widths) r) (zeros 21 23 r) g)

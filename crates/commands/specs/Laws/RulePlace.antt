@@ -15,7 +15,7 @@ use Rattle.rows.specs.Laws.Fronts.{From}
 use Rattle.commands.specs.Apply.{asRule, changed, inserted, removed}
 
 -- the same rule as c between a front and a back
-pub record Found (c : Rec) (net : Net) : Type 0 where
+pub record RuleIn (c : Rec) (net : Net) : Type 0 where
   pub front : Net
   pub rule : Rec
   pub back : Net
@@ -24,12 +24,12 @@ pub record Found (c : Rec) (net : Net) : Type 0 where
   pub changed-is : (f : Rec → Rec) → changed f c net ≡ front ++ (f rule ∷ back)
   pub removed-is : removed c net ≡ front ++ back
 
-pub found : (c : Rec) (net : Net) → present c net ≡ true → Found c net
+pub rule-in : (c : Rec) (net : Net) → present c net ≡ true → RuleIn c net
 unfolding present any changed removed
-found c [] e = absurd (false≢true e)
-found c (r ∷ rest) e = go (sameRule c r) refl e (found c rest)
+rule-in c [] e = absurd (false≢true e)
+rule-in c (r ∷ rest) e = go (sameRule c r) refl e (rule-in c rest)
   where
-    go : (b : Bool) → sameRule c r ≡ b → (b || present c rest) ≡ true → (present c rest ≡ true → Found c rest) → Found c (r ∷ rest)
+    go : (b : Bool) → sameRule c r ≡ b → (b || present c rest) ≡ true → (present c rest ≡ true → RuleIn c rest) → RuleIn c (r ∷ rest)
     go true t e ih = record { front = []; rule = r; back = rest; parts = refl; same = t; changed-is = λ f. rw (t, changed); removed-is = rw (t, removed) }
     go false t e ih =
         let i = ih e in

@@ -19,7 +19,7 @@ use Rattle.rows.specs.Laws.Passing.{not-empty}
 use Rattle.rows.specs.Laws.Edits.{matchOf, present-match, PassesStill, stands, rule-replaced, rule-removed, some-front, rule-inserted}
 use Rattle.commands.specs.Apply.{asRule, withActions, changed, inserted, removed, added, applied}
 use Rattle.commands.specs.Laws.Applied.{applied-add, applied-modify, applied-delete}
-use Rattle.commands.specs.Laws.RulePlace.{Found, found, changed-none, removed-none, Place, place}
+use Rattle.commands.specs.Laws.RulePlace.{RuleIn, rule-in, changed-none, removed-none, Place, place}
 use Rattle.commands.specs.Laws.StoredRule.{Command, same-rule, as-rule-kind, as-rule-match, as-rule-bytes, as-rule-good, with-actions-bytes, with-actions-kind, with-actions-match, with-actions-good}
 
 module _ (net : Net) (c : Rec) (whole : Whole net) (e : fileRow [] net ≡ none) (cmd : Command net c) where
@@ -30,7 +30,7 @@ module _ (net : Net) (c : Rec) (whole : Whole net) (e : fileRow [] net ≡ none)
       (record { passes = e; alike = record { some = not-empty net e; some′ = not-empty net e; widths = refl; same = λ k h. refl }; whole = whole })
 
   -- the same rule changed, or removed
-  module _ (f : Found c net) where
+  module _ (f : RuleIn c net) where
     rule-kind : kind (f .rule) ≡ 4
     rule-kind = same-rule c (f .rule) (f .same) .0
 
@@ -87,21 +87,21 @@ module _ (net : Net) (c : Rec) (whole : Whole net) (e : fileRow [] net ≡ none)
   added-kept q = go (present c net) refl
     where
       go : (b : Bool) → present c net ≡ b → PassesStill net (elim b [ true ↦ changed (λ r. asRule c) c net | false ↦ inserted c net ])
-      go true t = replaced-kept (found c net t) q
+      go true t = replaced-kept (rule-in c net t) q
       go false t = inserted-kept q t (place c net)
 
   modify-kept : kind c ≡ 7 → PassesStill net (changed (withActions c) c net)
   modify-kept q = go (present c net) refl
     where
       go : (b : Bool) → present c net ≡ b → PassesStill net (changed (withActions c) c net)
-      go true t = modified-kept (found c net t) q
+      go true t = modified-kept (rule-in c net t) q
       go false t = unchanged (changed (withActions c) c net) (changed-none (withActions c) c net t)
 
   delete-kept : PassesStill net (removed c net)
   delete-kept = go (present c net) refl
     where
       go : (b : Bool) → present c net ≡ b → PassesStill net (removed c net)
-      go true t = removed-kept (found c net t)
+      go true t = removed-kept (rule-in c net t)
       go false t = unchanged (removed c net) (removed-none c net t)
 
   pub applied-kept : PassesStill net (applied c net)

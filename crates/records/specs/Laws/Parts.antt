@@ -44,9 +44,9 @@ kept f (r ∷ rs) i h = go (f r) refl i h (λ j l. kept f rs j l)
     go false e i l ih = ih i l
 
 -- so the records of a part that has those of a kind are of that kind
-pub kind-in : (k : ℕ) (net : Net) (a b i : ℕ) → ofKind k net ≡ part net a b → b ≤ length net → a ≤ i → i < b → kind (getD net i []) ≡ k
+pub kind-at : (k : ℕ) (net : Net) (a b i : ℕ) → ofKind k net ≡ part net a b → b ≤ length net → a ≤ i → i < b → kind (getD net i []) ≡ k
 unfolding ofKind
-kind-in k net a b i e l h u =
+kind-at k net a b i e l h u =
     let q : a + (i - a) ≡ i = omega arith in
     let n : length (part net a b) ≡ b - a = length-take-le (b - a) (drop a net) (omega (arith, length-drop a net)) in
     let t = kept (λ r. eqb (kind r) k) net (i - a) (omega (arith, ap length e)) in

@@ -22,7 +22,7 @@ use Rattle.rows.specs.Laws.Passing.{Passes, and-test, fields-good}
 use Rattle.records.specs.Laws.Fields.{link-fields}
 use Rattle.records.specs.Laws.Limits.{Limits}
 use Rattle.rows.specs.Laws.Spread.{total, total-ones, all-append, spread}
-use Rattle.rows.specs.Laws.Points.{Port, point, ends, points, AtPorts, times, length-points, points-append, ports-append, once-more}
+use Rattle.rows.specs.Laws.Points.{Port, pointNumber, ends, points, AtPorts, times, length-points, points-append, ports-append, once-more}
 
 -- how many ports are ordinary
 abbrev ports : Widths → ℕ
@@ -95,7 +95,7 @@ apart-more w before l after q s k a =
       within =
           ap (all (λ v. ltb v below)) (points-append m (ofKind 2 before) (l ∷ []))
           ∙ all-append (λ v. ltb v below) (points m (ofKind 2 before)) (ends m l)
-          ∙ rw (a .within, lt-ltb (point m (at l 1) (at l 2)) below (digits-lt first small), lt-ltb (point m (at l 3) (at l 4)) below (digits-lt second small′));
+          ∙ rw (a .within, lt-ltb (pointNumber m (at l 1) (at l 2)) below (digits-lt first small), lt-ltb (pointNumber m (at l 3) (at l 4)) below (digits-lt second small′));
       once = λ v. once-more m (ofKind 2 before) l (a .at-ports) one other (j .one-free) (j .other-free) (j .two) v (a .once v);
     }
 

@@ -18,11 +18,11 @@ abbrev pub Port : ℕ → ℕ → Type 0
 Port m p = (0 < p) × (p ≤ m)
 
 -- the number of a point
-abbrev pub point : ℕ → ℕ → ℕ → ℕ
-point m sw p = sw * m + (p - 1)
+abbrev pub pointNumber : ℕ → ℕ → ℕ → ℕ
+pointNumber m sw p = sw * m + (p - 1)
 
 -- no two points have one number
-pub point-only : (m sw p sw′ p′ : ℕ) → Port m p → Port m p′ → point m sw p ≡ point m sw′ p′ → (sw ≡ sw′) × (p ≡ p′)
+pub point-only : (m sw p sw′ p′ : ℕ) → Port m p → Port m p′ → pointNumber m sw p ≡ pointNumber m sw′ p′ → (sw ≡ sw′) × (p ≡ p′)
 point-only m sw p sw′ p′ h h′ e =
     let l : p - 1 < m = omega arith in
     let l′ : p′ - 1 < m = omega arith in
@@ -31,7 +31,7 @@ point-only m sw p sw′ p′ h h′ e =
 
 -- the two points of a link, and those of all links
 abbrev pub ends : ℕ → Rec → List ℕ
-ends m l = point m (at l 1) (at l 2) ∷ point m (at l 3) (at l 4) ∷ []
+ends m l = pointNumber m (at l 1) (at l 2) ∷ pointNumber m (at l 3) (at l 4) ∷ []
 
 unfoldable pub points : ℕ → Net → List ℕ
 points m [] = []
@@ -62,14 +62,14 @@ module _ (m : ℕ) where
   ports-append (x ∷ xs) ys a b = (a .0, a .1, ports-append xs ys (a .2) b)
 
   -- another point has another number
-  other : (sw p sw′ p′ : ℕ) → Port m p → Port m p′ → (eqb sw′ sw && eqb p′ p) ≡ false → eqb (point m sw′ p′) (point m sw p) ≡ false
+  other : (sw p sw′ p′ : ℕ) → Port m p → Port m p′ → (eqb sw′ sw && eqb p′ p) ≡ false → eqb (pointNumber m sw′ p′) (pointNumber m sw p) ≡ false
   other sw p sw′ p′ h h′ e =
-      ne-eqb (point m sw′ p′) (point m sw p) (λ q.
+      ne-eqb (pointNumber m sw′ p′) (pointNumber m sw p) (λ q.
       let t = point-only m sw′ p′ sw p h′ h q in
       not-both (and-both (eqb sw′ sw) (eqb p′ p) (eq-eqb sw′ sw (t .0)) (eq-eqb p′ p (t .1))) e)
 
   -- a point where no link ends is not among the points of links
-  pub unlinked : (sw p : ℕ) → Port m p → (ls : Net) → AtPorts m ls → any (endsAt sw p) ls ≡ false → times (point m sw p) (points m ls) ≡ 0
+  pub unlinked : (sw p : ℕ) → Port m p → (ls : Net) → AtPorts m ls → any (endsAt sw p) ls ≡ false → times (pointNumber m sw p) (points m ls) ≡ 0
   unfolding points any endsAt keep
   unlinked sw p h [] a e = refl
   unlinked sw p h (l ∷ ls) a e =
@@ -89,11 +89,11 @@ module _ (m : ℕ) where
     -- a point that is one of the two is the other no more, and was none before
     pub once-more : (v : ℕ) → times v (points m ls) ≤ 1 → times v (points m (ls ++ (l ∷ []))) ≤ 1
     unfolding keep
-    once-more v once = go (eqb (point m (at l 1) (at l 2)) v) refl (eqb (point m (at l 3) (at l 4)) v) refl
+    once-more v once = go (eqb (pointNumber m (at l 1) (at l 2)) v) refl (eqb (pointNumber m (at l 3) (at l 4)) v) refl
       where
-        go : (b : Bool) → eqb (point m (at l 1) (at l 2)) v ≡ b → (c : Bool) → eqb (point m (at l 3) (at l 4)) v ≡ c → times v (points m (ls ++ (l ∷ []))) ≤ 1
+        go : (b : Bool) → eqb (pointNumber m (at l 1) (at l 2)) v ≡ b → (c : Bool) → eqb (pointNumber m (at l 3) (at l 4)) v ≡ c → times v (points m (ls ++ (l ∷ []))) ≤ 1
         go true p true q =
-            not-both (eq-eqb (point m (at l 1) (at l 2)) (point m (at l 3) (at l 4)) (eqb-true _ v p ∙ sym (eqb-true _ v q)))
+            not-both (eq-eqb (pointNumber m (at l 1) (at l 2)) (pointNumber m (at l 3) (at l 4)) (eqb-true _ v p ∙ sym (eqb-true _ v q)))
             (other (at l 3) (at l 4) (at l 1) (at l 2) h′ h d)
         go true p false q =
             let z : times v (points m ls) ≡ 0 = rw (← (eqb-true _ v p)) (unlinked (at l 1) (at l 2) h ls a e) in

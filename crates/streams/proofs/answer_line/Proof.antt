@@ -1,7 +1,7 @@
 use native.Mathlib.Omega.{arith}
 use Rattle.streams.specs.Text.{bytes}
 use Rattle.streams.specs.Line.{answerLine}
-use Rattle.streams.specs.Laws.Lines.{then, written, room}
+use Rattle.streams.specs.Laws.WrittenLines.{then, line-written, room}
 use borrow.Author.Needs.{needs}
 use Rattle.streams.proofs.answer_line.Statement.{statement}
 use Rattle.streams.proofs.answer_line.Tie as tie
@@ -17,15 +17,15 @@ add-two-requires-2 c κs = omega (arith, room (c .before .before .before .before
 
 returns : tie.Need-returns
 unfolding answerLine bytes
-returns c = rw (c .before .before .before .before .before .before .a .given .1) (written (then (c .before .before .before .before .before .before .before .before .before .before .add-number .ensures) (c .before .before .add-one .ensures)))
+returns c = rw (c .before .before .before .before .before .before .a .given .1) (line-written (then (c .before .before .before .before .before .before .before .before .before .before .add-number .ensures) (c .before .before .add-one .ensures)))
 
 returns-2 : tie.Need-returns-2
 unfolding answerLine bytes
-returns-2 c = rw (c .before .before .before .before .before .before .a2 .given .1) (written (then (c .before .before .before .before .before .before .before .before .before .before .add-number .ensures) (c .before .before .add-two .ensures)))
+returns-2 c = rw (c .before .before .before .before .before .before .a2 .given .1) (line-written (then (c .before .before .before .before .before .before .before .before .before .before .add-number .ensures) (c .before .before .add-two .ensures)))
 
 returns-3 : tie.Need-returns-3
 unfolding answerLine bytes
-returns-3 c = rw (c .before .before .before .before .before .before .a3 .given .1) (written (then (c .before .before .before .before .before .before .before .before .before .before .add-number .ensures) (c .before .before .add-two2 .ensures)))
+returns-3 c = rw (c .before .before .before .before .before .before .a3 .given .1) (line-written (then (c .before .before .before .before .before .before .before .before .before .before .add-number .ensures) (c .before .before .add-two2 .ensures)))
 
 pub answer-line-spec : {M : Type 1} → statement M
 answer-line-spec =

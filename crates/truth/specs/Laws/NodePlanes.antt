@@ -18,7 +18,7 @@ use Rattle.truth.specs.declared.lines.Op.the-variants.{And, Or}
 use Rattle.truth.specs.Truth.{value, withX, withY, Truth}
 use Rattle.truth.specs.Shapes.{over, Plane, Source, ranged, arranged, Reaches}
 use Rattle.truth.specs.Node.{planeAt, arity, Operand, modelAt, Shows, Makeable, NodeMade}
-use Rattle.truth.specs.Laws.PlaneShapes.{made-none}
+use Rattle.truth.specs.Laws.PlaneShapes.{made-cleared}
 use Rattle.truth.specs.Laws.Tables.{not-iff, withX-lt, withY-lt, any-iff, all-iff}
 
 -- the plane of an earlier node ends before that of a later one starts
@@ -180,7 +180,7 @@ module _ (kind a b k pitch : ℕ) (ext work : List ℕ) where
 
     pub no-node : 9 ≤ kind → Cleared (planeAt pitch k) (planeSize pitch) work after → NodeMade kind a b k pitch ext work after
     unfolding nodeSays Truth
-    no-node h C = node-made _ after (made-none pitch (planeAt pitch k) work after C) (λ operand g x y hx hy. rw (no-kind kind h) (λ t. false≢true t, λ t. absurd t))
+    no-node h C = node-made _ after (made-cleared pitch (planeAt pitch k) work after C) (λ operand g x y hx hy. rw (no-kind kind h) (λ t. false≢true t, λ t. absurd t))
 
 -- a number from m on that is not m
 pub from-next : {m n : ℕ} → m ≤ n → (n ≡ m → ⊥) → suc m ≤ n

@@ -40,8 +40,8 @@ pub made-copy : (pitch base p : ℕ) (a b : List ℕ) → Made (λ x y. opBool O
 made-copy pitch base p a b M = made-as _ _ pitch base (pitch * 8) a b (λ x y hx hy. or-same (cell a p pitch x y)) M
 
 -- a plane that was cleared
-pub made-none : (pitch base : ℕ) (a b : List ℕ) → Cleared base (planeSize pitch) a b → Made (λ x y. false) pitch base (pitch * 8) a b
-made-none pitch base a b C = record {
+pub made-cleared : (pitch base : ℕ) (a b : List ℕ) → Cleared base (planeSize pitch) a b → Made (λ x y. false) pitch base (pitch * 8) a b
+made-cleared pitch base a b C = record {
   len = C .len;
   here = λ x y hx hy.
       let e : (base + x * pitch) * 8 + y ≡ base * 8 + (x * pitch * 8 + y) = omega arith in

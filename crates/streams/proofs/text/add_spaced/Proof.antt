@@ -1,6 +1,6 @@
 use Rattle.streams.specs.Line.{spaced}
 use Rattle.streams.specs.Text.{bytes}
-use Rattle.streams.specs.Laws.Lines.{then}
+use Rattle.streams.specs.Laws.WrittenLines.{then}
 use borrow.Author.Needs.{needs}
 use Rattle.streams.proofs.text.add_spaced.Statement.{statement}
 use Rattle.streams.proofs.text.add_spaced.Tie as tie

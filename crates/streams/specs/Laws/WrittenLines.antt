@@ -21,8 +21,8 @@ then {t} {u} {b} {at = at} a c =
     }
 
 -- the whole line
-pub written : {t b b₁ : List ℕ} {r : ℕ} → TextAdded t 0 b b₁ r → Written t b₁ r
-written {b₁ = b₁} {r} a = record { counts = (a .within, sym (length-take-le r b₁ (a .within))); line = a .line }
+pub line-written : {t b b₁ : List ℕ} {r : ℕ} → TextAdded t 0 b b₁ r → Written t b₁ r
+line-written {b₁ = b₁} {r} a = record { counts = (a .within, sym (length-take-le r b₁ (a .within))); line = a .line }
 
 -- a space and a machine word
 pub at-most-21 : (n : ℕ) → n < 2 ^ 64 → length (spaced n) ≤ 21
