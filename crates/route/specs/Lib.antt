@@ -1,0 +1,10 @@
+-- The route from one state to another.
+pub mod Route
+pub mod Computed
+pub mod Distances
+pub mod Laws
+pub mod Meant
+pub mod InNet
+pub mod Answer
+pub mod Call
+pub mod Example
