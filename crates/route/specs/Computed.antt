@@ -32,14 +32,14 @@ unfoldable pub distances : ℕ → (ℕ → ℕ → Bool) → ℕ → ℕ → Li
 distances count r b zero = tab count 0 (λ y. 0)
 distances count r b (suc k) = let ds = distances count r b k in tab count 0 (fartherAt count r b k ds)
 
--- the state found; 0 if there is none
-abbrev pub orZero : Option ℕ → ℕ
-orZero none = 0
-orZero (some y) = y
+-- the state found; the count if there is none
+abbrev pub orCount : ℕ → Option ℕ → ℕ
+orCount count none = count
+orCount count (some y) = y
 
 -- the smallest state that x steps to and that is k steps away
 unfoldable pub nextState : ℕ → (ℕ → ℕ → Bool) → List ℕ → ℕ → ℕ → ℕ → ℕ
-nextState count r ds b k x = orZero (firstFrom count 0 (isOnward r ds b k x))
+nextState count r ds b k x = orCount count (firstFrom count 0 (isOnward r ds b k x))
 
 -- the k states after x, each the smallest that is one step nearer
 unfoldable pub onward : ℕ → (ℕ → ℕ → Bool) → List ℕ → ℕ → ℕ → ℕ → List ℕ

@@ -7,4 +7,5 @@ pub mod Meant
 pub mod InNet
 pub mod Answer
 pub mod Call
+pub mod Search
 pub mod Example

@@ -148,23 +148,29 @@ module _ (S : ℕ) (R : ℕ → ℕ → Type 0) (r : ℕ → ℕ → Bool) (agre
         none : (i : ℕ) → i < getD ds a 0 → getD ds a 0 ≤ i → ⊥
         none i n m = omega arith
 
-    -- the route by distances that are known so far that a has one, or none has more
-    pub by-distances : (getD ds a 0 ≡ 0 → S ≤ k) → Is S R a b (routeBy S r ds a b)
+    -- the route by the distance of a
+    pub route-by : 1 ≤ getD ds a 0 → Route S R a b (a ∷ onward S r ds b (getD ds a 0) a)
+    route-by h =
+        route-is (getD ds a 0) (onward S r ds b (getD ds a 0) a) ha h (fewest-at h)
+        (onward-is S R r agree b k ds near (getD ds a 0) (near .upTo a ha) a ha (fewest-at h))
+
+    -- nothing leads from a where it has no distance and none is farther
+    pub no-walk : S ≤ k → getD ds a 0 ≡ 0 → Walk S R a b → ⊥
+    no-walk far e w =
+        let u = unwalk w in
+        let s = short S R b a (u .1 .0) (u .1 .1) (u .1 .2) in
+        omega (arith, e, near .found a (length (s .0)) ha (s .2) (omega (arith, s .3, far)) (s .0, refl, s .1) .0)
+
+    -- the answer by distances of which none is farther
+    by-distances : S ≤ k → Is S R a b (routeBy S r ds a b)
     unfolding routeBy
     by-distances far = go (eqb (getD ds a 0) 0) refl
       where
         go : (c : Bool) → eqb (getD ds a 0) 0 ≡ c → Is S R a b (cond c none (some (a ∷ onward S r ds b (getD ds a 0) a)))
-        go true c =
-            λ w.
-            let e : getD ds a 0 ≡ 0 = eqb-true (getD ds a 0) 0 c in
-            let u = unwalk w in
-            let s = short S R b a (u .1 .0) (u .1 .1) (u .1 .2) in
-            omega (arith, e, near .found a (length (s .0)) ha (s .2) (omega (arith, s .3, far e)) (s .0, refl, s .1) .0)
-        go false c =
-            let h : 1 ≤ getD ds a 0 = omega (arith, eqb-false (getD ds a 0) 0 c) in
-            route-is (getD ds a 0) (onward S r ds b (getD ds a 0) a) ha h (fewest-at h)
-            (onward-is S R r agree b k ds near (getD ds a 0) (near .upTo a ha) a ha (fewest-at h))
+        go true c = no-walk far (eqb-true (getD ds a 0) 0 c)
+        go false c = route-by (omega (arith, eqb-false (getD ds a 0) 0 c))
 
+  -- the computed round is one
   farther : (k : ℕ) (ds : List ℕ) → Farther S R b k S ds (tab S 0 (fartherAt S r b k ds))
   unfolding fartherAt
   farther k ds =
@@ -199,6 +205,7 @@ module _ (S : ℕ) (R : ℕ → ℕ → Type 0) (r : ℕ → ℕ → Bool) (agre
           let q = onward-iff S R r agree b ds k hy hx .0 t in
           inr (at y hy ∙ rw e (rw c refl), (x, hx, q .1, q .0))
 
+  -- so that the computed distances are those up to k
   distances-near : (k : ℕ) → Near S R b k (distances S r b k)
   unfolding distances
   distances-near zero = near-start S R b (tab S 0 (λ y. 0)) (λ x hx. tab-at S 0 (λ y. 0) x 0 hx)
@@ -207,7 +214,7 @@ module _ (S : ℕ) (R : ℕ → ℕ → Type 0) (r : ℕ → ℕ → Bool) (agre
   -- the computed answer is the one that is meant
   pub route-meant : a < S → Is S R a b (routeOf S r a b)
   unfolding routeOf
-  route-meant ha = by-distances S (distances S r b S) (distances-near S) ha (λ e. omega arith)
+  route-meant ha = by-distances S (distances S r b S) (distances-near S) ha (omega arith)
 
   -- there is a route exactly if there is a walk
   pub route-iff : ((l : List ℕ) × Route S R a b l) ↔ Walk S R a b

@@ -1,10 +1,10 @@
 -- The smallest states that lead on: what the forward reading by distances finds.
-use mathlib.Core.Path.{_≡_, refl, sym, subst, _∙_}
+use mathlib.Core.Path.{_≡_, refl, sym, ap, subst, _∙_}
 use mathlib.Core.Bool.{Bool, true, _&&_}
 use mathlib.Core.List.{List, [], _∷_}
 use mathlib.Core.Logic.{_↔_, _⊎_, inl, inr, ⊎-elim}
 use mathlib.Core.Option.{Option, none, some}
-use Prim.Native.Nat.{ℕ, zero, suc, _<_, _≤_}
+use Prim.Native.Nat.{ℕ, zero, suc, _+_, _<_, _≤_}
 use native.Mathlib.Omega.{arith}
 use borrow.Author.Tests.{eqb-true, eq-eqb}
 use lib.Dec.{eqb}
@@ -13,7 +13,7 @@ use Rattle.planes.specs.Laws.Tests.{and-both, and-left, and-right}
 use Rattle.verdict.specs.Computed.{firstFrom}
 use Rattle.verdict.specs.Laws.FirstState.{FirstPassing, first-is}
 use Rattle.route.specs.Route.{Before}
-use Rattle.route.specs.Computed.{isAway, isOnward, orZero, nextState, onward}
+use Rattle.route.specs.Computed.{isAway, isOnward, orCount, nextState, onward}
 use Rattle.route.specs.Distances.{Away, In, Near}
 use Rattle.route.specs.Laws.Leading.{Leads}
 use Rattle.route.specs.Laws.Searching.{in-more, in-less, in-none, away-in, in-away}
@@ -32,6 +32,14 @@ pub away-iff : (ds : List ℕ) (b k x : ℕ) → isAway ds b k x ≡ true ↔ Aw
 unfolding isAway
 away-iff ds b zero x = (eqb-true x b, eq-eqb x b)
 away-iff ds b (suc k) x = (eqb-true (getD ds x 0) (suc k), eq-eqb (getD ds x 0) (suc k))
+
+-- the state after the first j of them is the next one
+pub onward-at : (S : ℕ) (r : ℕ → ℕ → Bool) (ds : List ℕ) (b k x j i : ℕ) → j + suc i ≡ k
+    → getD (x ∷ onward S r ds b k x) (suc j) 0 ≡ nextState S r ds b i (getD (x ∷ onward S r ds b k x) j 0)
+unfolding onward
+onward-at S r ds b zero x j i e = absurd (omega (arith, e))
+onward-at S r ds b (suc k) x zero i e = ap (λ (n : ℕ). nextState S r ds b n x) (omega (arith, e))
+onward-at S r ds b (suc k) x (suc j) i e = onward-at S r ds b k (nextState S r ds b k x) j i (omega (arith, e))
 
 -- as many states as steps
 pub onward-length : (S : ℕ) (r : ℕ → ℕ → Bool) (ds : List ℕ) (b k x : ℕ) → length (onward S r ds b k x) ≡ k
@@ -90,7 +98,7 @@ module _ (S : ℕ) (R : ℕ → ℕ → Type 0) (r : ℕ → ℕ → Bool) (agre
             (before-cases o)
 
         go : (o : Option ℕ) → FirstPassing test 0 S o → ((y : ℕ) → y < S → Fewest k y → Smallest k y (onward S r ds b k y))
-            → Smallest (suc k) x (orZero o ∷ onward S r ds b k (orZero o))
+            → Smallest (suc k) x (orCount S o ∷ onward S r ds b k (orCount S o))
         go none n ih =
             let (y, hy, q, p) = in-less S R b (f .leads) in
             absurd (n y (omega arith) (omega (arith, hy)) (passes y hy q p))

@@ -1,0 +1,6 @@
+-- Laws that several proofs of this crate use.
+pub mod Marking
+pub mod Measuring
+pub mod Reading
+pub mod Rounds
+pub mod StepPlane
