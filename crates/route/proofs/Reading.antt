@@ -1,23 +1,24 @@
 -- The forward reading by distances: each state that is written is the route's.
 use mathlib.Core.Path.{_≡_, refl, sym, ap, subst, _∙_}
 use mathlib.Core.Bool.{Bool, true}
-use mathlib.Core.List.{List, _∷_, _++_}
+use mathlib.Core.List.{List, _∷_}
 use mathlib.Core.Option.{Option, none, some}
 use Prim.Native.Nat.{ℕ, zero, suc, _+_, _-_, _*_, _<_, _≤_}
-use native.Mathlib.Nat.{zero-add}
+use native.Mathlib.Nat.{zero-add, not-suc-le-zero}
 use native.Mathlib.Decide.{decLt}
 use native.Mathlib.Omega.{arith}
-use lib.ListN.{length, getD, set, drop}
+use borrow.Author.Count.{below-more}
+use lib.ListN.{length, getD, set, length-set}
+use lib.Seq.{getD-set-same, getD-set-other}
 use Rattle.planes.specs.Plane.{cell}
 use Rattle.planes.specs.Lines.{Put}
-use Rattle.planes.specs.Laws.Copies.{put-is}
-use Rattle.planes.proofs.LaidBytes.{laid-none, laid-more}
+use Rattle.planes.proofs.LaidBytes.{laid-more}
 use Rattle.verdict.specs.Computed.{firstFrom}
 use Rattle.verdict.specs.Laws.FirstState.{FirstPassing, first-is}
 use Rattle.route.specs.Route.{Route}
 use Rattle.route.specs.Computed.{isOnward, orCount, nextState, onward}
-use Rattle.route.specs.Meant.{route-short, route-by, no-walk}
-use Rattle.route.specs.Search.{Steps, Measured, Nearer, routeAlong, Writable, Drawn}
+use Rattle.route.specs.Meant.{route-short, route-by}
+use Rattle.route.specs.Search.{Steps, Measured, Nearer, routeAlong, Writable}
 use Rattle.route.specs.Laws.Onward.{onward-iff, onward-at, onward-length}
 use Rattle.route.proofs.Rounds.{at-distance, of-distance}
 
@@ -68,7 +69,7 @@ module _ (work : List ℕ) (pitch a b : ℕ) (ds list : List ℕ) (W : Writable 
   states = routeAlong work pitch ds a b
 
   -- it is the route
-  is-route : Route S (Steps work pitch) a b states
+  pub is-route : Route S (Steps work pitch) a b states
   is-route =
       let M = W .measured in
       route-by S (Steps work pitch) (cell work 0 pitch) (λ x y hx hy. (λ e. e, λ e. e)) a b (M .far) ds (M .near) (W .from) (W .some)
@@ -98,22 +99,14 @@ module _ (work : List ℕ) (pitch a b : ℕ) (ds list : List ℕ) (W : Writable 
       subst (λ (n : ℕ). Put states 0 (i + 1) list (set now n v)) (zero-add i)
       (laid-more _ 0 i (d + 1) list now P (omega arith) (omega (arith, short, W .room)) v e)
 
-  pub writing-start : Writing a 1 (set list 0 a)
-  writing-start =
-      record { one = omega arith; bound = W .some; at = refl; written = entry 0 a list (omega arith) (laid-none _ 0 list) refl }
-
-  pub writing-more : (x i y : ℕ) (now : List ℕ) → Writing x i now → i < d → Nearer work pitch ds x (d - i) y
-      → (y ≡ getD states i 0) × Writing y (i + 1) (set now i y)
+  pub writing-more : (x i y : ℕ) (now : List ℕ) → Writing x i now → i < d → Nearer work pitch ds x (d - i) y → Writing y (i + 1) (set now i y)
   writing-more x i y now I h N =
-      (
-        e,
-        record {
-          one = omega arith;
-          bound = omega arith;
-          at = ap (λ (n : ℕ). getD states n 0) p ∙ sym e;
-          written = entry i y now (omega arith) (I .written) e;
-        },
-      )
+      record {
+        one = omega arith;
+        bound = omega arith;
+        at = ap (λ (n : ℕ). getD states n 0) p ∙ sym e;
+        written = entry i y now (omega arith) (I .written) e;
+      }
     where
       p : i + 1 - 1 ≡ i
       p = omega arith
@@ -127,3 +120,54 @@ module _ (work : List ℕ) (pitch a b : ℕ) (ds list : List ℕ) (W : Writable 
           ∙ ap (nextState S (cell work 0 pitch) ds b (d - i)) (sym (I .at))
           ∙ sym (onward-at S (cell work 0 pitch) ds b d a (i - 1) (d - i) (omega (arith, I .one, h)))
           ∙ ap (λ (n : ℕ). getD states n 0) q
+
+  -- the last of them is a state
+  pub at-state : (x i : ℕ) (now : List ℕ) → Writing x i now → x < S
+  at-state x i now I = subst (λ (n : ℕ). n < S) (I .at) (below (i - 1) (omega (arith, I .bound)))
+
+  -- the last entry is the end
+  pub written-all : (x i : ℕ) (now : List ℕ) → Writing x i now → d ≤ i → Put states 0 (d + 1) list (set now d b)
+  written-all x i now I h =
+      let e : i ≡ d = omega (arith, I .bound) in
+      entry d b now (omega arith) (subst (λ (n : ℕ). Put states 0 n list now) e (I .written)) (sym last)
+
+-- the first entry is written before the loop
+module _ (work : List ℕ) (pitch a b : ℕ) (ds list : List ℕ) (W : Writable work pitch a b ds list) where
+  abbrev started : List ℕ
+  started = set list 0 a
+
+  pub still-writable : Writable work pitch a b ds started
+  still-writable =
+      record {
+        plane = W .plane;
+        from = W .from;
+        to = W .to;
+        measured = W .measured;
+        some = W .some;
+        room = omega (arith, W .room, length-set list 0 a);
+      }
+
+  pub writing-start : Writing work pitch a b ds started still-writable a 1 started
+  writing-start =
+      record {
+        one = omega arith;
+        bound = W .some;
+        at = refl;
+        written = record {
+          len = refl;
+          inside = below-more (λ (j : ℕ). getD started (0 + j) 0 ≡ getD (routeAlong work pitch ds a b) j 0) 0
+              (λ j h. absurd (not-suc-le-zero h)) (getD-set-same list 0 a 0 (omega (arith, W .room)));
+          under = λ m h. refl;
+          over = λ m h. refl;
+        };
+      }
+
+  -- the entries behind the route are as before that too
+  pub with-first : (n : ℕ) (after : List ℕ) → Put (routeAlong work pitch ds a b) 0 (n + 1) started after → Put (routeAlong work pitch ds a b) 0 (n + 1) list after
+  with-first n after P =
+      record {
+        len = P .len ∙ length-set list 0 a;
+        inside = P .inside;
+        under = λ m k. absurd (not-suc-le-zero k);
+        over = λ m k. P .over m k ∙ getD-set-other list 0 m a 0 (λ q. omega (arith, q, k));
+      }
