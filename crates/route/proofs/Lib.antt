@@ -4,4 +4,5 @@ pub mod Marking
 pub mod Measuring
 pub mod Reading
 pub mod Rounds
+pub mod Showing
 pub mod StepPlane

@@ -7,10 +7,16 @@ use Prim.Native.Nat.{ℕ, suc, _+_, _*_, _<_, _≤_}
 use lib.ListN.{length, getD}
 use Rattle.planes.specs.Plane.{cell, On, planeSize}
 use Rattle.planes.specs.Lines.{Put}
+use Rattle.records.specs.Record.{Net}
+use Rattle.rows.specs.Rows.{workNeeded}
+use Rattle.calls.specs.Check.{cleared}
 use Rattle.route.specs.Route.{Is}
 use Rattle.route.specs.Computed.{orOneMore, onward}
 use Rattle.route.specs.Distances.{Near, Farther}
-use Rattle.route.specs.Call.{withRoute}
+use Rattle.route.specs.InNet.{route}
+use Rattle.route.specs.declared.Routed.{Routed}
+use Rattle.route.specs.Answer.{routeAnswerOf}
+use Rattle.route.specs.Call.{ofRoute, withRoute}
 
 -- a plane of at most 1024 states stands at the front of the work buffer
 pub record Searchable (pitch : ℕ) (work : List ℕ) : Type 0 where
@@ -69,3 +75,9 @@ pub record Drawn (work : List ℕ) (pitch a b : ℕ) (before : List ℕ) (count 
   pub meant : Is (pitch * 8) (Steps work pitch) a b answer
   pub counted : count ≡ entries answer
   pub written : after ≡ withRoute answer before
+
+-- the answer of a network that no row refuses, the list with the route, and the work that a verdict needs zero
+pub record Shown (net : Net) (a b : ℕ) (work list : List ℕ) (r : Routed) (list-after work-after : List ℕ) : Type 0 where
+  pub answer : routeAnswerOf r ≡ ofRoute (route net a b)
+  pub lists : list-after ≡ withRoute (route net a b) list
+  pub works : work-after ≡ cleared (workNeeded net) work

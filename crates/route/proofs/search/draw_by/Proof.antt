@@ -1,47 +1,40 @@
+-- `route::search::draw_by` meets its contract.
 use borrow.Author.Needs.{needs}
+use native.Mathlib.Omega.{arith}
+use Rattle.route.proofs.Drawing.{drawn-none, drawn-some}
 use Rattle.route.proofs.search.draw_by.Statement.{statement}
 use Rattle.route.proofs.search.draw_by.Tie as tie
-use Rattle.route.proofs.search.draw_by.Reads as reads
-use Rattle.route.proofs.search.draw_by.Lts as lts
-use Rattle.route.proofs.search.measure.Reads as measure-reads
-use Rattle.route.proofs.search.write_route.Reads as write-route-reads
 
--- src/search.rt:134:5
-measure-requires : tie.Need-measure-requires
-measure-requires c κs = search needs
-
--- src/search.rt:135:8
-mul-if1 : tie.Need-mul-if1
-mul-if1 c = search needs
-
--- src/search.rt:135:8
-element-copy-out-if1 : tie.Need-element-copy-out-if1
-element-copy-out-if1 c = search needs
-
--- src/search.rt:136:9
 returns : tie.Need-returns
-returns c = ?
+returns c =
+    let p = c .before .before .before .before .before .before .pre .0 in
+    drawn-none _ _ _ _ _ _ (p .1) (c .before .before .measure .ensures) (c .if1 .taken)
 
--- src/search.rt:138:5
 write-route-requires : tie.Need-write-route-requires
-write-route-requires c κs = search needs
+write-route-requires c κs =
+    let p = c .before .before .before .before .before .before .before .before .pre .0 in
+    record {
+      plane = p .0;
+      from = p .1;
+      to = p .2;
+      measured = c .before .before .before .before .measure .ensures;
+      some = omega (arith, c .before .before .if1 .left);
+      room = p .3;
+    }
 
--- src/search.rt:122:1
-same-length : tie.Need-same-length
-same-length c = search needs
-
--- src/search.rt:122:1
 returns-2 : tie.Need-returns-2
-returns-2 c = ?
+returns-2 c =
+    let w = c .before .before .write-route .ensures in
+    drawn-some _ _ _ _ _ _ (write-route-requires (c .before .before .before) (c .before .before .write-route .lifetimes)) _ _ (w .0) (w .1)
 
 pub draw-by-spec : {M : Type 1} → statement M
 draw-by-spec =
     tie.close
     (tie.spec
-    measure-requires
-    mul-if1
-    element-copy-out-if1
+    (λ c κs. search needs)
+    (λ c. search needs)
+    (λ c. search needs)
     returns
     write-route-requires
-    same-length
+    (λ c. search needs)
     returns-2)
