@@ -198,7 +198,7 @@ module _ (S : ℕ) (R : ℕ → ℕ → Type 0) (r : ℕ → ℕ → Bool) (agre
 
       only-new : (y : ℕ) → y < S → getD ds y 0 ≡ 0 → (c : Bool) → any y ≡ c
           → (getD (tab S 0 (fartherAt S r b k ds)) y 0 ≡ 0)
-            ⊎ ((getD (tab S 0 (fartherAt S r b k ds)) y 0 ≡ suc k) × ((x : ℕ) × (x < S) × Away ds b k x × R y x))
+          ⊎ ((getD (tab S 0 (fartherAt S r b k ds)) y 0 ≡ suc k) × ((x : ℕ) × (x < S) × Away ds b k x × R y x))
       only-new y hy e false c = inl (at y hy ∙ rw e (rw c refl))
       only-new y hy e true c =
           let (x, hx, t) = any-iff S (isOnward r ds b k y) .0 c in

@@ -24,7 +24,15 @@ pub enum Routed {
 }
 
 // Shows the route of a network that no row refuses; the work that a verdict needs is zero afterwards.
-fn show(store: &[u8], n: usize, l: Layout, work: &mut [u8], start: usize, end: usize, list: &mut [u16]) -> Routed
+fn show(
+    store: &[u8],
+    n: usize,
+    l: Layout,
+    work: &mut [u8],
+    start: usize,
+    end: usize,
+    list: &mut [u16],
+) -> Routed
     requires { ⌜ Judgeable n l (now store) (now work) ⌝ }
     requires { ⌜ (start < states (l .widths)) × (end < states (l .widths)) × (states (l .widths) + 1 ≤ length (now list)) ⌝ }
     ensures { λ r. ⌜ Shown (records n (now (store .entry))) start end (now (work .entry)) (now (list .entry)) r (now (list .exit)) (now (work .exit)) ⌝ }
@@ -42,7 +50,15 @@ fn show(store: &[u8], n: usize, l: Layout, work: &mut [u8], start: usize, end: u
 }
 
 // A route call on a network that rows 1 to 11 pass: rows 14 and 15, and then the route.
-fn after_check(store: &[u8], n: usize, l: Layout, work: &mut [u8], start: usize, end: usize, list: &mut [u16]) -> Routed
+fn after_check(
+    store: &[u8],
+    n: usize,
+    l: Layout,
+    work: &mut [u8],
+    start: usize,
+    end: usize,
+    list: &mut [u16],
+) -> Routed
     requires { ⌜ (checkRefusal (now store) n (length (now work)) ≡ none) × LayoutOf (records n (now store)) l ⌝ }
     ensures { λ r. ⌜ RoutePromised (routeCall (now (store .entry)) n (now (work .entry)) start end (now (list .entry))) (routeAnswerOf r) (now (list .exit)) (now (work .exit)) ⌝ }
 {
@@ -70,7 +86,14 @@ fn after_check(store: &[u8], n: usize, l: Layout, work: &mut [u8], start: usize,
 }
 
 // The route call: writes the route from start to end, in the network of n records in the store, into the list.
-pub fn route(store: &[u8], n: usize, work: &mut [u8], start: usize, end: usize, list: &mut [u16]) -> Routed
+pub fn route(
+    store: &[u8],
+    n: usize,
+    work: &mut [u8],
+    start: usize,
+    end: usize,
+    list: &mut [u16],
+) -> Routed
     ensures { λ r. ⌜ RoutePromised (routeCall (now (store .entry)) n (now (work .entry)) start end (now (list .entry))) (routeAnswerOf r) (now (list .exit)) (now (work .exit)) ⌝ }
 {
     let reading = scan::check_rows(store, n, work.len());

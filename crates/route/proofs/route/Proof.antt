@@ -1,57 +1,35 @@
+-- `route::route` meets its contract.
+use denote.Ref.{now}
+use mathlib.Core.Path.{sym, ap, _∙_}
 use borrow.Author.Needs.{needs}
+use Rattle.scan.specs.Layout.{readingRefusal}
+use Rattle.route.specs.Call.{routeCall}
+use Rattle.route.proofs.Showing.{route-refused, refused-early}
 use Rattle.route.proofs.route.Statement.{statement}
 use Rattle.route.proofs.route.Tie as tie
-use Rattle.route.proofs.route.Reads as reads
-use Rattle.route.proofs.route.Lts as lts
-use Rattle.route.proofs.after_check.Reads as after-check-reads
-use Rattle.scan.proofs.check_rows.Reads as check-rows-reads
 
--- src/lib.rt:76:9
-check-rows-requires : tie.Need-check-rows-requires
-check-rows-requires c κs = search needs
-
--- src/lib.rt:78:28
-enum-known-reading : tie.Need-enum-known-reading
-enum-known-reading c = search needs
-
--- src/lib.rt:79:26
-cast-number : tie.Need-cast-number
-cast-number c = search needs
-
--- src/lib.rt:82:24
-enum-known-reading-2 : tie.Need-enum-known-reading-2
-enum-known-reading-2 c = search needs
-
--- src/lib.rt:82:30
 after-check-requires : tie.Need-after-check-requires
-after-check-requires c κs = ?
+after-check-requires c κs =
+    let read = c .before .before .before .before .before .check-rows .ensures in
+    let clean = c .before .before .before .reading2 .given .1 in
+    (sym (ap readingRefusal (sym clean) ∙ read .answer), read .layout _ clean)
 
--- src/lib.rt:73:1
 returns : tie.Need-returns
-returns c = ?
-
--- src/lib.rt:73:1
-same-length : tie.Need-same-length
-same-length c = search needs
-
--- src/lib.rt:73:1
-same-length-2 : tie.Need-same-length-2
-same-length-2 c = search needs
-
--- src/lib.rt:73:1
-returns-2 : tie.Need-returns-2
-returns-2 c = search needs
+returns c =
+    let a = c .before .before .before .before .before .before .before .args in
+    let call = routeCall (now (a .store)) (a .n) (now (a .work)) (a .start) (a .end) (now (a .list)) in
+    route-refused call _ _ (refused-early call _ _ (ap readingRefusal (sym (c .before .reading .given .1)) ∙ c .before .before .before .check-rows .ensures .answer))
 
 pub route-spec : {M : Type 1} → statement M
 route-spec =
     tie.close
     (tie.spec
-    check-rows-requires
-    enum-known-reading
-    cast-number
-    enum-known-reading-2
+    (λ c κs. search needs)
+    (λ c. search needs)
+    (λ c. search needs)
+    (λ c. search needs)
     after-check-requires
     returns
-    same-length
-    same-length-2
-    returns-2)
+    (λ c. search needs)
+    (λ c. search needs)
+    (λ c. search needs))

@@ -1,57 +1,45 @@
+-- `route::show` meets its contract.
+use denote.Ref.{now}
+use mathlib.Core.Path.{_≡_, ap, _∙_}
+use Prim.Native.Nat.{ℕ, _/_}
+use native.Mathlib.Omega.{arith}
 use borrow.Author.Needs.{needs}
+use Rattle.records.specs.Laws.Limits.{limits}
+use Rattle.records.specs.Widths.{planeBytes}
+use Rattle.verdict.proofs.PassedRecords.{stored}
+use Rattle.verdict.proofs.JudgedWork.{step-room}
+use Rattle.route.proofs.Showing.{amount, drawable, shown-none, shown-some}
 use Rattle.route.proofs.show.Statement.{statement}
 use Rattle.route.proofs.show.Tie as tie
-use Rattle.route.proofs.show.Reads as reads
-use Rattle.route.proofs.show.Lts as lts
-use Rattle.planes.proofs.clear.Reads as clear-reads
-use Rattle.records.proofs.Widths.states.Reads as states-reads
-use Rattle.route.proofs.search.draw.Reads as draw-reads
-use Rattle.scan.proofs.work_needed.Reads as work-needed-reads
-use Rattle.steps.proofs.fill_steps.Reads as fill-steps-reads
 
--- src/lib.rt:33:17
 states-requires : tie.Need-states-requires
-states-requires c κs = ?
+states-requires c κs = limits _ (c .before .before .before .before .pre .0 .clean .laid .limits) .bits
 
--- src/lib.rt:34:5
 fill-steps-requires : tie.Need-fill-steps-requires
-fill-steps-requires c κs = ?
+fill-steps-requires c κs = let J = c .before .before .before .before .before .before .pre .0 in (omega (arith, step-room _ _ _ _ J), stored _ _ _ (J .clean))
 
--- src/lib.rt:35:9
 draw-requires : tie.Need-draw-requires
-draw-requires c κs = ?
+draw-requires c κs =
+    let start = c .before .before .before .before .before .before .before .before .before .before .before in
+    let e = ap (λ (n : ℕ). n / 8) (c .before .before .before .before .before .before .states .ensures) in
+    drawable _ _ _ _ (start .pre .0) _ e _ (c .before .before .before .before .fill-steps .ensures) _ _ (now (start .args .list)) (start .pre .1 .0) (start .pre .1 .1) (start .pre .1 .2)
 
--- src/lib.rt:36:9
-work-needed-requires : tie.Need-work-needed-requires
-work-needed-requires c κs = search needs
-
--- src/lib.rt:37:5
 clear-requires : tie.Need-clear-requires
-clear-requires c κs = ?
+clear-requires c κs =
+    let J = c .before .before .before .before .before .before .before .before .before .before .before .before .before .before .before .before .pre .0 in
+    omega (arith, c .before .work-needed .ensures, amount _ _ _ _ J, J .room, c .before .before .before .before .before .before .before .before .before .fill-steps .ensures .len)
 
--- src/lib.rt:39:9
-same-length : tie.Need-same-length
-same-length c = search needs
-
--- src/lib.rt:39:9
-same-length-2 : tie.Need-same-length-2
-same-length-2 c = search needs
-
--- src/lib.rt:39:9
 returns : tie.Need-returns
-returns c = ?
+returns c =
+    let J = c .before .before .before .before .before .before .before .before .before .before .before .before .before .before .before .before .before .before .before .before .pre .0 in
+    let e = ap (λ (n : ℕ). n / 8) (c .before .before .before .before .before .before .before .before .before .before .before .before .before .before .before .states .ensures) in
+    shown-none _ _ _ _ J _ e _ (c .before .before .before .before .before .before .before .before .before .before .before .before .before .fill-steps .ensures) _ _ _ _ _ (c .before .before .before .before .before .before .before .before .draw .ensures) _ _ (c .before .before .before .before .before .work-needed .ensures ∙ amount _ _ _ _ J) (c .before .before .before .clear .ensures) (c .if1 .taken)
 
--- src/lib.rt:27:1
-same-length-3 : tie.Need-same-length-3
-same-length-3 c = search needs
-
--- src/lib.rt:27:1
-same-length-4 : tie.Need-same-length-4
-same-length-4 c = search needs
-
--- src/lib.rt:27:1
 returns-2 : tie.Need-returns-2
-returns-2 c = ?
+returns-2 c =
+    let J = c .before .before .before .before .before .before .before .before .before .before .before .before .before .before .before .before .before .before .before .before .pre .0 in
+    let e = ap (λ (n : ℕ). n / 8) (c .before .before .before .before .before .before .before .before .before .before .before .before .before .before .before .states .ensures) in
+    shown-some _ _ _ _ J _ e _ (c .before .before .before .before .before .before .before .before .before .before .before .before .before .fill-steps .ensures) _ _ _ _ _ (c .before .before .before .before .before .before .before .before .draw .ensures) _ _ (c .before .before .before .before .before .work-needed .ensures ∙ amount _ _ _ _ J) (c .before .before .before .clear .ensures) (c .if1 .left)
 
 pub show-spec : {M : Type 1} → statement M
 show-spec =
@@ -60,11 +48,11 @@ show-spec =
     states-requires
     fill-steps-requires
     draw-requires
-    work-needed-requires
+    (λ c κs. search needs)
     clear-requires
-    same-length
-    same-length-2
+    (λ c. search needs)
+    (λ c. search needs)
     returns
-    same-length-3
-    same-length-4
+    (λ c. search needs)
+    (λ c. search needs)
     returns-2)

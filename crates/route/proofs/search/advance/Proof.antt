@@ -29,13 +29,12 @@ loop-again c =
     let at-loop = c .before .before .before in
     let p = at-loop .before .before .pre in
     let A = at-loop .loop .inv .1 in
-    let h = c .before .before .loop-test .taken in
-    (
+    let h = c .before .before .loop-test .taken in (
       omega arith,
       ⊎-elim
-      (λ v. rw (v .3, v .4) (advanced-on _ _ _ (p .0 .1) _ _ _ _ A h _ (v .0 .taken) (v .2 .ensures)))
-      (λ v. rw (v .1, v .2) (advanced-off _ _ _ (p .0 .1) _ _ _ _ A h (v .0 .left)))
-      (c .if1 .came),
+          (λ v. rw (v .3, v .4) (advanced-on _ _ _ (p .0 .1) _ _ _ _ A h _ (v .0 .taken) (v .2 .ensures)))
+          (λ v. rw (v .1, v .2) (advanced-off _ _ _ (p .0 .1) _ _ _ _ A h (v .0 .left)))
+          (c .if1 .came),
     )
 
 returns : tie.Need-returns Inv-loop μ-loop

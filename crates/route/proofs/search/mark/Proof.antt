@@ -25,15 +25,14 @@ loop-again : tie.Need-loop-again Inv-loop μ-loop
 loop-again c =
     let at-loop = c .before .before .before in
     let p = at-loop .before .before .pre in
-    let M = at-loop .loop .inv .1 in
-    (
+    let M = at-loop .loop .inv .1 in (
       omega arith,
       ⊎-elim
-      (λ v. rw (v .3) (marked-set _ _ _ _ _ _ _ M _ (omega (arith, M .len, p .1, p .0 .0 .small)) (v .0 .taken) (sym (v .1 .ensures) ∙ v .2 .taken) (omega arith)))
-      (⊎-elim
-      (λ v. rw (v .3) (marked-off _ _ _ _ _ _ _ M (v .0 .taken) (sym (v .1 .ensures) ∙ v .2 .left)))
-      (λ v. rw (v .1) (marked-kept _ _ _ _ _ _ _ M (v .0 .left))))
-      (c .if1 .came),
+          (λ v. rw (v .3) (marked-set _ _ _ _ _ _ _ M _ (omega (arith, M .len, p .1, p .0 .0 .small)) (v .0 .taken) (sym (v .1 .ensures) ∙ v .2 .taken) (omega arith)))
+          (⊎-elim
+          (λ v. rw (v .3) (marked-off _ _ _ _ _ _ _ M (v .0 .taken) (sym (v .1 .ensures) ∙ v .2 .left)))
+          (λ v. rw (v .1) (marked-kept _ _ _ _ _ _ _ M (v .0 .left))))
+          (c .if1 .came),
     )
 
 returns : tie.Need-returns Inv-loop μ-loop

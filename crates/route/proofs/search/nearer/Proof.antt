@@ -38,11 +38,10 @@ returns c =
 loop-again : tie.Need-loop-again Inv-loop μ-loop
 loop-again c =
     let at-loop = c .before .before .before in
-    let a = at-loop .before .before .args in
-    (
+    let a = at-loop .before .before .args in (
       omega arith,
       below-more (λ (z : ℕ). cell (now (a .work)) 0 (a .pitch) (a .x) z ≡ true → getD (now (a .distances)) z 0 ≡ a .k → ⊥) _ (at-loop .loop .inv .1)
-      (λ t e. ⊎-elim (λ v. not-both t (sym (v .1 .ensures) ∙ v .2 .left)) (λ v. v .left e) (c .if1 .came)),
+          (λ t e. ⊎-elim (λ v. not-both t (sym (v .1 .ensures) ∙ v .2 .left)) (λ v. v .left e) (c .if1 .came)),
     )
 
 returns-2 : tie.Need-returns-2 Inv-loop μ-loop

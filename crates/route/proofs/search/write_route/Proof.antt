@@ -44,23 +44,23 @@ nearer-requires c κs =
     (W .plane, at-state _ _ _ _ _ _ W _ _ _ (I .1), omega (arith, I .1 .one, short _ _ _ _ _ _ W, W .plane .small))
 
 cast-list-2 : tie.Need-cast-list-2 Inv-loop μ-loop
-cast-list-2 c = 
+cast-list-2 c =
     let I = c .before .before .loop .inv in
     let W = I .0 in
     omega (arith, c .nearer .ensures .within, W .plane .small)
 
 mul-list : tie.Need-mul-list Inv-loop μ-loop
-mul-list c = 
+mul-list c =
     let I = c .before .before .loop .inv in
     omega (arith, I .1 .bound, short _ _ _ _ _ _ (I .0), I .0 .plane .small)
 
 slice-write-list-2 : tie.Need-slice-write-list-2 Inv-loop μ-loop
-slice-write-list-2 c = 
+slice-write-list-2 c =
     let I = c .before .before .loop .inv in
     omega (arith, I .1 .bound, short _ _ _ _ _ _ (I .0), I .0 .room, I .1 .written .len)
 
 add-i : tie.Need-add-i Inv-loop μ-loop
-add-i c = 
+add-i c =
     let I = c .before .before .loop .inv in
     omega (arith, I .1 .bound, short _ _ _ _ _ _ (I .0), I .0 .plane .small)
 
@@ -68,7 +68,7 @@ loop-less : tie.Need-loop-less Inv-loop μ-loop
 loop-less c = omega (arith, c .before .loop-test .taken)
 
 loop-again : tie.Need-loop-again Inv-loop μ-loop
-loop-again c = 
+loop-again c =
     let I = c .before .before .loop .inv in
     (I .0, writing-more _ _ _ _ _ _ (I .0) _ _ _ _ (I .1) (c .before .loop-test .taken) (c .nearer .ensures))
 
@@ -79,7 +79,7 @@ mul-list-2 : tie.Need-mul-list-2 Inv-loop μ-loop
 mul-list-2 c = let W = c .before .loop .inv .0 in omega (arith, short _ _ _ _ _ _ W, W .plane .small)
 
 slice-write-list-3 : tie.Need-slice-write-list-3 Inv-loop μ-loop
-slice-write-list-3 c = 
+slice-write-list-3 c =
     let I = c .before .loop .inv in
     omega (arith, short _ _ _ _ _ _ (I .0), I .0 .room, I .1 .written .len)
 
@@ -95,8 +95,7 @@ same-length c =
 returns : tie.Need-returns Inv-loop μ-loop
 returns c =
     let I = c .before .loop .inv in
-    let W = c .before .before .before .before .before .pre in
-    (
+    let W = c .before .before .before .before .before .pre in (
       sym (count _ _ _ _ _ _ W),
       with-first _ _ _ _ _ _ W _ _ (written-all _ _ _ _ _ _ (I .0) _ _ _ (I .1) (c .loop-test .left)),
     )
