@@ -3,3 +3,4 @@ pub mod Leading
 pub mod Cutting
 pub mod Searching
 pub mod Onward
+pub mod Bounds

@@ -7,5 +7,6 @@ pub mod Meant
 pub mod InNet
 pub mod Answer
 pub mod Call
+pub mod Told
 pub mod Search
 pub mod Example
