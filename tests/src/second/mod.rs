@@ -8,12 +8,13 @@ pub mod file;
 mod judge;
 pub mod network;
 mod program;
+pub mod routes;
 pub mod states;
 pub mod steps;
 mod truth;
 
-pub use crate::gate::{Checked, Commanded};
-pub use calls::{check, command};
+pub use crate::gate::{Checked, Commanded, Routed};
+pub use calls::{check, command, route};
 pub use program::program;
 
 use crate::gate::Gate;
@@ -28,5 +29,17 @@ impl Gate for Second {
 
     fn command(&self, store: &mut [u8], n: usize, work: &mut [u8], given: &[u8]) -> Commanded {
         command(store, n, work, given)
+    }
+
+    fn route(
+        &self,
+        store: &[u8],
+        n: usize,
+        work: &mut [u8],
+        start: usize,
+        end: usize,
+        list: &mut [u16],
+    ) -> Routed {
+        route(store, n, work, start, end, list)
     }
 }
