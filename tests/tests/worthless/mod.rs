@@ -1,5 +1,7 @@
 //! Gates that are wrong in one way each, to see that cases and comparisons notice.
 
+pub mod routes;
+
 use std::cell::Cell;
 use wegbaro_tests::gate::{Checked, Commanded, Gate, Routed, STORE};
 use wegbaro_tests::second::Second;
