@@ -21,8 +21,19 @@ struct Turn {
     out: u8,
 }
 
+/// After the last round the frame goes to the controller.
 pub fn winding(of: Widths) -> Winding {
-    Winding { records: records(of), route: route(of) }
+    let full = controller(of);
+    Winding { records: records(of, &[output(full, full)]), route: route(of) }
+}
+
+/// After the last round the header is 0 again: a loop through every state at a linked point.
+pub fn looping(of: Widths) -> Winding {
+    let actions = [set(0, ones(of)), output(2, controller(of))];
+    let mut route = route(of);
+    route.pop();
+    route[0] = route[route.len() - 1];
+    Winding { records: records(of, &actions), route }
 }
 
 /// How many states the longest route has: at each linked point an arriving and a departing one for
@@ -39,7 +50,11 @@ fn controller(of: Widths) -> u8 {
     (1 << of.p) - 1
 }
 
-/// Port 2 of each switch is linked to port 1 of the next one, ports 3 and 4 to each other, and so on.
+fn ones(of: Widths) -> u8 {
+    (1 << of.h) - 1
+}
+
+/// Port 2 of each switch is linked to port 1 of the next, ports 3 and 4 to each other, and so on.
 fn links(of: Widths) -> Vec<Record> {
     let last = last_switch(of);
     let mut links = vec![];
@@ -71,7 +86,8 @@ fn turns_from_port_1(of: Widths, switch: u8) -> Vec<Turn> {
     ports.zip(outs).map(|(port, out)| Turn { switch, port, out }).collect()
 }
 
-fn records(of: Widths) -> Vec<Record> {
+/// The records, with what is done at the end of the last round.
+fn records(of: Widths, at_last: &[Action]) -> Vec<Record> {
     let full = controller(of);
     let mut records = vec![widths(of.h, of.p, of.w)];
     records.extend(links(of));
@@ -81,8 +97,7 @@ fn records(of: Widths) -> Vec<Record> {
         records.push(going(of, turn.switch, turn.port, ANY, &[output(turn.out, full)]));
     }
     records.extend((0..of.h).map(|bit| counting(of, bit)));
-    let ones = (1 << of.h) - 1;
-    records.push(going(of, 0, 2, [ones, ones], &[output(full, full)]));
+    records.push(going(of, 0, 2, [ones(of); 2], at_last));
     records.push(going(of, 0, full, ANY, &[output(2, full)]));
     records
 }
@@ -92,7 +107,7 @@ fn going(of: Widths, switch: u8, port: u8, header: Pattern, actions: &[Action]) 
     rule(switch, 1, [port, controller(of)], header, actions)
 }
 
-/// The rule at the end of a round for headers whose lowest 0 is this bit: it becomes 1, those below 0.
+/// The rule at the end of a round for headers whose lowest 0 is this bit: it becomes 1, lower ones 0.
 fn counting(of: Widths, bit: u8) -> Record {
     let (top, care) = (1 << bit, (2 << bit) - 1);
     going(of, 0, 2, [top - 1, care], &[set(top, care), output(2, controller(of))])

@@ -17,7 +17,7 @@ use wegbaro_tests::networks::{
 use wegbaro_tests::random::Random;
 use wegbaro_tests::records::{add, delete, link, miss, output, rule, set, widths, Record, ANY};
 use wegbaro_tests::second::{program, Second};
-use wegbaro_tests::winding::{longest, winding};
+use wegbaro_tests::winding::{longest, looping, winding};
 use worthless::routes::{Astray, ROUTE_VICES};
 use worthless::{Vice, Worthless, VICES};
 
@@ -293,6 +293,7 @@ fn the_longest_routes() {
     assert_eq!([4, 5, 6, 7, 8, 9, 10].map(most), [10, 26, 58, 114, 226, 450, 898]);
     for of in all_widths() {
         assert_eq!(winding(of).route.len(), longest(of), "{of:?}");
+        assert_eq!(looping(of).route.len(), longest(of) - 1, "{of:?}");
     }
 }
 

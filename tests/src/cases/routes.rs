@@ -6,7 +6,7 @@ use crate::gate::Routed;
 use crate::k::{first_add, k};
 use crate::networks::{all_widths, work_needed, Widths};
 use crate::records::{link, miss, output, rule, set, widths, with, Action, Record, ANY};
-use crate::winding::winding;
+use crate::winding::{looping, winding};
 
 /// What the entries of a list are before the call.
 const BEFORE: u16 = 0xBEEF;
@@ -94,8 +94,8 @@ fn loops() -> Vec<RouteCase> {
     ]
 }
 
-/// One switch, header width 1 and port width 3: a state is 16 (departing) + 2 port + header. Ports 1
-/// and 4 are linked, and 2 and 3. What arrives at port 5 goes to 1 and 2, at 3 to 6.
+/// One switch, header width 1 and port width 3: a state is 16 (departing) + 2 port + header. Ports
+/// 1 and 4 are linked, and 2 and 3. What arrives at port 5 goes to 1 and 2, at 3 to 6.
 fn forked(at_4: &[Action]) -> Vec<Record> {
     let at = |port, actions: &[Action]| rule(0, 1, [port, 7], ANY, actions);
     vec![
@@ -125,13 +125,17 @@ fn choices() -> Vec<RouteCase> {
     ]
 }
 
-/// The longest routes of every width: 898 states at N = 10 with port width 4.
+/// The longest routes and loops of every width: 897 and 896 steps at N = 10 with port width 4.
 fn longest() -> Vec<RouteCase> {
     let case = |of: Widths| {
         let name = format!("longest, widths {} {} {}", of.h, of.p, of.w);
-        let long = winding(of);
+        let (long, round) = (winding(of), looping(of));
         let (start, end) = (long.route[0], long.route[long.route.len() - 1]);
-        [found(&name, &long.records, &long.route), none(&name, &long.records, end, start)]
+        [
+            found(&name, &long.records, &long.route),
+            none(&name, &long.records, end, start),
+            found(&name, &round.records, &round.route),
+        ]
     };
     all_widths().into_iter().flat_map(case).collect()
 }

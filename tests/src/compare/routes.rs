@@ -74,8 +74,8 @@ pub fn of_largest(
     Ok(tally)
 }
 
-/// Long routes of every width: in networks whose one route winds through all links, but for a few rules
-/// that do anything.
+/// Long routes of every width: in networks whose one route winds through all links, but for a few
+/// rules that do anything.
 pub fn of_winding(
     one: &dyn Gate,
     other: &dyn Gate,

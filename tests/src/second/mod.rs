@@ -1,5 +1,6 @@
 //! The second implementation, written from the rules alone. Records become structures, steps become
-//! sets of states, and a policy's truth is worked out on demand by recursion over its formula.
+//! sets of states, and a policy's truth is worked out on demand by recursion over its formula. A route
+//! is found forwards, by the states at the end of one step, of two, and so on.
 
 mod calls;
 mod commands;
