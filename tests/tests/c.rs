@@ -1,7 +1,7 @@
 //! The header and the example in C: built without a warning against the static library, and run.
 
 use std::process::Command;
-use wegbaro_tests::build::{printed_of_k, root, run, Folder, STRICT};
+use wegbaro_tests::build::{printed_in_c, root, run, Folder, STRICT};
 
 /// Builds the example with a compiler in a language of a standard, and runs it.
 fn example_in(compiler: &str, language: &str, standard: &str) {
@@ -14,7 +14,7 @@ fn example_in(compiler: &str, language: &str, standard: &str) {
     run(&mut compiler);
 
     let ran = run(&mut Command::new(&example));
-    assert_eq!(String::from_utf8_lossy(&ran.stdout), printed_of_k(), "{standard}");
+    assert_eq!(String::from_utf8_lossy(&ran.stdout), printed_in_c(), "{standard}");
     assert_eq!(String::from_utf8_lossy(&ran.stderr), "", "{standard}");
 }
 
