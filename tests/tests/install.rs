@@ -138,9 +138,15 @@ fn the_installed_programs() {
     let wegbaro = || Command::new(prefix.path().join("bin/wegbaro"));
     let said = printed(wegbaro().arg("--version"));
     assert!(said.contains(&version()), "{said}");
-    let ran = wegbaro().arg("run").arg(root().join("examples/k/network.txt")).output().unwrap();
+    let k = root().join("examples/k/network.txt");
+    let ran = wegbaro().arg("run").arg(&k).output().unwrap();
     let answers = String::from_utf8(ran.stdout).unwrap();
     assert!(is_shown(&answers), "README.md shows something else than\n{answers}");
+    let states = ["0:1 in header 0", "1:2 out header 0"];
+    let route = printed(wegbaro().arg("route").arg(&k).args(states));
+    assert!(is_shown(&route), "README.md shows something else than\n{route}");
+    let call = format!("wegbaro route examples/k/network.txt '{}' '{}'", states[0], states[1]);
+    assert!(is_shown(&format!("target/rust/release/{call}")), "README.md has not {call}");
 }
 
 /// The symbols that `nm` prints, each with its letter.
