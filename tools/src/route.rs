@@ -63,6 +63,10 @@ pub fn told(source: &Source, form: Form, states: &str) -> Result<Status, Trouble
 
 /// Finds a route from state to state and draws it.
 pub fn drawn(source: &Source, states: &str) -> Result<Status, Trouble> {
+    if source.is_network_cut() {
+        say("no picture, as the input ends within a record\n");
+        return Ok(Status::Faulty);
+    }
     let why = match find(&source.network, ends(source, states)?) {
         Ok(Some(route)) => {
             let graph = route_picture(source, &route).unwrap_or_default();

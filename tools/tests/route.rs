@@ -260,6 +260,8 @@ fn refused_networks() {
     expect(&["route", "-", "2", "x"], b"", 1, "route: refused: row 1, there are no records\n");
     let cut = &k().concat()[..470];
     expect(&["route", "-", "2", "28"], cut, 2, "end: the input ends within a record\n");
+    let short = "no picture, as the input ends within a record\n";
+    complains(&["route", "--dot", "-", "2", "28"], cut, 2, short);
 }
 
 /// The way by which a blocked command breaks a policy is the route in the network that the command
