@@ -1,6 +1,6 @@
 /* Wegbaro: the check call, the command call and the route call, for C (C89 and later) and C++. Link with -lwegbaro.
  *
- * The words used here (record, policy, state, row) are explained in docs/FORMAT.md, installed in share/doc/wegbaro.
+ * The words used here (record, policy, state, route, row) are explained in docs/FORMAT.md, installed in share/doc/wegbaro.
  *
  * Every length, every content and every number is allowed: what is wrong with them is answered as a refusal. Asked of
  * the caller is only what C asks of any function: each pointer is not null, even with length 0, and has its length behind

@@ -80,7 +80,7 @@ pub fn drawn(source: &Source, states: &str) -> Result<Status, Trouble> {
     Ok(Status::Bad)
 }
 
-/// A step of a route: the states, and what takes the one to the other.
+/// A step of a route: the state before it, and what takes the frame on.
 pub struct Step {
     pub from: usize,
     /// The place of the rule, the miss or the link.
