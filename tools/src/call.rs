@@ -211,15 +211,12 @@ impl Words {
 
     /// A state may be one argument or several.
     fn route(&self) -> Result<Task, Trouble> {
-        let [_, file, states @ ..] = &self.plain[..] else {
-            return Err(fault("`route` takes FILE, FROM and TO".to_string()));
+        let (file, states) = match &self.plain[..] {
+            [_, file, states @ ..] if states.len() >= 2 => (file.clone(), states),
+            _ => return Err(fault("`route` takes FILE, FROM and TO".to_string())),
         };
         let states: Vec<_> = states.iter().map(|word| word.to_string_lossy()).collect();
-        if states.len() < 2 {
-            return Err(fault("`route` takes FILE, FROM and TO".to_string()));
-        }
-        let states = states.join(" ");
-        Ok(Task::Route { file: file.clone(), states, dot: self.has("--dot") })
+        Ok(Task::Route { file, states: states.join(" "), dot: self.has("--dot") })
     }
 
     fn generate(&self) -> Result<Task, Trouble> {
