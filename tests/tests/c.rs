@@ -3,7 +3,7 @@
 use std::fs::{self, File};
 use std::path::Path;
 use std::process::Command;
-use wegbaro_tests::build::{printed_of_k, root, run, Folder, STRICT};
+use wegbaro_tests::build::{printed_in_c, root, run, Folder, STRICT};
 
 /// Builds a program with a compiler in a language of a standard.
 fn build(source: &str, built: &Path, [compiler, language, standard]: [&str; 3]) {
@@ -21,7 +21,7 @@ fn example_in(compiler: &str, language: &str, standard: &str) {
     build("examples/c/check.c", &example, [compiler, language, standard]);
 
     let ran = run(&mut Command::new(&example));
-    assert_eq!(String::from_utf8_lossy(&ran.stdout), printed_of_k(), "{standard}");
+    assert_eq!(String::from_utf8_lossy(&ran.stdout), printed_in_c(), "{standard}");
     assert_eq!(String::from_utf8_lossy(&ran.stderr), "", "{standard}");
 }
 
