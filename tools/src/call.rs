@@ -38,8 +38,8 @@ Exit status: 0 the network holds and every command is forwarded, or there is a r
 blocked, no route, or refused by a row; 2 the text or the call is faulty; 3 reading or writing
 failed.
 
-tools/README.md describes the text and the answers; docs/FORMAT.md the records, what a step and a
-policy are, and the rows by which a network or a command is refused.
+tools/README.md describes the text and the answers; docs/FORMAT.md the records, what a state, a
+step, a policy and a route are, and the rows by which a call is refused.
 ";
 
 const TASKS: [&str; 10] = [
