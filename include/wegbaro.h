@@ -1,17 +1,18 @@
-/* Wegbaro: the check call and the command call, for C (C89 and later) and C++. Link with -lwegbaro.
+/* Wegbaro: the check call, the command call and the route call, for C (C89 and later) and C++. Link with -lwegbaro.
  *
- * The words used here (record, policy, state, row) are explained in docs/FORMAT.md, installed in share/doc/wegbaro.
+ * The words used here (record, policy, state, route, row) are explained in docs/FORMAT.md, installed in share/doc/wegbaro.
  *
- * Every length, every content and every n is allowed: what is wrong with them is answered as a refusal. Asked of the
- * caller is only what C asks of any function: each pointer is not null, even with length 0, and has its length in bytes
- * behind it; and the buffers of one call do not overlap.
+ * Every length, every content and every number is allowed: what is wrong with them is answered as a refusal. Asked of
+ * the caller is only what C asks of any function: each pointer is not null, even with length 0, and has its length behind
+ * it, in bytes or, for a list, in entries; and the buffers of one call do not overlap.
  *
- * Memory: everything is in the buffers, which are lent for the call alone. Neither call keeps a pointer, allocates, or
+ * Memory: everything is in the buffers, which are lent for the call alone. No call keeps a pointer, allocates, or
  * remembers an earlier call. On the stack a call needs at most WEGBARO_STACK_BYTES.
  *
  * Threads: the library has no data of its own and calls no function but memcpy, memmove and memset. Calls that have
- * different buffers may run at the same time, in any thread or signal handler. Check calls at the same time may share a
- * store, which they only read; each needs a work buffer of its own. A command call shares its store with no other. */
+ * different buffers may run at the same time, in any thread or signal handler. Check calls and route calls at the same
+ * time may share a store, which they only read; each needs a work buffer of its own, and each route call a list of its
+ * own. A command call shares its store with no other. */
 
 #ifndef WEGBARO_H
 #define WEGBARO_H
@@ -20,13 +21,13 @@
 #include <stddef.h>
 
 /* The library is for x86-64 Linux, where unsigned long has 64 bits and is what <stdint.h>, which C89 has not, calls
- * uint64_t; likewise unsigned char is uint8_t. */
+ * uint64_t; likewise unsigned char is uint8_t and unsigned short uint16_t. */
 #if ULONG_MAX >> 31 >> 31 != 3
 #error "wegbaro.h: unsigned long must have 64 bits, as on x86-64 Linux"
 #endif
 
 /* The version of the library. */
-#define WEGBARO_VERSION "0.2.0"
+#define WEGBARO_VERSION "0.3.0"
 
 /* ---- Sizes ---- */
 
@@ -46,7 +47,13 @@
 /* Bytes of work that are enough for every network: 4,456,448. */
 #define WEGBARO_MOST_WORK_BYTES WEGBARO_WORK_BYTES(32, 10)
 
-/* Bytes of stack that are enough for either call on every input. docs/SPEED.md says how they were measured. */
+/* The least entries of a list for a network's routes: 2^N + 1, with `bits` as above. */
+#define WEGBARO_LIST_ENTRIES(bits) (((size_t)1 << (bits)) + 1)
+
+/* Entries of a list that are enough for every network: 1,025. */
+#define WEGBARO_MOST_LIST_ENTRIES WEGBARO_LIST_ENTRIES(10)
+
+/* Bytes of stack that are enough for every call on every input. docs/SPEED.md says how they were measured. */
 #define WEGBARO_STACK_BYTES 65536
 
 /* ---- Answers ---- */
@@ -59,7 +66,11 @@
 #define WEGBARO_FORWARDED 0 /* the new record count, 0 */
 #define WEGBARO_BLOCKED 1   /* policy, state */
 
-/* The case that both calls have, with its first and second number.
+/* The cases of the route call's answer, with its first and second number. */
+#define WEGBARO_FOUND 0    /* the count of the route's states, 0 */
+#define WEGBARO_NO_ROUTE 1 /* 0, 0 */
+
+/* The case that all calls have, with its first and second number.
  *
  *    number  refused because                                                                place
  *    1       n is 0 or above 641                                                            0
@@ -76,12 +87,15 @@
  *    11      the work buffer is too short                                                   0
  *    12      the command is not 24 bytes, or no well-formed add, modify or delete           0
  *    13      an add of a new rule with 256 present                                          0
+ *    14      the start or the end is not below 2^N                                          0
+ *    15      the list is under 2^N + 1 entries                                              0
  *
- * The check call has 1 to 11. The first that is so is answered: 1 and 2, then the first faulty record with the lowest
- * number of 3 to 10 that is so of it, then 11 to 13. */
+ * The check call has 1 to 11, the command call 1 to 13, the route call 1 to 11, 14 and 15. The first that is so is
+ * answered: 1 and 2, then the first faulty record with the lowest number of 3 to 10 that is so of it, then 11 and those
+ * after it. */
 #define WEGBARO_REFUSED 2 /* number, place */
 
-/* An answer of either call: its case and its two numbers in 64 bits. */
+/* An answer of any call: its case and its two numbers in 64 bits. */
 typedef unsigned long wegbaro_answer;
 
 #ifdef __cplusplus
@@ -135,6 +149,21 @@ wegbaro_answer wegbaro_check(const unsigned char *store, size_t store_len, size_
  * judged like any command. The command is only read. The work buffer is left as by the check call. */
 wegbaro_answer wegbaro_command(unsigned char *store, size_t store_len, size_t n, unsigned char *work, size_t work_len,
                                const unsigned char *given, size_t given_len);
+
+/* The route call: finds how a frame gets from the state `start` to the state `end` in the network of the first n records
+ * of the store. No policy is judged.
+ *
+ * WEGBARO_FOUND     a route: the count of its states, which are the first entries of the list; later entries are
+ *                   untouched.
+ * WEGBARO_NO_ROUTE  no frame gets there. The list is untouched.
+ * WEGBARO_REFUSED   the network was not searched: number and place of the table above. The list is untouched.
+ *
+ * A route has the start first and the end last, and each of its states steps to the next. It has at least one step, so
+ * from a state to itself it is a loop, and at most 2^N. Of all such lists it is one with the fewest steps, and of those
+ * the one that has the smaller state where it first differs from another. The store is only read. The work buffer is left
+ * as by the check call. `list_len` counts entries, not bytes. */
+wegbaro_answer wegbaro_route(const unsigned char *store, size_t store_len, size_t n, unsigned char *work, size_t work_len,
+                             size_t start, size_t end, unsigned short *list, size_t list_len);
 
 #ifdef __cplusplus
 }

@@ -1,4 +1,5 @@
-/* Network K of docs/FORMAT.md: the check call, then its two adds, with a line for each answer as the program prints it. */
+/* Network K of docs/FORMAT.md: the check call, then its two adds, with a line for each answer as the program prints it,
+ * then a route: how header 0 gets from port 1 of switch 0, where it arrives, to port 2 of switch 1, where it leaves. */
 
 #include <stdio.h>
 #include <string.h>
@@ -41,6 +42,8 @@ static unsigned char store[WEGBARO_STORE_BYTES];
 /* K's one policy has 14 nodes, and its N is 1 + 1 + 2 + 1. */
 static unsigned char work[WEGBARO_WORK_BYTES(14, 5)];
 
+static unsigned short list[WEGBARO_LIST_ENTRIES(5)];
+
 /* Prints the check call's answer; whether it is that the network holds. */
 static int print_check(wegbaro_answer answer)
 {
@@ -73,6 +76,27 @@ static void print_command(unsigned int number, wegbaro_answer answer)
     }
 }
 
+/* Prints the route call's answer, with the states of a route. */
+static void print_route(wegbaro_answer answer)
+{
+    unsigned int i;
+
+    switch (wegbaro_case(answer)) {
+    case WEGBARO_FOUND:
+        printf("route");
+        for (i = 0; i < wegbaro_first(answer); i++)
+            printf(" %u", (unsigned int)list[i]);
+        printf("\n");
+        break;
+    case WEGBARO_NO_ROUTE:
+        printf("no route\n");
+        break;
+    default:
+        printf("route refused %u %u\n", wegbaro_first(answer), wegbaro_second(answer));
+        break;
+    }
+}
+
 int main(void)
 {
     size_t n = COUNT(network);
@@ -88,5 +112,6 @@ int main(void)
         if (wegbaro_case(answer) == WEGBARO_FORWARDED)
             n = wegbaro_first(answer);
     }
+    print_route(wegbaro_route(store, sizeof store, n, work, sizeof work, 2, 28, list, COUNT(list)));
     return 0;
 }

@@ -1,16 +1,20 @@
-//! Times the two calls at N = 10: reading, the step plane, and both calls with eight closures.
+//! Times the three calls at N = 10: reading, the step plane, the check and the command with eight
+//! closures, and routes.
+
+mod plain;
 
 use std::hint::black_box;
 use std::time::Instant;
 use wegbaro_tests::formulas::{and, bit, external, not, policy, r, some, tc, Node, X, Y};
-use wegbaro_tests::gate::{Checked, Commanded, Gate, STORE};
+use wegbaro_tests::gate::{Checked, Commanded, Gate, Routed, STORE};
 use wegbaro_tests::library::Library;
-use wegbaro_tests::networks::{largest, largest_without_policies, work_needed};
+use wegbaro_tests::networks::{largest, largest_without_policies, work_needed, Widths};
 use wegbaro_tests::random::Random;
 use wegbaro_tests::records::{add, output, rule, Record};
 use wegbaro_tests::second::network::{Action, Network, Pattern};
 use wegbaro_tests::second::states::{Direction, Point, State, DROP};
-use wegbaro_tests::second::{file, steps, Second};
+use wegbaro_tests::second::{file, routes, steps, Second};
+use wegbaro_tests::winding::winding;
 
 const RUNS: usize = 101;
 const STATES: usize = 1024;
@@ -260,6 +264,113 @@ fn command(records: &[Record]) -> [f64; 2] {
     })
 }
 
+/// A network without policies, the ends of a route, and the route if there is one.
+struct Sought {
+    records: Vec<Record>,
+    ends: [usize; 2],
+    route: Option<Vec<usize>>,
+}
+
+impl Sought {
+    fn new(records: Vec<Record>, ends: [usize; 2]) -> Sought {
+        let steps = steps::all_steps(&file::read(&records).unwrap());
+        let route = routes::find(&steps, ends[0], ends[1]);
+        Sought { records, ends, route }
+    }
+
+    /// In the network of the step plane, from state 2 to a state that is farthest from it.
+    fn in_largest() -> Sought {
+        let records = largest_without_policies(&mut Random::new(2));
+        let steps = steps::all_steps(&file::read(&records).unwrap());
+        let states = |end: &usize| routes::find(&steps, 2, *end).map_or(0, |route| route.len());
+        let farthest = (0..STATES).max_by_key(states).unwrap();
+        Sought::new(records, [2, farthest])
+    }
+
+    /// The longest route.
+    fn longest() -> Sought {
+        let long = winding(Widths { h: 1, p: 4, w: 4 });
+        Sought::new(long.records, [long.route[0], long.route[long.route.len() - 1]])
+    }
+
+    /// In the same network without the rule that changes the header: half of the route's states lead
+    /// from the start, the others to the end.
+    fn none() -> Sought {
+        let Sought { mut records, ends, .. } = Sought::longest();
+        records.retain(|record| record[0] != 4 || record[9] != 2);
+        Sought::new(records, ends)
+    }
+
+    fn name(&self) -> String {
+        match &self.route {
+            Some(route) => format!("route of {} states", route.len()),
+            None => "no route".to_string(),
+        }
+    }
+
+    /// Fails unless a route is the one sought.
+    fn compare(&self, count: Option<usize>, list: &[u16]) {
+        let written = count.map(|count| list[..count].iter().map(|state| usize::from(*state)));
+        assert_eq!(written.map(Vec::from_iter), self.route);
+    }
+
+    /// Without reading: the library, and plain Rust, which has the network parsed.
+    fn beside_plain(&self) -> [f64; 2] {
+        let (store, n) = (store_of(&self.records), self.records.len());
+        let mut work = vec![0; work_needed(&self.records)];
+        let network = file::read(&self.records).unwrap();
+        let mut planes = vec![0; 2 * STATES * WORDS];
+        let [start, end] = self.ends;
+        let mut list = vec![0; STATES + 1];
+        medians(|| {
+            let mut answer = None;
+            let whole = time(|| {
+                answer =
+                    found(Library.route(black_box(&store), n, &mut work, start, end, &mut list));
+            });
+            self.compare(answer, &list);
+            let read = time(|| Library.route(black_box(&store), n, &mut [], start, end, &mut list));
+            let plain = time(|| {
+                fill_arriving(black_box(&network), &mut planes[..STATES * WORDS]);
+                black_box(by_link(&network, &mut planes));
+                answer = plain::route(&planes, start, end, &mut list);
+                black_box(&mut planes).fill(0);
+            });
+            self.compare(answer, &list);
+            [whole - read, plain]
+        })
+    }
+
+    /// The whole call, and a check with the policy that no state is on a loop: one closure.
+    fn beside_check(&self) -> [f64; 2] {
+        let one_closure = policy(0, &[r(X, Y), tc(0, X, X)]);
+        let records = [self.records.clone(), one_closure].concat();
+        let (store, n) = (store_of(&records), records.len());
+        let mut work = vec![0; work_needed(&records)];
+        let [start, end] = self.ends;
+        let mut list = vec![0; STATES + 1];
+        assert!(!matches!(Library.check(&store, n, &mut work), Checked::Refused { .. }));
+        medians(|| {
+            let mut answer = None;
+            let route = time(|| {
+                answer =
+                    found(Library.route(black_box(&store), n, &mut work, start, end, &mut list));
+            });
+            self.compare(answer, &list);
+            [route, time(|| Library.check(black_box(&store), n, &mut work))]
+        })
+    }
+}
+
+/// The count of a route.
+fn found(answer: Routed) -> Option<usize> {
+    match answer {
+        Routed::Found { count } => Some(count),
+        Routed::NoRoute => None,
+        Routed::Refused { .. } => panic!("{answer:?}"),
+    }
+}
+
 fn print(name: &str, [library, other]: [f64; 2], beside: &str) {
     println!("| {name} | {library:.0} | {beside} | {other:.0} | {:.2} |", library / other);
 }
@@ -274,4 +385,13 @@ fn main() {
     let records = guarded();
     print("check, 256 rules and eight closures", check(&records), "second implementation");
     print("command on the same network", command(&records), "second implementation");
+    for sought in [Sought::in_largest(), Sought::longest(), Sought::none()] {
+        let name = sought.name();
+        print(
+            &format!("{name}, less reading"),
+            sought.beside_plain(),
+            "plain Rust on 64-bit words",
+        );
+        print(&name, sought.beside_check(), "check with one closure");
+    }
 }

@@ -1,6 +1,7 @@
-/* Measures the stack of the two calls. Reads records as the program `gate` does: a network, then commands. Each call
- * runs in a thread of its own on a stack filled with a mark, and what it has overwritten is counted down from the frame
- * of the caller. Prints the bytes of each call, then the bound of the header. */
+/* Measures the stack of the three calls. Reads records as the program `gate` does: a network, then commands. The
+ * arguments are the starts and ends of routes, in pairs. Each call runs in a thread of its own on a stack filled with a
+ * mark, and what it has overwritten is counted down from the frame of the caller. Prints the bytes of each call, then
+ * the bound of the header. */
 
 #include <pthread.h>
 #include <stdio.h>
@@ -16,12 +17,15 @@
 static unsigned char input[MOST_INPUT];
 static unsigned char store[WEGBARO_STORE_BYTES];
 static unsigned char work[WEGBARO_MOST_WORK_BYTES];
+static unsigned short list[WEGBARO_MOST_LIST_ENTRIES];
 static unsigned char *stack;
 
-/* A call: the records of the network, and the command, or none for the check call. */
+/* A call: the records of the network, and the command, or the two ends of a route, or neither for the check call. */
 struct call {
     size_t n;
     const unsigned char *command;
+    const size_t *ends;
+    wegbaro_answer answer;
     const unsigned char *frame;
 };
 
@@ -31,9 +35,13 @@ static void *run(void *given)
 
     call->frame = __builtin_frame_address(0);
     if (call->command)
-        wegbaro_command(store, sizeof store, call->n, work, sizeof work, call->command, WEGBARO_RECORD_BYTES);
+        call->answer = wegbaro_command(store, sizeof store, call->n, work, sizeof work, call->command,
+                                       WEGBARO_RECORD_BYTES);
+    else if (call->ends)
+        call->answer = wegbaro_route(store, sizeof store, call->n, work, sizeof work, call->ends[0], call->ends[1], list,
+                                     WEGBARO_MOST_LIST_ENTRIES);
     else
-        wegbaro_check(store, sizeof store, call->n, work, sizeof work);
+        call->answer = wegbaro_check(store, sizeof store, call->n, work, sizeof work);
     return NULL;
 }
 
@@ -50,6 +58,10 @@ static size_t measured(struct call *call)
         fprintf(stderr, "no thread\n");
         exit(1);
     }
+    if (wegbaro_case(call->answer) == WEGBARO_REFUSED) {
+        fprintf(stderr, "refused %u %u\n", wegbaro_first(call->answer), wegbaro_second(call->answer));
+        exit(1);
+    }
     while (*lowest == MARK)
         lowest++;
     return (size_t)(call->frame - lowest);
@@ -60,11 +72,13 @@ static int is_command(unsigned int kind)
     return kind >= 6 && kind <= 8;
 }
 
-int main(void)
+int main(int arguments, char **argument)
 {
     size_t records = fread(input, WEGBARO_RECORD_BYTES, sizeof input / WEGBARO_RECORD_BYTES, stdin);
-    struct call call = {0, NULL, NULL};
+    struct call call = {0, NULL, NULL, 0, NULL};
+    size_t ends[2];
     size_t place;
+    int pair;
 
     if (posix_memalign((void **)&stack, 4096, STACK_BYTES))
         return 1;
@@ -72,6 +86,12 @@ int main(void)
         call.n++;
     memcpy(store, input, sizeof store);
     printf("check %lu\n", (unsigned long)measured(&call));
+    for (pair = 1; pair + 1 < arguments; pair += 2) {
+        ends[0] = strtoul(argument[pair], NULL, 10);
+        ends[1] = strtoul(argument[pair + 1], NULL, 10);
+        call.ends = ends;
+        printf("route %lu\n", (unsigned long)measured(&call));
+    }
     for (place = call.n; place < records; place++) {
         memcpy(store, input, sizeof store);
         call.command = input + place * WEGBARO_RECORD_BYTES;

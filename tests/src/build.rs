@@ -17,9 +17,14 @@ pub fn version() -> String {
     fs::read_to_string(root().join("VERSION")).unwrap().trim_end().to_owned()
 }
 
-/// What `gate` prints on network K and its two adds, and the example in C likewise.
+/// What `gate` prints on network K and its two adds.
 pub fn printed_of_k() -> String {
     fs::read_to_string(root().join("crates/gate/stdout")).unwrap()
+}
+
+/// What the example in C prints: the same, and a route.
+pub fn printed_in_c() -> String {
+    printed_of_k() + "route 2 20 10 28\n"
 }
 
 /// A new folder under the given one, removed with all that is in it when it goes out of scope.

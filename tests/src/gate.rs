@@ -23,10 +23,27 @@ pub enum Commanded {
     Refused { number: usize, place: usize },
 }
 
-/// A gate: the two calls over lent buffers.
+/// The answer of the route call.
+#[derive(Clone, Copy, Debug, PartialEq, Eq)]
+pub enum Routed {
+    Found { count: usize },
+    NoRoute,
+    Refused { number: usize, place: usize },
+}
+
+/// A gate: the three calls over lent buffers.
 pub trait Gate {
     fn check(&self, store: &[u8], n: usize, work: &mut [u8]) -> Checked;
     fn command(&self, store: &mut [u8], n: usize, work: &mut [u8], given: &[u8]) -> Commanded;
+    fn route(
+        &self,
+        store: &[u8],
+        n: usize,
+        work: &mut [u8],
+        start: usize,
+        end: usize,
+        list: &mut [u16],
+    ) -> Routed;
 }
 
 /// A program: whole input to whole output.

@@ -20,3 +20,4 @@ pub mod random;
 pub mod reading;
 pub mod records;
 pub mod second;
+pub mod winding;

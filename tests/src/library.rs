@@ -1,6 +1,6 @@
 //! The proved library, through its crate for Rust, and the program built on it.
 
-use crate::gate::{Checked, Commanded, Gate};
+use crate::gate::{Checked, Commanded, Gate, Routed};
 use std::io::Write;
 use std::path::Path;
 use std::process::{Command, Stdio};
@@ -25,6 +25,22 @@ impl Gate for Library {
                 Commanded::Blocked { policy, state }
             }
             Err(Refusal { row, place }) => Commanded::Refused { number: row, place },
+        }
+    }
+
+    fn route(
+        &self,
+        store: &[u8],
+        n: usize,
+        work: &mut [u8],
+        start: usize,
+        end: usize,
+        list: &mut [u16],
+    ) -> Routed {
+        match wegbaro::route(store, n, work, start, end, list) {
+            Ok(wegbaro::Routed::Found { count }) => Routed::Found { count },
+            Ok(wegbaro::Routed::NoRoute) => Routed::NoRoute,
+            Err(Refusal { row, place }) => Routed::Refused { number: row, place },
         }
     }
 }

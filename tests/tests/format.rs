@@ -1,7 +1,8 @@
-//! What docs/FORMAT.md says of network K: its records, the commands and the changed networks, each
-//! read from the document and held to the proved library.
+//! What docs/FORMAT.md says of network K: its records, the commands, the routes and the changed
+//! networks, each read from the document and held to the proved library.
 
 use std::fs;
+use wegbaro::Refusal;
 use wegbaro_tests::gate::{Checked, Commanded, Gate, STORE};
 use wegbaro_tests::k::k;
 use wegbaro_tests::library::Library;
@@ -88,6 +89,19 @@ fn answer_on_k(command: &str) -> String {
     commanded(Library.command(&mut store, k().len(), &mut work, &record(&bytes(command))))
 }
 
+/// The route call's answer on network K, and the route.
+fn route_in_k(start: &str, end: &str) -> [String; 2] {
+    let [start, end] = [start, end].map(|state| state.parse().unwrap());
+    match wegbaro::Gate::new(&k()).unwrap().route(start, end) {
+        Ok(Some(route)) => {
+            let states: Vec<String> = route.iter().map(u16::to_string).collect();
+            [format!("found {}", route.len()), states.join(", ")]
+        }
+        Ok(None) => ["no route".into(), String::new()],
+        Err(Refusal { row, place }) => [format!("refused {row} {place}"), String::new()],
+    }
+}
+
 #[test]
 fn the_records_of_network_k() {
     assert_eq!(listing(&document()), k());
@@ -137,6 +151,17 @@ fn the_commands() {
     for example in examples {
         let command = example[0].trim_matches('`');
         assert_eq!(answer_on_k(command), example[1], "{command}");
+    }
+}
+
+#[test]
+fn the_routes() {
+    let document = document();
+    let examples = table(&document, "start");
+    assert_eq!(examples.len(), 8, "{examples:?}");
+    for example in examples {
+        let [start, end, answer, route] = example[..] else { panic!("{example:?}") };
+        assert_eq!(route_in_k(start, end), [answer, route], "{start} to {end}");
     }
 }
 

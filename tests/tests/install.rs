@@ -6,7 +6,8 @@ use std::fs;
 use std::path::{Path, PathBuf};
 use std::process::Command;
 use std::sync::Once;
-use wegbaro_tests::build::{printed, printed_of_k, root, run, version, Folder, STRICT};
+use wegbaro_tests::build::{printed, printed_in_c, printed_of_k, root, run, version};
+use wegbaro_tests::build::{Folder, STRICT};
 
 fn folder(name: &str) -> Folder {
     Folder::new(env!("CARGO_TARGET_TMPDIR"), name)
@@ -108,13 +109,13 @@ fn with_pkg_config() {
 
     let shared = example(prefix, built.path(), &["--cflags", "--libs"], &[]);
     let fixed = example(prefix, built.path(), &["--cflags", "--libs", "--static"], &["-static"]);
-    assert_eq!(printed(&mut with_shared(&shared, prefix)), printed_of_k());
-    assert_eq!(printed(&mut Command::new(&fixed)), printed_of_k());
+    assert_eq!(printed(&mut with_shared(&shared, prefix)), printed_in_c());
+    assert_eq!(printed(&mut Command::new(&fixed)), printed_in_c());
 
     // Without the installed library the one needs it, and the other does not.
     make(&["uninstall", &format!("PREFIX={}", prefix.display())]);
     assert!(!with_shared(&shared, prefix).output().unwrap().status.success());
-    assert_eq!(printed(&mut Command::new(&fixed)), printed_of_k());
+    assert_eq!(printed(&mut Command::new(&fixed)), printed_in_c());
 }
 
 /// Whether the README shows these lines, as code.
@@ -137,9 +138,15 @@ fn the_installed_programs() {
     let wegbaro = || Command::new(prefix.path().join("bin/wegbaro"));
     let said = printed(wegbaro().arg("--version"));
     assert!(said.contains(&version()), "{said}");
-    let ran = wegbaro().arg("run").arg(root().join("examples/k/network.txt")).output().unwrap();
+    let k = root().join("examples/k/network.txt");
+    let ran = wegbaro().arg("run").arg(&k).output().unwrap();
     let answers = String::from_utf8(ran.stdout).unwrap();
     assert!(is_shown(&answers), "README.md shows something else than\n{answers}");
+    let states = ["0:1 in header 0", "1:2 out header 0"];
+    let route = printed(wegbaro().arg("route").arg(&k).args(states));
+    assert!(is_shown(&route), "README.md shows something else than\n{route}");
+    let call = format!("wegbaro route examples/k/network.txt '{}' '{}'", states[0], states[1]);
+    assert!(is_shown(&format!("target/rust/release/{call}")), "README.md has not {call}");
 }
 
 /// The symbols that `nm` prints, each with its letter.
@@ -153,13 +160,13 @@ fn symbols(words: &[&str], file: &Path) -> Vec<(String, String)> {
 }
 
 #[test]
-fn the_shared_object_exports_the_two_calls() {
+fn the_shared_object_exports_the_three_calls() {
     let prefix = folder("exports");
     install(prefix.path());
     let object = prefix.path().join("lib/libwegbaro.so");
     let exported = symbols(&["-D", "--defined-only"], &object);
     let names: Vec<&str> = exported.iter().map(|(name, _)| name.as_str()).collect();
-    assert_eq!(names, ["wegbaro_check", "wegbaro_command"]);
+    assert_eq!(names, ["wegbaro_check", "wegbaro_command", "wegbaro_route"]);
 }
 
 /// Calls at the same time would share writable data, and a call of anything else could allocate.

@@ -1,7 +1,7 @@
 //! The proved library and its program against the cases and against the second implementation.
 
 use wegbaro_tests::cases;
-use wegbaro_tests::compare;
+use wegbaro_tests::compare::{self, routes};
 use wegbaro_tests::library::{program, Library};
 use wegbaro_tests::networks::{Sizes, MODEST};
 use wegbaro_tests::second::{self, Second};
@@ -19,6 +19,7 @@ fn every_check_case() {
             case.run(&Library),
             case.without_work().run(&Library),
             case.with_empty_command().run(&Library),
+            case.with_unknown_states().run(&Library),
         ]
     }));
 }
@@ -26,6 +27,11 @@ fn every_check_case() {
 #[test]
 fn every_command_case() {
     expect_all(cases::all_commands().iter().map(|case| case.run(&Library)));
+}
+
+#[test]
+fn every_route_case() {
+    expect_all(cases::routes::cases().iter().map(|case| case.run(&Library)));
 }
 
 #[test]
@@ -49,7 +55,7 @@ fn largest_networks() {
 #[test]
 fn damaged_networks() {
     let tally = compare::damaged_networks(&Second, &Library, 44, 4_000, 6).unwrap();
-    for number in [3, 4, 5, 6, 7, 8, 9, 12] {
+    for number in [3, 4, 5, 6, 7, 8, 9, 12, 14, 15] {
         assert!(tally.refused[number] > 0, "{number}: {tally:?}");
     }
 }
@@ -77,4 +83,26 @@ fn series_of_every_width() {
 #[test]
 fn random_inputs_of_the_program() {
     compare::programs(&second::program, &program, 48, 400).unwrap();
+}
+
+#[test]
+fn routes_of_every_width() {
+    let linked = Sizes { links: 40, rules: 12, policies: 2, nodes: 6 };
+    let tally = routes::of_every_width(&Second, &Library, 51, 3, 12, linked).unwrap();
+    assert!(tally.found > 5_000 && tally.no_route > 10_000, "{tally:?}");
+    for number in [11, 14, 15] {
+        assert!(tally.refused[number] > 100, "{number}: {tally:?}");
+    }
+}
+
+#[test]
+fn routes_of_largest_networks() {
+    let tally = routes::of_largest(&Second, &Library, 52, 40).unwrap();
+    assert!(tally.found > 10 && tally.longest > 4, "{tally:?}");
+}
+
+#[test]
+fn winding_routes() {
+    let tally = routes::of_winding(&Second, &Library, 53, 2, 20).unwrap();
+    assert!(tally.found > 500 && tally.longest > 500, "{tally:?}");
 }

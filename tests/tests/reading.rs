@@ -9,11 +9,13 @@ use wegbaro_tests::reading::sources::{entries, Place, Sources};
 use wegbaro_tests::reading::walk::{walk, Stop};
 
 /// Where the walk ends. What these compute is not believed but proved to be what is meant.
-const STOPS: [Stop; 2] = [
+const STOPS: [Stop; 3] = [
     // `closed-iff` holds the computed closure to `Walk`, `truth-iff` the computed truth to `Truth`.
     Stop::Files("Computed"),
     // Its type says it all: a verdict, with a proof that it is the one that is meant (`Is`).
     Stop::Body("verdict/specs/Judgement", "judgement"),
+    // Likewise the route between two states, or none (`IsIn`).
+    Stop::Body("route/specs/InNet", "routed"),
 ];
 
 fn root() -> PathBuf {

@@ -3,12 +3,12 @@
 mod plain;
 mod worthless;
 
-use wegbaro_tests::cases::{self, CheckCase, CommandCase, ProgramCase};
+use wegbaro_tests::cases::{self, CheckCase, CommandCase, ProgramCase, RouteCase};
 use wegbaro_tests::commands::{command, Wish, FAULTS, SOUND};
-use wegbaro_tests::compare::{self, Tally};
+use wegbaro_tests::compare::{self, routes, Tally};
 use wegbaro_tests::damage::damage;
 use wegbaro_tests::formulas::{and, bit, external, not, policy, r, some, tc, X, Y};
-use wegbaro_tests::gate::{Checked, Commanded, Gate, Lent, MOST_RECORDS, STORE};
+use wegbaro_tests::gate::{Checked, Commanded, Gate, Lent, Routed, MOST_RECORDS, STORE};
 use wegbaro_tests::inputs::random_input;
 use wegbaro_tests::k;
 use wegbaro_tests::networks::{
@@ -17,6 +17,8 @@ use wegbaro_tests::networks::{
 use wegbaro_tests::random::Random;
 use wegbaro_tests::records::{add, delete, link, miss, output, rule, set, widths, Record, ANY};
 use wegbaro_tests::second::{program, Second};
+use wegbaro_tests::winding::{longest, looping, winding};
+use worthless::routes::{Astray, ROUTE_VICES};
 use worthless::{Vice, Worthless, VICES};
 
 /// Fails with every error, one per line.
@@ -25,13 +27,14 @@ fn expect_all(results: impl IntoIterator<Item = Result<(), String>>) {
     assert!(wrong.is_empty(), "{}", wrong.join("\n"));
 }
 
-/// Runs check cases as they are, without work, and through the command call.
+/// Runs check cases as they are, without work, and through the other calls.
 fn run_checks(cases: Vec<CheckCase>) {
     expect_all(cases.iter().flat_map(|case| {
         [
             case.run(&Second),
             case.without_work().run(&Second),
             case.with_empty_command().run(&Second),
+            case.with_unknown_states().run(&Second),
         ]
     }));
 }
@@ -107,6 +110,12 @@ fn truths() {
 }
 
 #[test]
+fn routes_and_rows_14_and_15() {
+    let cases: Vec<RouteCase> = cases::routes::cases();
+    expect_all(cases.iter().map(|case| case.run(&Second)));
+}
+
+#[test]
 fn programs() {
     let cases: Vec<ProgramCase> = cases::programs::cases();
     expect_all(cases.iter().map(|case| case.run(&program)));
@@ -114,7 +123,7 @@ fn programs() {
 
 #[test]
 fn every_row_has_cases() {
-    let mut numbers = [0; 14];
+    let mut numbers = [0; 16];
     for case in cases::all_checks() {
         if let Checked::Refused { number, .. } = case.answer {
             numbers[number] += 1;
@@ -122,6 +131,11 @@ fn every_row_has_cases() {
     }
     for case in cases::all_commands() {
         if let Commanded::Refused { number, .. } = case.answer {
+            numbers[number] += 1;
+        }
+    }
+    for case in cases::routes::cases() {
+        if let Routed::Refused { number, .. } = case.answer {
             numbers[number] += 1;
         }
     }
@@ -239,6 +253,50 @@ fn play(lent: &mut Lent, given: &[u8]) -> bool {
     }
 }
 
+/// Networks of at most two links, since all paths are tried.
+#[test]
+fn routes_are_the_best_of_all_paths() {
+    let mut random = Random::new(18);
+    let few = Sizes { links: 2, rules: 8, policies: 1, nodes: 3 };
+    let (mut found, mut longest, mut none) = (0, 0, 0);
+    for of in compare::widths_up_to(5).into_iter().cycle().take(80) {
+        let records = random_network(&mut random, of, few);
+        let mut lent = lend(&mut random, &records);
+        for start in 0..1 << of.bits() {
+            for (end, best) in plain::routes_from(&records, start).into_iter().enumerate() {
+                let mut list = vec![0; (1 << of.bits()) + 1];
+                let answer =
+                    Second.route(&lent.store, lent.n, &mut lent.work, start, end, &mut list);
+                let Some(best) = best else {
+                    assert_eq!(answer, Routed::NoRoute, "{start} to {end}: {records:?}");
+                    none += 1;
+                    continue;
+                };
+                let entries: Vec<usize> = list.into_iter().map(usize::from).collect();
+                assert_eq!(answer, Routed::Found { count: best.len() }, "{records:?}");
+                assert_eq!(entries[..best.len()], best, "{start} to {end}: {records:?}");
+                found += 1;
+                longest = longest.max(best.len());
+            }
+        }
+    }
+    assert!(found > 2_000 && none > 2_000 && longest > 8, "{found}, {none}, {longest}");
+}
+
+/// No route is longer: see [`longest`].
+#[test]
+fn the_longest_routes() {
+    let most = |bits| {
+        let widths = compare::widths_up_to(bits).into_iter().filter(|of| of.bits() == bits);
+        widths.map(|of| winding(of).route.len()).max().unwrap()
+    };
+    assert_eq!([4, 5, 6, 7, 8, 9, 10].map(most), [10, 26, 58, 114, 226, 450, 898]);
+    for of in all_widths() {
+        assert_eq!(winding(of).route.len(), longest(of), "{of:?}");
+        assert_eq!(looping(of).route.len(), longest(of) - 1, "{of:?}");
+    }
+}
+
 #[test]
 fn malformed_commands_are_refused() {
     let mut random = Random::new(13);
@@ -353,6 +411,15 @@ fn cases_notice_every_vice() {
     }
 }
 
+#[test]
+fn cases_notice_every_vice_of_routes() {
+    let routes = cases::routes::cases();
+    for vice in ROUTE_VICES {
+        let gate = Astray(vice);
+        assert!(routes.iter().any(|case| case.run(&gate).is_err()), "{vice:?}");
+    }
+}
+
 /// The first error of a gate in any comparison.
 fn comparisons_against(gate: &dyn Gate) -> Result<(), String> {
     compare::series(&Second, gate, 21, 40, 5, 16)?;
@@ -371,6 +438,20 @@ fn comparisons_notice_every_vice_but_a_full_table() {
     }
 }
 
+/// The first error of a gate in any comparison of routes.
+fn routes_against(gate: &dyn Gate) -> Result<(), String> {
+    routes::of_winding(&Second, gate, 31, 1, 12)?;
+    routes::of_every_width(&Second, gate, 32, 1, 2, SMALL)?;
+    Ok(())
+}
+
+#[test]
+fn comparisons_notice_every_vice_of_routes() {
+    for vice in ROUTE_VICES {
+        assert!(routes_against(&Astray(vice)).is_err(), "{vice:?}");
+    }
+}
+
 #[test]
 fn comparisons_meet_every_answer() {
     let of_series: Tally = compare::series(&Second, &Second, 24, 60, 5, 16).unwrap();
@@ -379,7 +460,8 @@ fn comparisons_meet_every_answer() {
     let of_damage = compare::damaged_networks(&Second, &Second, 25, 1_500, 6).unwrap();
     assert!(of_damage.holds > 50 && of_damage.violated > 50, "{of_damage:?}");
     assert!(of_damage.forwarded > 50 && of_damage.blocked > 50, "{of_damage:?}");
-    for number in [3, 4, 5, 6, 7, 8, 9, 12] {
+    assert!(of_damage.found > 50 && of_damage.no_route > 50, "{of_damage:?}");
+    for number in [3, 4, 5, 6, 7, 8, 9, 12, 14, 15] {
         assert!(of_damage.refused[number] > 0, "{number}: {of_damage:?}");
     }
     let of_crowd = compare::crowded_networks(&Second, &Second, 29, 60, 5).unwrap();

@@ -1,15 +1,19 @@
-//! The stack that the two calls need on the largest networks is within the bound of the header.
+//! The stack that the three calls need on the largest networks is within the bound of the header.
 
 use std::fs::{self, File};
 use std::path::Path;
 use std::process::Command;
 use wegbaro_tests::build::{printed, root, run, Folder, STRICT};
 use wegbaro_tests::formulas::{all, and, bit, not, or, policy, r, some, tc, Node, X, Y};
-use wegbaro_tests::gate::{Checked, Gate};
+use wegbaro_tests::gate::{Checked, Gate, STORE};
 use wegbaro_tests::library::Library;
-use wegbaro_tests::networks::{largest, largest_without_policies, work_needed};
+use wegbaro_tests::networks::{largest, largest_without_policies, work_needed, Widths};
 use wegbaro_tests::random::Random;
 use wegbaro_tests::records::{add, delete, modify, Record};
+use wegbaro_tests::winding::winding;
+
+/// Starts and ends of routes at N = 10: loops, any two states, and the ends of the winding route.
+const ENDS: [[usize; 2]; 6] = [[2, 2], [543, 543], [2, 1023], [3, 512], [30, 543], [543, 30]];
 
 /// A formula of 32 nodes in which each node but the first has the one before it as operand, so
 /// that working it out goes 32 nodes deep.
@@ -43,6 +47,15 @@ fn chained(first: usize) -> Vec<Record> {
     records
 }
 
+/// A network with a longest route, and with policies as chains.
+fn longest() -> Vec<Record> {
+    let long = winding(Widths { h: 1, p: 4, w: 4 });
+    assert_eq!([long.route[0], long.route[897]], ENDS[4]);
+    let policies = chains().into_iter().enumerate();
+    let policies = policies.flat_map(|(number, nodes)| policy(number as u8, &nodes));
+    long.records.into_iter().chain(policies).collect()
+}
+
 /// A network's records, then commands of every kind on its first and its last rule.
 fn input(network: &[Record]) -> Vec<u8> {
     let rules: Vec<Record> = network.iter().copied().filter(|record| record[0] == 4).collect();
@@ -53,8 +66,9 @@ fn input(network: &[Record]) -> Vec<u8> {
 
 /// Whether no row refuses a network.
 fn is_judged(network: &[Record]) -> bool {
-    let answer =
-        Library.check(&network.concat(), network.len(), &mut vec![0; work_needed(network)]);
+    let mut store = network.concat();
+    store.resize(STORE, 0);
+    let answer = Library.check(&store, network.len(), &mut vec![0; work_needed(network)]);
     !matches!(answer, Checked::Refused { .. })
 }
 
@@ -66,7 +80,9 @@ fn meter(folder: &Path) -> Command {
     compiler.arg(root().join("include")).arg(root().join("tests/c/stack.c"));
     compiler.arg(root().join("target/staticlib/libwegbaro.a")).arg("-o").arg(&built);
     run(&mut compiler);
-    Command::new(built)
+    let mut meter = Command::new(built);
+    meter.args(ENDS.concat().iter().map(usize::to_string));
+    meter
 }
 
 #[test]
@@ -76,9 +92,9 @@ fn within_the_bound() {
     let file = folder.path().join("input");
     let mut random = Random::new(17);
     let networks = (0..8).map(chained).chain((0..4).map(|_| largest(&mut random)));
-    let mut most = [0, 0];
-    for network in networks {
-        assert_eq!(network.len(), 641);
+    let mut most = [0, 0, 0];
+    let networks = networks.inspect(|network| assert_eq!(network.len(), 641));
+    for network in networks.chain([longest()]) {
         assert!(is_judged(&network));
         fs::write(&file, input(&network)).unwrap();
         let lines = printed(meter.stdin(File::open(&file).unwrap()));
@@ -88,11 +104,12 @@ fn within_the_bound() {
             match what {
                 "check" => most[0] = most[0].max(bytes),
                 "command" => most[1] = most[1].max(bytes),
+                "route" => most[2] = most[2].max(bytes),
                 _ => assert!(most.iter().all(|&used| used <= bytes), "{most:?}, {line}"),
             }
         }
     }
+    println!("check {} bytes, command {} bytes, route {} bytes", most[0], most[1], most[2]);
     // A command copies the whole network, so that less was not measured right.
-    println!("check {} bytes, command {} bytes", most[0], most[1]);
-    assert!(most[1] > 641 * 24, "{most:?}");
+    assert!(most[1] > 641 * 24 && most[0] > 0 && most[2] > 0, "{most:?}");
 }

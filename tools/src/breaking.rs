@@ -89,14 +89,14 @@ impl Teller<'_> {
     }
 
     /// A state by its fields, with their names.
-    fn state_words(&self, of: Widths, number: usize) -> String {
+    pub(crate) fn state_words(&self, of: Widths, number: usize) -> String {
         let state = State::numbered(number, of);
         let [switch, port, header] = field_names(&self.source.names, state);
         let direction = direction(state);
         format!("switch {switch}, port {port}, {direction}, header {header}")
     }
 
-    fn state_object(&self, of: Widths, number: usize) -> Object {
+    pub(crate) fn state_object(&self, of: Widths, number: usize) -> Object {
         let state = State::numbered(number, of);
         let [switch, port] = state.point.map(usize::from);
         Object::new()

@@ -17,28 +17,35 @@ wegbaro: judges a ward's network and the commands to its switches
   wegbaro expand FILE       a text with every policy as a formula of the raw forms (or --expand)
   wegbaro explain FILE      the answers of the program gate, on standard input, in words
   wegbaro picture FILE      the switches and links for Graphviz
+  wegbaro route FILE FROM TO
+                            how a frame gets from one state to another
   wegbaro generate KIND     the text of a network; KIND is plod, tree or ring
 
-FILE is a text or has records, and `-` is standard input.
+FILE is a text or has records, and `-` is standard input. FROM and TO are states, by number or by
+fields: `0:1 in header 0` arrives at port 1 of switch 0, and `0:1 out header 0` departs there.
 
-  --json          check, run, session, explain: answers as JSON, one object a line
+  --json          check, run, session, explain, route: answers as JSON, one object a line
   --gate          check, run, session: answers as the program gate prints them
   --records       session: commands come in as records of 24 bytes, not as lines of text
   --rules         picture: with the rules of each switch
+  --dot           route: a picture of it for Graphviz
   --switches N    generate: 2 to 16 switches, 4 if not given
   --flows N       generate: at most 64 random flows, 4 if not given
   --seed N        generate: the same seed gives the same network, 0 if not given
   --help, --version
 
-Exit status: 0 the network holds and every command is forwarded; 1 violated, blocked or refused by
-a row; 2 the text or the call is faulty; 3 reading or writing failed.
+Exit status: 0 the network holds and every command is forwarded, or there is a route; 1 violated,
+blocked, no route, or refused by a row; 2 the text or the call is faulty; 3 reading or writing
+failed.
 
-tools/README.md describes the text and the answers; docs/FORMAT.md the records, what a step and a
-policy are, and the rows by which a network or a command is refused.
+tools/README.md describes the text and the answers; docs/FORMAT.md the records, what a state, a
+step, a policy and a route are, and the rows by which a call is refused.
 ";
 
-const TASKS: [&str; 9] =
-    ["check", "run", "session", "records", "text", "expand", "explain", "picture", "generate"];
+const TASKS: [&str; 10] = [
+    "check", "run", "session", "records", "text", "expand", "explain", "picture", "route",
+    "generate",
+];
 
 /// What is to be done.
 #[derive(Clone, Debug, PartialEq, Eq)]
@@ -53,6 +60,7 @@ pub enum Task {
     Expand(OsString),
     Explain(OsString),
     Picture { file: OsString, rules: bool },
+    Route { file: OsString, states: String, dot: bool },
     Generate { kind: Kind, options: Options, seed: u64 },
 }
 
@@ -93,11 +101,12 @@ pub fn read(arguments: impl IntoIterator<Item = OsString>) -> Result<Call, Troub
     }
     let task = words.task(&name)?;
     words.only(&name, allowed(&name))?;
-    let form = match (words.has("--json"), words.has("--gate")) {
-        (true, true) => return Err(fault("--json and --gate exclude each other".to_string())),
-        (true, false) => Form::Json,
-        (false, true) => Form::Gate,
-        (false, false) => Form::Words,
+    let form = match ["--json", "--gate", "--dot"].map(|option| words.has(option)) {
+        [true, true, _] => return Err(fault("--json and --gate exclude each other".to_string())),
+        [true, _, true] => return Err(fault("--json and --dot exclude each other".to_string())),
+        [true, ..] => Form::Json,
+        [_, true, _] => Form::Gate,
+        _ => Form::Words,
     };
     Ok(Call { task, form })
 }
@@ -109,6 +118,7 @@ fn allowed(task: &str) -> &'static [&'static str] {
         "session" => &["--json", "--gate", "--records"],
         "explain" => &["--json"],
         "picture" => &["--rules"],
+        "route" => &["--json", "--dot"],
         "generate" => &VALUED,
         _ => &[],
     }
@@ -174,6 +184,9 @@ impl Words {
         if name == "generate" {
             return self.generate();
         }
+        if name == "route" {
+            return self.route();
+        }
         let [_, file] = &self.plain[..] else {
             return Err(fault(format!("`{name}` takes one FILE")));
         };
@@ -194,6 +207,16 @@ impl Words {
             "explain" => Task::Explain(file),
             _ => Task::Picture { file, rules: self.has("--rules") },
         })
+    }
+
+    /// A state may be one argument or several.
+    fn route(&self) -> Result<Task, Trouble> {
+        let (file, states) = match &self.plain[..] {
+            [_, file, states @ ..] if states.len() >= 2 => (file.clone(), states),
+            _ => return Err(fault("`route` takes FILE, FROM and TO".to_string())),
+        };
+        let states: Vec<_> = states.iter().map(|word| word.to_string_lossy()).collect();
+        Ok(Task::Route { file, states: states.join(" "), dot: self.has("--dot") })
     }
 
     fn generate(&self) -> Result<Task, Trouble> {

@@ -23,6 +23,11 @@ impl Object {
         self.raw(name, &value.to_string())
     }
 
+    pub fn objects(self, name: &str, values: &[Object]) -> Object {
+        let values: Vec<String> = values.iter().map(Object::to_string).collect();
+        self.raw(name, &format!("[{}]", values.join(",")))
+    }
+
     pub fn numbers(self, name: &str, values: &[usize]) -> Object {
         let values: Vec<String> = values.iter().map(usize::to_string).collect();
         self.raw(name, &format!("[{}]", values.join(",")))
@@ -84,11 +89,12 @@ mod tests {
         let object = Object::new()
             .text("a\"b", "c\\d\n\t\r\u{1}\u{7f}ä")
             .number("n", 7)
-            .object("o", inner)
+            .object("o", inner.clone())
+            .objects("p", &[inner, Object::new()])
             .numbers("l", &[1, 2])
             .and(Object::new().number("m", 8))
             .maybe(None, |object, value| object.number("no", value));
-        let line = r#"{"a\"b":"c\\d\n\t\r\u0001\u007fä","n":7,"o":{"i":1},"l":[1,2],"m":8}"#;
+        let line = r#"{"a\"b":"c\\d\n\t\r\u0001\u007fä","n":7,"o":{"i":1},"p":[{"i":1},{}],"l":[1,2],"m":8}"#;
         assert_eq!(object.to_string(), line);
     }
 }

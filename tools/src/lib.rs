@@ -20,6 +20,7 @@ pub mod picture;
 mod policies;
 pub mod print;
 pub mod program;
+pub mod route;
 pub mod source;
 pub mod standard;
 pub mod steps;

@@ -1,8 +1,9 @@
-//! Reads names, and what they stand for: switches, ports, points, headers and wards.
+//! Reads names, and what they stand for: switches, ports, points, headers, states and wards.
 
 use crate::fault::{nearest, quoted, Fault};
 use crate::names::{Area, Named, Point};
 use crate::parse::{Reader, STATEMENTS};
+use crate::steps::State;
 use crate::tokens::{Statement, Token};
 use crate::widths::{read_pattern, Widths};
 
@@ -220,6 +221,40 @@ impl Reader {
             Some(port) => Ok([port, of.controller()]),
             None => self.pattern(statement, "port", of.p),
         }
+    }
+
+    /// Reads one header by number or name.
+    fn header(&self, of: Widths, statement: &mut Statement) -> Result<u8, Fault> {
+        let token = statement.peek();
+        if let Some(Named::Header([header, care])) = self.names.named(token.text) {
+            if *care != of.headers() {
+                let message = format!("`{}` stands for several headers", quoted(token.text));
+                return Err(token.fault(message));
+            }
+            statement.take();
+            return Ok(*header);
+        }
+        let read = statement.byte("a header", of.headers());
+        read.map_err(|fault| self.with_nearest(statement, fault))
+    }
+
+    /// Reads a packet state: its number, or its point, its direction and its header.
+    pub(crate) fn state(&self, of: Widths, statement: &mut Statement) -> Result<usize, Fault> {
+        let [first, behind] = [0, 1].map(|by| statement.ahead(by).text);
+        if first.is_empty() {
+            return Err(statement.expected("a state"));
+        }
+        if first.starts_with(|c: char| c.is_ascii_digit()) && behind != ":" {
+            return statement.number("a state", of.states() - 1).map(usize::from);
+        }
+        let point = self.point(of, statement)?;
+        let departing = statement.accept("out");
+        if !departing && !statement.accept("in") {
+            return Err(statement.expected("`in` or `out`"));
+        }
+        statement.expect("header")?;
+        let header = self.header(of, statement)?;
+        Ok(State { departing, point, header }.number(of))
     }
 
     /// Value and care of a header pattern.

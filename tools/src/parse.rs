@@ -120,6 +120,19 @@ pub fn parse_command(line: &str, widths: Widths, names: &Names) -> Result<Record
     }
 }
 
+/// The two states of a call, each by its number or its fields.
+pub fn parse_states(text: &str, widths: Widths, names: &Names) -> Result<[usize; 2], Fault> {
+    let reader = Reader::with(widths, names.clone());
+    let mut found = statements(text);
+    let [statement] = &mut found[..] else {
+        return Err(Place { line: 1, column: 1 }.fault(1, "expected two states on one line"));
+    };
+    statement.sound()?;
+    let states = [reader.state(widths, statement)?, reader.state(widths, statement)?];
+    statement.finish()?;
+    Ok(states)
+}
+
 /// Why a statement was not read.
 #[derive(Clone, Debug)]
 pub enum Unread {

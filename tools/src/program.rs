@@ -6,6 +6,7 @@ use crate::judging;
 use crate::parse::expand;
 use crate::picture::picture;
 use crate::print::print;
+use crate::route;
 use crate::source::{self, fault_trouble, name, Source};
 use crate::standard::{self, say};
 use crate::trouble::{Status, Trouble};
@@ -72,6 +73,16 @@ fn done(call: Call) -> Result<Status, Trouble> {
         }
         Task::Explain(file) => judging::explain(&Source::of(&file)?, form, &answers()?),
         Task::Picture { file, rules } => drawn(&file, rules),
+        Task::Route { file, states, dot } => {
+            let source = noted(Source::of(&file)?);
+            if !source.commands.is_empty() {
+                say("note: the route is that of the network before the file's commands\n");
+            }
+            match dot {
+                true => route::drawn(&source, &states),
+                false => route::told(&source, form, &states),
+            }
+        }
         Task::Generate { kind, options, seed } => written(&generate(kind, options, seed)),
     }
 }

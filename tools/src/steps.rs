@@ -54,7 +54,7 @@ impl<'a> Network<'a> {
 
     /// How many states there are.
     pub fn states(&self) -> usize {
-        1 << self.widths.bits()
+        self.widths.states().into()
     }
 
     /// The other end of the link at a point.
@@ -102,17 +102,20 @@ impl<'a> Network<'a> {
             return self.other_end(state.point).map(arrive).into_iter().collect();
         }
         match self.acting(state) {
-            Some(place) => self.copies(&self.records[place], state),
+            Some(place) => {
+                self.copies(&self.records[place], state).into_iter().map(|(_, copy)| copy).collect()
+            }
             None => vec![],
         }
     }
 
-    /// The copies that a record's actions send of an arriving state.
-    fn copies(&self, record: &Record, state: State) -> Vec<State> {
+    /// The copies that a record's actions send of an arriving state, each with its action's number
+    /// from 1.
+    fn copies(&self, record: &Record, state: State) -> Vec<(usize, State)> {
         let [switch, _] = state.point;
         let mut header = state.header;
         let mut copies = vec![];
-        for action in record[9..21].chunks(3).take(record[8].into()) {
+        for (number, action) in (1..).zip(record[9..21].chunks(3)).take(record[8].into()) {
             let [kind, value, care] = [action[0], action[1], action[2]];
             if kind == 2 {
                 header = header & !care | value;
@@ -121,10 +124,23 @@ impl<'a> Network<'a> {
             let ports = (0..=self.widths.controller()).filter(|port| port & care == value);
             let all = care == self.widths.controller();
             for port in ports.filter(|port| all || self.is_ordinary(*port)) {
-                copies.push(State { departing: true, point: [switch, port], header });
+                copies.push((number, State { departing: true, point: [switch, port], header }));
             }
         }
         copies
+    }
+
+    /// What takes one state to the next: the place of the record, and for a rule or a miss with
+    /// several actions the number of the one that sends the frame there.
+    pub fn carrier(&self, from: State, to: State) -> Option<(usize, Option<usize>)> {
+        if from.departing {
+            let place = self.records.iter().position(|record| ends_at(record, from.point))?;
+            return Some((place, None));
+        }
+        let place = self.acting(from)?;
+        let copies = self.copies(&self.records[place], from);
+        let (number, _) = copies.into_iter().find(|(_, copy)| *copy == to)?;
+        Some((place, Some(number).filter(|_| self.records[place][8] > 1)))
     }
 
     /// Whether one state steps to another.
@@ -132,6 +148,11 @@ impl<'a> Network<'a> {
         let next = self.next(State::numbered(from, self.widths));
         next.iter().any(|state| state.number(self.widths) == to)
     }
+}
+
+/// Whether a record is a link that ends at a point.
+fn ends_at(record: &Record, point: Point) -> bool {
+    record[0] == 2 && (record[1..3] == point || record[3..5] == point)
 }
 
 fn priority_of(record: &Record) -> u16 {

@@ -1,6 +1,7 @@
 //! The truth of a policy's nodes for every pair of states, and the Y that goes with a state.
 
 use crate::formula::Node;
+use crate::route;
 use crate::steps::{Network, State};
 
 /// The states for which something is true, a bit each.
@@ -52,12 +53,13 @@ impl Plane {
 /// The truth of each node of a policy.
 #[derive(Clone, Debug)]
 pub struct Truth<'a> {
+    network: Network<'a>,
     nodes: &'a [Node],
     planes: Vec<Plane>,
 }
 
 impl<'a> Truth<'a> {
-    pub fn of(network: Network, nodes: &'a [Node]) -> Truth<'a> {
+    pub fn of(network: Network<'a>, nodes: &'a [Node]) -> Truth<'a> {
         let states = network.states();
         let state = |number| State::numbered(number, network.widths);
         let mut steps = Plane::empty(states);
@@ -68,7 +70,7 @@ impl<'a> Truth<'a> {
         }
         let external: Vec<bool> =
             (0..states).map(|number| network.is_external(state(number).point)).collect();
-        let mut truth = Truth { nodes, planes: vec![] };
+        let mut truth = Truth { network, nodes, planes: vec![] };
         for node in nodes {
             let plane = truth.plane(*node, &steps, &external);
             truth.planes.push(plane);
@@ -125,8 +127,16 @@ impl<'a> Truth<'a> {
         search.reasons
     }
 
-    /// A shortest walk of one or more pairs of a node's plane, both ends included.
+    /// A shortest walk of one or more pairs for which a node is true, both ends included. Where the
+    /// node is a step from X to Y, it is the route that the library finds.
     fn walk(&self, node: usize, from: usize, to: usize) -> Option<Vec<usize>> {
+        match self.nodes[node] {
+            [1, 0, 1] => route::find(self.network.records, [from, to]).ok()?,
+            _ => self.walk_in_plane(node, from, to),
+        }
+    }
+
+    fn walk_in_plane(&self, node: usize, from: usize, to: usize) -> Option<Vec<usize>> {
         let plane = &self.planes[node];
         let mut before: Vec<Option<usize>> = vec![None; plane.0.len()];
         let mut reached = vec![from];

@@ -30,6 +30,11 @@ impl Widths {
         1 + self.h + self.p + self.w
     }
 
+    /// How many states there are.
+    pub fn states(self) -> u16 {
+        1 << self.bits()
+    }
+
     /// The number of the controller's port.
     pub fn controller(self) -> u8 {
         (1 << self.p) - 1

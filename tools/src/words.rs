@@ -4,6 +4,7 @@ use crate::book::Book;
 use crate::causes::{command_cause, kind_words, network_cause, Cause};
 use crate::fault::quoted;
 use crate::json::Object;
+use crate::names::Names;
 use crate::print::print_record;
 use crate::source::{Given, Source};
 use crate::Record;
@@ -91,10 +92,7 @@ impl Teller<'_> {
                 format!("start: violated: {}", self.broken_words(book, *policy, *state))
             }
             Answer::Start(Err(refusal)) => {
-                let cause = self.network_cause(book, *refusal);
-                let place = self.place_words(book, *refusal);
-                let words = refused_words(*refusal, cause.as_ref());
-                format!("start: {words}{place}")
+                format!("start: {}", self.refused_network_words(book, *refusal))
             }
             Answer::Command(number, given, Ok(Commanded::Forwarded { count })) => {
                 let records = if *count == 1 { "record" } else { "records" };
@@ -127,15 +125,8 @@ impl Teller<'_> {
                 self.broken_object(object, book, *policy, *state)
             }
             Answer::Start(Err(refusal)) => {
-                let cause = self.network_cause(book, *refusal);
                 let object = Object::new().text("subject", "start");
-                let line = |place: usize| self.source.lines.get(place).copied();
-                let place = refusal.has_record().then_some(refusal.place);
-                let other = cause.as_ref().and_then(|cause| cause.other);
-                refused_object(object, *refusal, cause.as_ref())
-                    .maybe(place.and_then(line), |object, line| object.number("line", line))
-                    .maybe(other, |object, other| object.number("other", other))
-                    .maybe(other.and_then(line), |object, line| object.number("other_line", line))
+                self.refused_network_object(object, book, *refusal)
             }
             Answer::Command(number, given, Ok(Commanded::Forwarded { count })) => {
                 let object = self.command_object(*number, given).text("answer", "forwarded");
@@ -152,6 +143,30 @@ impl Teller<'_> {
             }
             Answer::Short => Object::new().text("subject", "end").text("answer", "short"),
         }
+    }
+
+    /// A refused network: the row, its cause, and where the record stands.
+    pub(crate) fn refused_network_words(&self, book: &Book, refusal: Refusal) -> String {
+        let cause = self.network_cause(book, refusal);
+        let place = self.place_words(book, refusal);
+        refused_words(refusal, cause.as_ref()) + &place
+    }
+
+    /// The same as fields of an object.
+    pub(crate) fn refused_network_object(
+        &self,
+        object: Object,
+        book: &Book,
+        refusal: Refusal,
+    ) -> Object {
+        let cause = self.network_cause(book, refusal);
+        let line = |place: usize| self.source.lines.get(place).copied();
+        let place = refusal.has_record().then_some(refusal.place);
+        let other = cause.as_ref().and_then(|cause| cause.other);
+        refused_object(object, refusal, cause.as_ref())
+            .maybe(place.and_then(line), |object, line| object.number("line", line))
+            .maybe(other, |object, other| object.number("other", other))
+            .maybe(other.and_then(line), |object, line| object.number("other_line", line))
     }
 
     fn network_cause(&self, book: &Book, refusal: Refusal) -> Option<Cause> {
@@ -248,11 +263,23 @@ pub fn record_words(source: &Source, record: &Record) -> String {
             }
             (Some("port" | "output"), Ok(port)) => names.port(record[1], port),
             (Some("header" | "set"), Ok(header)) => names.header(header),
+            (Some("link" | "-"), Err(_)) => point_words(names, number),
             _ => number.to_string(),
         };
         words.push(quoted(&name) + sign);
     }
     words.join(" ")
+}
+
+/// A point as it stands in a statement, with the names of its switch and port.
+fn point_words(names: &Names, point: &str) -> String {
+    let numbers = point.split_once(':').map(|(switch, port)| (switch.parse(), port.parse()));
+    match numbers {
+        Some((Ok(switch), Ok(port))) => {
+            format!("{}:{}", names.switch(switch), names.port(switch, port))
+        }
+        _ => point.to_string(),
+    }
 }
 
 fn refused_words(refusal: Refusal, cause: Option<&Cause>) -> String {

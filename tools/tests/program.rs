@@ -42,6 +42,7 @@ fn help_and_version() {
     for task in ["check", "run", "session", "records", "text", "expand", "explain", "picture"] {
         assert!(help.text().contains(&format!("  wegbaro {task} FILE ")), "{task}");
     }
+    assert!(help.text().contains("  wegbaro route FILE FROM TO\n"));
     assert!(help.text().lines().all(|line| line.chars().count() < 100));
     assert_eq!(wegbaro(&["check", "--help"], b"").text(), help.text());
     let version = format!("wegbaro {}\n", env!("CARGO_PKG_VERSION"));
@@ -216,6 +217,12 @@ fn spoiled(random: &mut Random, bytes: &[u8]) -> Vec<u8> {
     spoiled
 }
 
+/// A state in words with a few characters changed, put in or taken out. An argument has no zero byte.
+fn words(random: &mut Random) -> String {
+    let spoiled = spoiled(random, b"0:1 in header 0");
+    String::from_utf8_lossy(&spoiled).replace('\0', "")
+}
+
 /// Whatever the input is, every call ends with one of the four statuses.
 #[test]
 fn spoiled_inputs() {
@@ -227,9 +234,11 @@ fn spoiled_inputs() {
         let bytes = if round % 2 == 0 { &text } else { &k_and_adds() };
         let input = spoiled(&mut random, bytes);
         let task = random.pick(&tasks);
-        let ran = match random.below(4) {
+        let ran = match random.below(6) {
             0 => wegbaro(&["explain", &file("spoiled", &input)], K_LINES.as_bytes()),
             1 => wegbaro(&["session", &file("spoiled", &input)], &input),
+            2 => wegbaro(&["route", "-", "0:1 in header 0", "28"], &input),
+            3 => wegbaro(&["route", "--dot", K, &words(&mut random), "28"], b""),
             _ => wegbaro(&[task, "-"], &input),
         };
         let status = ran.status.filter(|status| (0..=2).contains(status));

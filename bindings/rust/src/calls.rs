@@ -1,4 +1,4 @@
-//! The two calls over lent buffers.
+//! The three calls over lent buffers.
 
 use crate::{Record, Refusal};
 
@@ -19,6 +19,17 @@ extern "C" {
         work_len: usize,
         given: *const u8,
         given_len: usize,
+    ) -> u64;
+    fn wegbaro_route(
+        store: *const u8,
+        store_len: usize,
+        n: usize,
+        work: *mut u8,
+        work_len: usize,
+        start: usize,
+        end: usize,
+        list: *mut u16,
+        list_len: usize,
     ) -> u64;
 }
 
@@ -51,6 +62,18 @@ pub enum Commanded {
         /// The lowest state that would break it.
         state: usize,
     },
+}
+
+/// The answer to the question how a frame gets from one state to another.
+#[derive(Clone, Copy, Debug, PartialEq, Eq, Hash)]
+pub enum Routed {
+    /// There is a route, and it is in the list.
+    Found {
+        /// Its count of states, both ends included.
+        count: usize,
+    },
+    /// No frame gets there.
+    NoRoute,
 }
 
 /// The check call: judges the first `n` records of the store.
@@ -103,6 +126,46 @@ pub fn command(
     }
 }
 
+/// The route call: writes a route from the state `start` to the state `end`, in the network of the
+/// first `n` records of the store, into the list.
+///
+/// A route has both ends and at least one step, each from a state to one that it steps to; from a
+/// state to itself it is a loop. Of all such lists it is one of the shortest, and of those the one
+/// with the smaller state where it first differs from another. No policy is judged.
+///
+/// Store and work buffer are as for [`check`], and the list has at least [`list_entries`] of the
+/// network, or the call is refused. Entries behind the route keep their values; where there is no
+/// route, or the call is refused, all entries do.
+pub fn route(
+    store: &[u8],
+    n: usize,
+    work: &mut [u8],
+    start: usize,
+    end: usize,
+    list: &mut [u16],
+) -> Result<Routed, Refusal> {
+    // SAFETY: as in `check`; `work` and `list` are borrowed mutably, so nothing overlaps.
+    let answer = unsafe {
+        wegbaro_route(
+            store.as_ptr(),
+            store.len(),
+            n,
+            work.as_mut_ptr(),
+            work.len(),
+            start,
+            end,
+            list.as_mut_ptr(),
+            list.len(),
+        )
+    };
+    match parts(answer) {
+        (0, count, 0) => Ok(Routed::Found { count }),
+        (1, 0, 0) => Ok(Routed::NoRoute),
+        (2, row, place) => Err(Refusal { row, place }),
+        _ => unreachable!("no answer of the route call has the code {answer}"),
+    }
+}
+
 /// The case of an answer and its two numbers.
 fn parts(answer: u64) -> (u64, usize, usize) {
     (answer & 3, (answer >> 2 & 0xFFFF) as usize, (answer >> 18) as usize)
@@ -111,12 +174,21 @@ fn parts(answer: u64) -> (u64, usize, usize) {
 /// The bytes of work that these records need: a plane of 2^(2N) bits for each node of the longest
 /// policy, and two more. No bytes, if the first record is not that of widths within their limits.
 pub fn work_bytes(records: &[Record]) -> usize {
-    let Some([1, h @ 1..=6, p @ 2..=4, w @ 0..=4, ..]) = records.first() else { return 0 };
-    let bits = 1 + h + p + w;
-    if bits > 10 {
-        return 0;
-    }
+    let Some(bits) = state_bits(records) else { return 0 };
     (longest_policy(records) + 2) * ((1 << (2 * bits)) / 8)
+}
+
+/// The entries that a list for any route of these records needs: 2^N + 1. No entries, if the first
+/// record is not that of widths within their limits.
+pub fn list_entries(records: &[Record]) -> usize {
+    state_bits(records).map_or(0, |bits| (1 << bits) + 1)
+}
+
+/// The bits of a state, N, if the first record is that of widths within their limits.
+fn state_bits(records: &[Record]) -> Option<u8> {
+    let Some([1, h @ 1..=6, p @ 2..=4, w @ 0..=4, ..]) = records.first() else { return None };
+    let bits = 1 + h + p + w;
+    (bits <= 10).then_some(bits)
 }
 
 /// The nodes of the longest policy, at most 32.

@@ -1,7 +1,7 @@
 //! A gate that owns its buffers.
 
-use crate::{check, command, work_bytes, Checked, Commanded, Record, Refusal};
-use crate::{RECORD_BYTES, STORE_BYTES};
+use crate::{check, command, list_entries, route, work_bytes};
+use crate::{Checked, Commanded, Record, Refusal, Routed, RECORD_BYTES, STORE_BYTES};
 use std::fmt;
 
 /// A network, and the buffers in which commands to it are judged.
@@ -50,6 +50,16 @@ impl Gate {
             self.verdict = Checked::Holds;
         }
         Ok(answer)
+    }
+
+    /// The states of a route from one state to another, as [`route`] finds it, or none where no
+    /// frame gets there. Only row 14 can refuse it.
+    pub fn route(&mut self, start: usize, end: usize) -> Result<Option<Vec<u16>>, Refusal> {
+        let mut list = vec![0; list_entries(self.records())];
+        let answer = route(&self.store, self.count, &mut self.work, start, end, &mut list)?;
+        let Routed::Found { count } = answer else { return Ok(None) };
+        list.truncate(count);
+        Ok(Some(list))
     }
 
     /// The network's records.

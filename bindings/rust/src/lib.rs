@@ -1,15 +1,17 @@
-//! A forwarding gate for hospital ward switches: the two calls of the proved library for Rust.
+//! A forwarding gate for hospital ward switches: the three calls of the proved library for Rust.
 //!
 //! A network is a list of records of 24 bytes: the widths, links, what a switch does with a frame
 //! that no rule matches, rules, and policies. The **check call** judges a network. The **command
 //! call** judges the network that an add, a modify or a delete would leave, and carries the command
-//! out only if no policy is broken then. `docs/FORMAT.md` describes the records, byte by byte.
+//! out only if no policy is broken then. The **route call** finds how a frame gets from one state to
+//! another. `docs/FORMAT.md` describes the records and the states, byte by byte and bit by bit.
 //!
-//! [`Gate`] owns the buffers of both calls, sized to its network. Where no heap is wanted, [`check`]
-//! and [`command`] are the same calls over lent buffers.
+//! [`Gate`] owns the buffers of the calls, sized to its network. Where no heap is wanted, [`check`],
+//! [`command`] and [`route`] are the same calls over lent buffers.
 //!
 //! Network K has two switches and one policy, that header 1 never leaves. Its first add would let
-//! header 1 out; the second lets header 0 alone pass:
+//! header 1 out; the second lets header 0 alone pass. Header 0 gets from port 1 of switch 0, where
+//! it arrives, to port 2 of switch 1, where it leaves, but not back:
 //!
 //! ```
 //! use wegbaro::{Checked, Commanded, Gate, Record};
@@ -47,6 +49,9 @@
 //! let second = record(&[6, 0, 5, 0, 0, 0, 0, 1, 1, 1, 2, 3]);
 //! assert_eq!(gate.command(&second)?, Commanded::Forwarded { count: 21 });
 //! assert_eq!(gate.records().len(), 21);
+//!
+//! assert_eq!(gate.route(2, 28)?, Some(vec![2, 20, 10, 28]));
+//! assert_eq!(gate.route(28, 2)?, None);
 //! # Ok::<(), wegbaro::Refusal>(())
 //! ```
 //!
@@ -59,7 +64,8 @@ mod calls;
 mod gate;
 mod refusal;
 
-pub use calls::{check, command, work_bytes, Checked, Commanded};
+pub use calls::{check, command, route, Checked, Commanded, Routed};
+pub use calls::{list_entries, work_bytes};
 pub use gate::Gate;
 pub use refusal::Refusal;
 
@@ -74,6 +80,9 @@ pub const STORE_BYTES: usize = MOST_RECORDS * RECORD_BYTES;
 
 /// Bytes of work that are enough for every network.
 pub const MOST_WORK_BYTES: usize = (32 + 2) * ((1 << 20) / 8);
+
+/// Entries of a list that are enough for every route.
+pub const MOST_LIST_ENTRIES: usize = (1 << 10) + 1;
 
 /// A record, or a command.
 pub type Record = [u8; RECORD_BYTES];

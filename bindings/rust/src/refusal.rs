@@ -4,7 +4,7 @@ use std::error::Error;
 use std::fmt;
 
 /// What each row refuses, from row 1.
-const ROWS: [&str; 13] = [
+const ROWS: [&str; 15] = [
     "there are no records, or more than 641",
     "the store has fewer than 15,384 bytes",
     "a kind is not 1 to 5 or is below the one before, or kind 1 is not once and first",
@@ -19,6 +19,8 @@ const ROWS: [&str; 13] = [
     "the work buffer is too short",
     "the command is not 24 bytes, or not a well-formed add, modify or delete",
     "256 rules are present, and the add is of a new one",
+    "the start or the end is not below 2^N",
+    "the list has fewer than 2^N + 1 entries",
 ];
 
 /// A call that did not judge: the row of the table that refuses it, and its place.
@@ -29,7 +31,7 @@ const ROWS: [&str; 13] = [
 /// ```
 #[derive(Clone, Copy, Debug, PartialEq, Eq, Hash)]
 pub struct Refusal {
-    /// The row, 1 to 13.
+    /// The row, 1 to 15.
     pub row: usize,
     /// The record, from 0, for rows 3 to 10 (where misses are missing, the record behind them, or
     /// the count of records at the end); otherwise 0.
@@ -43,7 +45,7 @@ impl Refusal {
         row.copied().unwrap_or("no row has this number")
     }
 
-    /// Whether the place is a record; rows of the arguments, the work and the command have none.
+    /// Whether the place is a record; rows of a call's other arguments have none.
     pub fn has_record(self) -> bool {
         (3..=10).contains(&self.row)
     }

@@ -1,7 +1,8 @@
-//! The gate that owns its buffers, and the two calls over lent ones.
+//! The gate that owns its buffers, and the three calls over lent ones.
 
-use wegbaro::{check, command, work_bytes, Checked, Commanded, Gate, Record, Refusal};
-use wegbaro::{MOST_WORK_BYTES, STORE_BYTES};
+use wegbaro::{check, command, list_entries, route, work_bytes};
+use wegbaro::{Checked, Commanded, Gate, Record, Refusal, Routed};
+use wegbaro::{MOST_LIST_ENTRIES, MOST_WORK_BYTES, STORE_BYTES};
 use wegbaro_tests::formulas::{external, policy, tc, X};
 use wegbaro_tests::k::{delete_d, first_add, k, k_set, k_with_d, second_add};
 use wegbaro_tests::networks::{all_widths, crowded, random_network, work_needed, MODEST};
@@ -39,6 +40,27 @@ fn a_violated_network_is_mended() {
     assert_eq!(gate.check(), Checked::Violated { policy: 0, state: 3 });
     assert_eq!(gate.command(&add(with_d[7])), Ok(Commanded::Forwarded { count: 22 }));
     assert_eq!(gate.check(), Checked::Holds);
+}
+
+/// Routes are those of the network as it is, whether it holds or not, and asking changes nothing.
+#[test]
+fn routes_of_a_gate() {
+    let mut gate = Gate::new(&k()).unwrap();
+    assert_eq!(gate.route(2, 28), Ok(Some(vec![2, 20, 10, 28])));
+    assert_eq!(gate.route(20, 10), Ok(Some(vec![20, 10])));
+    assert_eq!(gate.route(28, 2), Ok(None));
+    assert_eq!(gate.route(2, 2), Ok(None));
+    assert_eq!(gate.route(6, 28), Ok(None));
+    assert_eq!(gate.route(32, 0), Err(Refusal { row: 14, place: 0 }));
+    assert_eq!(gate.route(0, usize::MAX), Err(Refusal { row: 14, place: 0 }));
+    assert_eq!((gate.check(), gate.records()), (Checked::Holds, &k()[..]));
+    assert_eq!(gate.command(&second_add()), Ok(Commanded::Forwarded { count: 21 }));
+    assert_eq!(gate.route(6, 28), Ok(Some(vec![6, 20, 10, 28])));
+
+    let with_d = k_with_d();
+    let mut violated = Gate::new(&[&with_d[..7], &with_d[8..]].concat()).unwrap();
+    assert_eq!(violated.check(), Checked::Violated { policy: 0, state: 3 });
+    assert_eq!(violated.route(3, 29), Ok(Some(vec![3, 21, 11, 29])));
 }
 
 /// Each row that can refuse a gate's network or command.
@@ -85,14 +107,55 @@ fn lent_buffers() {
     assert_eq!(Gate::with_work(&k, 2_047).err(), Some(row(11)));
 }
 
-/// The work is exactly what a network of any widths needs, and never more than the most.
+/// The route call writes the route's entries and no other, and reads neither policy nor list.
 #[test]
-fn work_is_sized_to_the_network() {
+fn lent_lists() {
+    let k = k();
+    let store = store(&k);
+    let mut work = vec![7; 2_049];
+    let mut list = [9; 33];
+    assert_eq!(list_entries(&k), 33);
+    let answer = route(&store, 20, &mut work, 2, 28, &mut list);
+    assert_eq!(answer, Ok(Routed::Found { count: 4 }));
+    assert_eq!(list[..4], [2, 20, 10, 28]);
+    assert_eq!(list[4..], [9; 29]);
+    assert_eq!(work, [vec![0; 2_048], vec![7]].concat());
+
+    let (mut work, mut list) = (vec![7; 2_048], [9; 33]);
+    assert_eq!(route(&store, 20, &mut work, 28, 2, &mut list), Ok(Routed::NoRoute));
+    assert_eq!((list, &work), ([9; 33], &vec![0; 2_048]));
+
+    let mut work = vec![7; 2_048];
+    let mut refused = |store: &[u8], n, bytes, start, end, entries| {
+        let answer = route(store, n, &mut work[..bytes], start, end, &mut list[..entries]);
+        assert_eq!((list, &work), ([9; 33], &vec![7; 2_048]));
+        answer.unwrap_err()
+    };
+    let row = |row| Refusal { row, place: 0 };
+    assert_eq!(refused(&store, 0, 2_048, 2, 28, 33), row(1));
+    assert_eq!(refused(&store[1..], 20, 2_048, 2, 28, 33), row(2));
+    assert_eq!(refused(&[], 20, 0, 32, 32, 0), row(2));
+    assert_eq!(refused(&store, 3, 2_048, 2, 28, 33), Refusal { row: 7, place: 3 });
+    assert_eq!(refused(&store, 20, 2_047, 32, 28, 33), row(11));
+    assert_eq!(refused(&store, 20, 2_048, 32, 28, 32), row(14));
+    assert_eq!(refused(&store, 20, 2_048, 2, 32, 33), row(14));
+    assert_eq!(refused(&store, 20, 2_048, 2, 28, 32), row(15));
+    assert_eq!(refused(&store, 20, 2_048, 28, 2, 0), row(15));
+}
+
+/// The work and the list are exactly what a network of any widths needs, and never more than the
+/// most.
+#[test]
+fn buffers_are_sized_to_the_network() {
     let mut random = Random::new(1);
     for of in all_widths() {
         for network in [random_network(&mut random, of, MODEST), crowded(&mut random, of)] {
             assert_eq!(work_bytes(&network), work_needed(&network));
-            assert!(Gate::new(&network).is_ok());
+            let entries = list_entries(&network);
+            assert!(entries <= MOST_LIST_ENTRIES);
+            let mut gate = Gate::new(&network).unwrap();
+            assert!(gate.route(entries - 2, 0).is_ok());
+            assert_eq!(gate.route(entries - 1, 0), Err(Refusal { row: 14, place: 0 }));
         }
     }
     let mut ward = vec![widths(6, 3, 0), miss(0, &[output(0, 7)])];
@@ -100,9 +163,9 @@ fn work_is_sized_to_the_network() {
     assert_eq!(work_bytes(&ward), MOST_WORK_BYTES);
     assert!(Gate::new(&ward).is_ok());
     for first in [[0; 24], with(ward[0], 1, 7), with(ward[0], 2, 4), [255; 24]] {
-        assert_eq!(work_bytes(&[first]), 0);
+        assert_eq!((work_bytes(&[first]), list_entries(&[first])), (0, 0));
     }
-    assert_eq!(work_bytes(&[]), 0);
+    assert_eq!((work_bytes(&[]), list_entries(&[])), (0, 0));
 }
 
 #[test]
@@ -110,8 +173,10 @@ fn refusals_in_words() {
     let words = |row, place| Refusal { row, place }.to_string();
     assert_eq!(words(1, 0), "refused by row 1: there are no records, or more than 641");
     assert_eq!(words(8, 5), "refused by row 8 at record 5: the same rule stands twice");
-    assert_eq!(words(14, 0), "refused by row 14: no row has this number");
-    let meanings: Vec<&str> = (1..=13).map(|row| Refusal { row, place: 0 }.meaning()).collect();
+    assert_eq!(words(14, 0), "refused by row 14: the start or the end is not below 2^N");
+    assert_eq!(words(15, 0), "refused by row 15: the list has fewer than 2^N + 1 entries");
+    assert_eq!(words(16, 0), "refused by row 16: no row has this number");
+    let meanings: Vec<&str> = (1..=15).map(|row| Refusal { row, place: 0 }.meaning()).collect();
     for (place, meaning) in meanings.iter().enumerate() {
         assert!(!meanings[..place].contains(meaning), "{meaning}");
     }

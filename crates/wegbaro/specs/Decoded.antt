@@ -11,7 +11,10 @@ use Rattle.calls.specs.Check.{checkAnswer, CheckPromised}
 use Rattle.calls.specs.Reference.{Installed, outcomeOf}
 use Rattle.calls.specs.Command.{call, Promised}
 use Rattle.calls.specs.Laws.Bounds.{Fits16, CheckSmall, CommandSmall, check-small, command-small}
-use Rattle.wegbaro.specs.Code.{coded, checkCode, commandCode, CheckCoded, CommandCoded}
+use Rattle.route.specs.Answer.{RouteAnswer}
+use Rattle.route.specs.Call.{RouteCall, routeAnswer, RoutePromised}
+use Rattle.route.specs.Laws.Bounds.{RouteSmall, route-small}
+use Rattle.wegbaro.specs.Code.{coded, checkCode, commandCode, routeCode, CheckCoded, CommandCoded, RouteCoded}
 
 -- its case
 abbrev pub caseOf : ℕ → ℕ
@@ -37,6 +40,12 @@ commandBy zero first second = CommandAnswer.forwarded first
 commandBy (suc zero) first second = CommandAnswer.blocked first second
 commandBy (suc (suc k)) first second = CommandAnswer.refused first second
 
+-- an answer of the route call by its case and numbers: 0 found, count; 1 no route; 2 refused, number, place
+abbrev pub routeBy : ℕ → ℕ → ℕ → RouteAnswer
+routeBy zero first second = RouteAnswer.found first
+routeBy (suc zero) first second = RouteAnswer.noRoute
+routeBy (suc (suc k)) first second = RouteAnswer.refused first second
+
 -- the check call's answer
 unfoldable pub checkDecoded : ℕ → CheckAnswer
 checkDecoded code = checkBy (caseOf code) (firstOf code) (secondOf code)
@@ -44,6 +53,10 @@ checkDecoded code = checkBy (caseOf code) (firstOf code) (secondOf code)
 -- the command call's answer
 unfoldable pub commandDecoded : ℕ → CommandAnswer
 commandDecoded code = commandBy (caseOf code) (firstOf code) (secondOf code)
+
+-- the route call's answer
+unfoldable pub routeDecoded : ℕ → RouteAnswer
+routeDecoded code = routeBy (caseOf code) (firstOf code) (secondOf code)
 
 -- the parts of a code are what was put into it, so that an answer made of them is the one that was coded
 module _ (tag first second : ℕ) (t : tag < 4) (f : Fits16 first) (s : Fits16 second) where
@@ -73,6 +86,12 @@ command-back (CommandAnswer.forwarded m) s = parts-back 0 m 0 (lit< tt) s (lit< 
 command-back (CommandAnswer.blocked p x) s = parts-back 1 p x (lit< tt) (s .0) (s .1) commandBy
 command-back (CommandAnswer.refused k p) s = parts-back 2 k p (lit< tt) (s .0) (s .1) commandBy
 
+route-back : (a : RouteAnswer) → RouteSmall a → routeDecoded (routeCode a) ≡ a
+unfolding routeDecoded
+route-back (RouteAnswer.found m) s = parts-back 0 m 0 (lit< tt) s (lit< tt) routeBy
+route-back RouteAnswer.noRoute s = parts-back 1 0 0 (lit< tt) (lit< tt) (lit< tt) routeBy
+route-back (RouteAnswer.refused k p) s = parts-back 2 k p (lit< tt) (s .0) (s .1) routeBy
+
 -- so it gives back every answer that the check call can give
 pub check-decoded : (store : List ℕ) (n work : ℕ) → checkDecoded (checkCode (checkAnswer store n work)) ≡ checkAnswer store n work
 check-decoded store n work = check-back (checkAnswer store n work) (check-small store n work)
@@ -80,6 +99,10 @@ check-decoded store n work = check-back (checkAnswer store n work) (check-small 
 -- and every answer that the command call can give
 pub command-decoded : (i : Installed) (c : Rec) (work : ℕ) → commandDecoded (commandCode (outcomeOf i c work .answer)) ≡ outcomeOf i c work .answer
 command-decoded i c work = command-back (outcomeOf i c work .answer) (command-small i c work)
+
+-- and every answer that the route call can give
+pub route-decoded : (c : RouteCall) → routeDecoded (routeCode (routeAnswer c)) ≡ routeAnswer c
+route-decoded c = route-back (routeAnswer c) (route-small c)
 
 -- so the exported check call keeps the check call's promise, with the decoded answer
 pub check-promised : {store : List ℕ} {n : ℕ} {work : List ℕ} {code : ℕ} {after : List ℕ} → CheckCoded store n work code after
@@ -96,3 +119,8 @@ command-promised {store} {n} {work} {given} c =
       stores = c .stores;
       works = c .works;
     }
+
+-- and the exported route call the route call's
+pub route-promised : {c : RouteCall} {code : ℕ} {list-after work-after : List ℕ} → RouteCoded c code list-after work-after
+    → RoutePromised c (routeDecoded code) list-after work-after
+route-promised {c} r = record { answered = ap routeDecoded (r .answered) ∙ route-decoded c; lists = r .lists; works = r .works }

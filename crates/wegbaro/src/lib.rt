@@ -1,11 +1,15 @@
-// The two calls for C and Rust, each answer one 64-bit number.
+// The calls for C and Rust, each answer one 64-bit number.
 use calls::Checked;
 use calls::Commanded;
+use route::Routed;
 ghost use mathlib.Core.Path.{_≡_};
 ghost use Prim.Native.Nat.{_<_};
 ghost use Rattle.calls.specs.Answer.{checkAnswerOf, commandAnswerOf};
 ghost use Rattle.calls.specs.Laws.Bounds.{CheckSmall, CommandSmall};
-ghost use Rattle.wegbaro.specs.Code.{coded, checkCode, commandCode, CheckCoded, CommandCoded};
+ghost use Rattle.route.specs.Answer.{routeAnswerOf};
+ghost use Rattle.route.specs.Call.{routeCall};
+ghost use Rattle.route.specs.Laws.Bounds.{RouteSmall};
+ghost use Rattle.wegbaro.specs.Code.{coded, checkCode, commandCode, routeCode, CheckCoded, CommandCoded, RouteCoded};
 
 // A case with its two numbers.
 fn coded(tag: u64, first: usize, second: usize) -> u64
@@ -39,6 +43,18 @@ fn command_code(a: Commanded) -> u64
     }
 }
 
+// The number of an answer of the route call.
+fn route_code(a: Routed) -> u64
+    requires { ⌜ RouteSmall (routeAnswerOf a) ⌝ }
+    ensures { λ r. ⌜ r ≡ routeCode (routeAnswerOf a) ⌝ }
+{
+    match a {
+        Routed::Found { count } => coded(0, count, 0),
+        Routed::NoRoute => coded(1, 0, 0),
+        Routed::Refused { number, place } => coded(2, number, place),
+    }
+}
+
 // The check call.
 #[no_mangle]
 pub extern "C" fn wegbaro_check(store: &[u8], n: usize, work: &mut [u8]) -> u64
@@ -55,4 +71,20 @@ pub extern "C" fn wegbaro_command(store: &mut [u8], n: usize, work: &mut [u8], g
 {
     let a = calls::command(store, n, work, given);
     command_code(a)
+}
+
+// The route call.
+#[no_mangle]
+pub extern "C" fn wegbaro_route(
+    store: &[u8],
+    n: usize,
+    work: &mut [u8],
+    start: usize,
+    end: usize,
+    list: &mut [u16],
+) -> u64
+    ensures { λ r. ⌜ RouteCoded (routeCall (now (store .entry)) n (now (work .entry)) start end (now (list .entry))) r (now (list .exit)) (now (work .exit)) ⌝ }
+{
+    let a = route::route(store, n, work, start, end, list);
+    route_code(a)
 }

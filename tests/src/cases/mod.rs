@@ -8,6 +8,7 @@ pub mod links;
 pub mod misses;
 pub mod policies;
 pub mod programs;
+pub mod routes;
 pub mod rules;
 pub mod starred;
 pub mod steps;
@@ -15,7 +16,7 @@ pub mod truths;
 pub mod widths;
 pub mod work;
 
-use crate::gate::{Checked, Commanded, Gate, Lent, Program, STORE};
+use crate::gate::{Checked, Commanded, Gate, Lent, Program, Routed, STORE};
 use crate::k::k;
 use crate::records::Record;
 use std::fmt::Debug;
@@ -46,6 +47,19 @@ pub struct CommandCase {
     pub given: Vec<u8>,
     pub answer: Commanded,
     pub store_after: Vec<u8>,
+    pub zeroed: usize,
+}
+
+/// A route call with what it must answer, the route it must write and the work it must zero.
+#[derive(Clone, Debug)]
+pub struct RouteCase {
+    pub name: String,
+    pub lent: Lent,
+    pub start: usize,
+    pub end: usize,
+    pub list: Vec<u16>,
+    pub answer: Routed,
+    pub route: Vec<u16>,
     pub zeroed: usize,
 }
 
@@ -84,6 +98,25 @@ impl CheckCase {
         }
     }
 
+    /// What the route call must answer on the same buffers between states that no width has, with a
+    /// list of no entries: the same refusal, or row 14 after a verdict's rows are passed.
+    pub fn with_unknown_states(&self) -> RouteCase {
+        let (number, place) = match self.answer {
+            Checked::Refused { number, place } => (number, place),
+            _ => (14, 0),
+        };
+        RouteCase {
+            name: format!("{}, route of unknown states", self.name),
+            lent: self.lent.clone(),
+            start: 1 << 10,
+            end: 1 << 10,
+            list: vec![],
+            answer: Routed::Refused { number, place },
+            route: vec![],
+            zeroed: 0,
+        }
+    }
+
     /// The case without any work: what rows 1 to 10 refuse is refused alike, the rest by row 11.
     pub fn without_work(&self) -> CheckCase {
         let answer = match self.answer {
@@ -106,6 +139,21 @@ impl CommandCase {
         let answer = gate.command(&mut left.store, left.n, &mut left.work, &self.given);
         same(&self.name, "answer", &answer, &self.answer)?;
         same_bytes(&self.name, "store", &left.store, &self.store_after)?;
+        same_bytes(&self.name, "work", &left.work, &zeroed(&self.lent.work, self.zeroed))
+    }
+}
+
+impl RouteCase {
+    /// Runs the case; an error tells what is wrong.
+    pub fn run(&self, gate: &dyn Gate) -> Result<(), String> {
+        let (mut left, mut list) = (self.lent.clone(), self.list.clone());
+        let (start, end) = (self.start, self.end);
+        let answer = gate.route(&left.store, left.n, &mut left.work, start, end, &mut list);
+        let mut must = self.list.clone();
+        must[..self.route.len()].copy_from_slice(&self.route);
+        same(&self.name, "answer", &answer, &self.answer)?;
+        same(&self.name, "list", &list, &must)?;
+        same_bytes(&self.name, "store", &left.store, &self.lent.store)?;
         same_bytes(&self.name, "work", &left.work, &zeroed(&self.lent.work, self.zeroed))
     }
 }

@@ -57,7 +57,7 @@ impl Document {
         Ok(rows)
     }
 
-    /// The definitions that have to be believed, in their order: part of document 01, file, definitions.
+    /// The definitions that have to be believed, in their order: part of a document, file, definitions.
     pub fn believed(&self) -> Result<Vec<Place>, String> {
         let rows = self.rows("What has to be believed")?;
         let lists: Result<Vec<Vec<Place>>, String> =

@@ -1,10 +1,12 @@
-//! The check call and the command call.
+//! The check call, the command call and the route call.
 
 use super::commands;
 use super::file::{self, Refusal};
 use super::judge::judge;
 use super::network::{Network, Record};
-use crate::gate::{Checked, Commanded, MOST_RECORDS, RECORD, STORE};
+use super::routes;
+use super::steps::all_steps;
+use crate::gate::{Checked, Commanded, Routed, MOST_RECORDS, RECORD, STORE};
 
 /// Judges the first n records of the store.
 pub fn check(store: &[u8], n: usize, work: &mut [u8]) -> Checked {
@@ -29,6 +31,50 @@ pub fn command(store: &mut [u8], n: usize, work: &mut [u8], given: &[u8]) -> Com
     match judge(&left) {
         None => Commanded::Forwarded { count: install(&left, store) },
         Some(breach) => Commanded::Blocked { policy: breach.policy, state: breach.state },
+    }
+}
+
+/// Writes the route from the start to the end, if there is one.
+pub fn route(
+    store: &[u8],
+    n: usize,
+    work: &mut [u8],
+    start: usize,
+    end: usize,
+    list: &mut [u16],
+) -> Routed {
+    let network = match routed(store, n, work, [start, end], list) {
+        Ok(network) => network,
+        Err(Refusal { number, place }) => return Routed::Refused { number, place },
+    };
+    work[..network.work_needed()].fill(0);
+    match routes::find(&all_steps(&network), start, end) {
+        None => Routed::NoRoute,
+        Some(states) => {
+            for (entry, state) in list.iter_mut().zip(&states) {
+                *entry = *state as u16;
+            }
+            Routed::Found { count: states.len() }
+        }
+    }
+}
+
+/// The network in which a route is sought: rows 1 to 11, 14 and 15.
+fn routed(
+    store: &[u8],
+    n: usize,
+    work: &[u8],
+    ends: [usize; 2],
+    list: &[u16],
+) -> Result<Network, Refusal> {
+    let network = admit(store, n, work)?;
+    let states = network.widths.states();
+    if ends.iter().any(|state| *state >= states) {
+        return Err(refusal(14));
+    }
+    match list.len() > states {
+        true => Ok(network),
+        false => Err(refusal(15)),
     }
 }
 

@@ -1,5 +1,6 @@
 //! The second implementation, written from the rules alone. Records become structures, steps become
-//! sets of states, and a policy's truth is worked out on demand by recursion over its formula.
+//! sets of states, and a policy's truth is worked out on demand by recursion over its formula. A route
+//! is found forwards, by the states at the end of one step, of two, and so on.
 
 mod calls;
 mod commands;
@@ -8,12 +9,13 @@ pub mod file;
 mod judge;
 pub mod network;
 mod program;
+pub mod routes;
 pub mod states;
 pub mod steps;
 mod truth;
 
-pub use crate::gate::{Checked, Commanded};
-pub use calls::{check, command};
+pub use crate::gate::{Checked, Commanded, Routed};
+pub use calls::{check, command, route};
 pub use program::program;
 
 use crate::gate::Gate;
@@ -28,5 +30,17 @@ impl Gate for Second {
 
     fn command(&self, store: &mut [u8], n: usize, work: &mut [u8], given: &[u8]) -> Commanded {
         command(store, n, work, given)
+    }
+
+    fn route(
+        &self,
+        store: &[u8],
+        n: usize,
+        work: &mut [u8],
+        start: usize,
+        end: usize,
+        list: &mut [u16],
+    ) -> Routed {
+        route(store, n, work, start, end, list)
     }
 }

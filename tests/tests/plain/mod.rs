@@ -78,6 +78,32 @@ fn closure(pairs: &Table) -> Table {
     }
 }
 
+/// For each end, the best of all paths from the start: the shortest, and of those the smallest.
+pub fn routes_from(records: &[Record], start: usize) -> Vec<Option<Vec<usize>>> {
+    let states = states(records);
+    let steps_of = |from| (0..states).filter(|to| is_step(records, from, *to)).collect();
+    let steps: Vec<Vec<usize>> = (0..states).map(steps_of).collect();
+    let mut best = vec![None; states];
+    try_paths(&steps, &mut vec![start], &mut best);
+    best
+}
+
+/// Tries every path that goes on from this one and is at no state twice before its end.
+fn try_paths(steps: &[Vec<usize>], path: &mut Vec<usize>, best: &mut [Option<Vec<usize>>]) {
+    for next in &steps[path[path.len() - 1]] {
+        let again = path.contains(next);
+        path.push(*next);
+        let best_yet = best[*next].as_ref();
+        if best_yet.is_none_or(|yet| (path.len(), &*path) < (yet.len(), yet)) {
+            best[*next] = Some(path.clone());
+        }
+        if !again {
+            try_paths(steps, path, best);
+        }
+        path.pop();
+    }
+}
+
 /// Direction, switch, port and header of a state number.
 fn parts(records: &[Record], state: usize) -> [usize; 4] {
     let Widths { h, p, w } = Widths::of(&records[0]);

@@ -1,7 +1,9 @@
 //! Gates that are wrong in one way each, to see that cases and comparisons notice.
 
+pub mod routes;
+
 use std::cell::Cell;
-use wegbaro_tests::gate::{Checked, Commanded, Gate, STORE};
+use wegbaro_tests::gate::{Checked, Commanded, Gate, Routed, STORE};
 use wegbaro_tests::second::Second;
 
 #[derive(Clone, Copy, Debug, PartialEq, Eq)]
@@ -118,5 +120,17 @@ impl Gate for Worthless {
             self.spoil_work(&work_before, work);
         }
         self.spoil_answer(answer, n)
+    }
+
+    fn route(
+        &self,
+        store: &[u8],
+        n: usize,
+        work: &mut [u8],
+        start: usize,
+        end: usize,
+        list: &mut [u16],
+    ) -> Routed {
+        Second.route(store, n, work, start, end, list)
     }
 }

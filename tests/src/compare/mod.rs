@@ -1,9 +1,11 @@
 //! Two gates run on the same buffers; a difference is told in words.
 
+pub mod routes;
+
 use crate::commands::random_command;
 use crate::damage::damage;
 use crate::formulas::{policy, random_formula};
-use crate::gate::{Checked, Commanded, Gate, Lent, Program, MOST_RECORDS, RECORD, STORE};
+use crate::gate::{Checked, Commanded, Gate, Lent, Program, Routed, MOST_RECORDS, RECORD, STORE};
 use crate::inputs::random_input;
 use crate::networks::{
     all_widths, crowded, guarded_network, largest, random_network, random_rule, work_needed, Sizes,
@@ -19,8 +21,12 @@ pub struct Tally {
     pub violated: usize,
     pub forwarded: usize,
     pub blocked: usize,
+    pub found: usize,
+    pub no_route: usize,
+    /// States of the longest route.
+    pub longest: usize,
     /// By number, from 1.
-    pub refused: [usize; 14],
+    pub refused: [usize; 16],
 }
 
 impl Tally {
@@ -37,6 +43,17 @@ impl Tally {
             Commanded::Forwarded { .. } => self.forwarded += 1,
             Commanded::Blocked { .. } => self.blocked += 1,
             Commanded::Refused { number, .. } => self.refused[number] += 1,
+        }
+    }
+
+    fn routed(&mut self, answer: Routed) {
+        match answer {
+            Routed::Found { count } => {
+                self.found += 1;
+                self.longest = self.longest.max(count);
+            }
+            Routed::NoRoute => self.no_route += 1,
+            Routed::Refused { number, .. } => self.refused[number] += 1,
         }
     }
 }
@@ -142,7 +159,7 @@ pub fn largest_networks(
     Ok(tally)
 }
 
-/// Checks and commands on damaged networks of widths up to so many bits.
+/// Checks, commands and routes on damaged networks of widths up to so many bits.
 pub fn damaged_networks(
     one: &dyn Gate,
     other: &dyn Gate,
@@ -162,6 +179,10 @@ pub fn damaged_networks(
         tally.checked(same_check(one, other, &lent)?);
         let given = random_command(&mut random, &sound);
         tally.commanded(same_command(one, other, &lent, &given)?.0);
+        let ends = routes::random_ends(&mut random, &sound, 1)[0];
+        let entries = routes::random_entries(&mut random, 1 << of.bits());
+        let list = routes::random_list(&mut random, entries);
+        tally.routed(routes::same_route(one, other, &lent, ends, &list)?);
     }
     Ok(tally)
 }

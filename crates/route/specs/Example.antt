@@ -1,0 +1,60 @@
+-- Routes of network K and of small relations, by computation.
+use mathlib.Core.Path.{_≡_, refl, ap, subst}
+use mathlib.Core.Bool.{Bool, _&&_, _||_}
+use mathlib.Core.List.{List, [], _∷_, flatMap}
+use mathlib.Core.Option.{Option, none, some}
+use Prim.Native.Nat.{ℕ, _+_, _%_}
+use native.Mathlib.Decide.{decLt}
+use lib.Dec.{eqb}
+use lib.ListN.{getD}
+use Rattle.planes.specs.Bit.{bitOf}
+use Rattle.planes.specs.Tabulated.{gridTest, tab}
+use Rattle.closure.specs.Walk.{Walk}
+use Rattle.records.specs.Lists.{keep, any, member, from}
+use Rattle.records.specs.Record.{ofKind, priority, endsAt, linked}
+use Rattle.records.specs.Widths.{states, widthsOf}
+use Rattle.records.specs.State.{state, headerOf, portOf, switchOf, directionOf, ordinary}
+use Rattle.records.specs.Pattern.{ternary, matches, putBits}
+use Rattle.records.specs.NetK.{record24, node, A, B, policy0, K}
+use Rattle.actions.specs.Chosen.{ruleMatches, outranked, best, orMiss, chosen}
+use Rattle.actions.specs.Actions.{reached, copies, sent}
+use Rattle.steps.specs.Step.{across, next, Step, external}
+use Rattle.truth.specs.Computed.{anyBelow}
+use Rattle.verdict.specs.Computed.{tableOf, firstFrom}
+use Rattle.route.specs.Computed.{isAway, isOnward, fartherAt, distances, nextState, onward, routeBy, routeOf}
+use Rattle.route.specs.InNet.{RouteIn, IsIn, computed, routedFrom, routed, route, route-is-meant}
+
+-- all that the examples compute with
+unfoldable computing : Unit {0}
+unfolding flatMap bitOf gridTest tab keep any member from ofKind priority endsAt linked states widthsOf state headerOf portOf switchOf directionOf ordinary ternary matches putBits record24 node A B policy0 K ruleMatches outranked best orMiss chosen reached copies sent across next external tableOf anyBelow firstFrom isAway isOnward fartherAt distances nextState onward routeBy routeOf computed routedFrom routed route decLt
+computing = tt
+
+-- from 2 to 28 by way of 20 and 10; from 28 to 2 there is none
+routes-of-K : route K 2 28 ∷ route K 28 2 ∷ [] ≡ some (2 ∷ 20 ∷ 10 ∷ 28 ∷ []) ∷ none ∷ []
+unfolding computing
+routes-of-K = refl
+
+-- the route from 2 to 28
+from-2 : RouteIn K 2 28 (2 ∷ 20 ∷ 10 ∷ 28 ∷ [])
+from-2 = subst (IsIn K 2 28) (ap (λ (l : List (Option (List ℕ))). getD l 0 none) routes-of-K) (route-is-meant K 2 28)
+
+-- no walk leads from 28 to 2
+from-28 : Walk (states (widthsOf K)) (Step K) 28 2 → ⊥
+from-28 = subst (IsIn K 28 2) (ap (λ (l : List (Option (List ℕ))). getD l 1 none) routes-of-K) (route-is-meant K 28 2)
+
+-- a ring of three, a chain with a short cut from 0 to 2, and steps by one or two
+unfoldable ring : ℕ → ℕ → Bool
+ring x y = eqb y ((x + 1) % 3)
+
+unfoldable shortCut : ℕ → ℕ → Bool
+shortCut x y = eqb y (x + 1) || (eqb x 0 && eqb y 2)
+
+unfoldable oneOrTwo : ℕ → ℕ → Bool
+oneOrTwo x y = eqb y (x + 1) || eqb y (x + 2)
+
+-- from a state to itself: all three and back, count + 1 states; fewest before smallest; among the fewest the smallest first differing state
+small-cases :
+    routeOf 3 ring 0 0 ∷ routeOf 4 shortCut 0 3 ∷ routeOf 5 oneOrTwo 0 3 ∷ routeOf 5 oneOrTwo 3 0 ∷ []
+    ≡ some (0 ∷ 1 ∷ 2 ∷ 0 ∷ []) ∷ some (0 ∷ 2 ∷ 3 ∷ []) ∷ some (0 ∷ 1 ∷ 3 ∷ []) ∷ none ∷ []
+unfolding computing ring shortCut oneOrTwo
+small-cases = refl

@@ -1,0 +1,148 @@
+// The search for a route over the step plane at the front of the work buffer, whose lines have pitch bytes: distances backwards
+// from the end, then the route forwards by the smallest state that is one step nearer.
+ghost use mathlib.Core.Path.{_≡_};
+ghost use Prim.Native.Nat.{ℕ, _+_, _*_, _<_, _≤_};
+ghost use lib.ListN.{length, getD};
+ghost use Rattle.planes.specs.Plane.{cell};
+ghost use Rattle.planes.specs.Lines.{Put};
+ghost use Rattle.route.specs.Search.{Searchable, Marked, Advanced, Measured, Nearer, Writable, routeAlong, Drawn};
+
+// x steps to y.
+fn is_step(work: &[u8], pitch: usize, x: usize, y: usize) -> bool
+    requires { ⌜ Searchable pitch (now work) × (x < pitch * 8) × (y < pitch * 8) ⌝ }
+    ensures { λ r. ⌜ r ≡ cell (now (work .entry)) 0 pitch x y ⌝ }
+{
+    planes::get_at(work, x * pitch, y)
+}
+
+// Gives the distance k + 1 to each state without one that steps to x.
+fn mark(work: &[u8], pitch: usize, distances: &mut [u16; 1024], x: usize, k: usize)
+    requires { ⌜ Searchable pitch (now work) × (x < pitch * 8) × (k < 1024) ⌝ }
+    requires { ⌜ length (now distances) ≡ 1024 ⌝ }
+    ensures { λ _. ⌜ Marked (now (work .entry)) pitch x k (pitch * 8) (now (distances .entry)) (now (distances .exit)) ⌝ }
+{
+    let states = pitch * 8;
+    let distance = (k + 1) as u16;
+    let mut y: usize = 0;
+    while y < states {
+        if distances[y] == 0 {
+            if is_step(work, pitch, y, x) {
+                distances[y] = distance;
+            }
+        }
+        y += 1;
+    }
+}
+
+// Goes one step back from each state at the distance k, and answers whether there is one.
+fn advance(work: &[u8], pitch: usize, distances: &mut [u16; 1024], k: usize) -> bool
+    requires { ⌜ Searchable pitch (now work) × (1 ≤ k) × (k < 1024) ⌝ }
+    requires { ⌜ length (now distances) ≡ 1024 ⌝ }
+    ensures { λ r. ⌜ Advanced (now (work .entry)) pitch k (pitch * 8) (now (distances .entry)) r (now (distances .exit)) ⌝ }
+{
+    let states = pitch * 8;
+    let distance = k as u16;
+    let mut some = false;
+    let mut x: usize = 0;
+    while x < states {
+        if distances[x] == distance {
+            mark(work, pitch, distances, x, k);
+            some = true;
+        }
+        x += 1;
+    }
+    some
+}
+
+// Works out the distances to the end, until the start has one or no state is farther.
+fn measure(work: &[u8], pitch: usize, distances: &mut [u16; 1024], start: usize, end: usize)
+    requires { ⌜ Searchable pitch (now work) × (start < pitch * 8) × (end < pitch * 8) ⌝ }
+    requires { ⌜ (length (now distances) ≡ 1024) × ((x : ℕ) → getD (now distances) x 0 ≡ 0) ⌝ }
+    ensures { λ _. ⌜ Measured (now (work .entry)) pitch start end (now (distances .exit)) ⌝ }
+{
+    mark(work, pitch, distances, end, 0);
+    let states = pitch * 8;
+    let mut k: usize = 1;
+    while k < states {
+        if distances[start] != 0 {
+            return;
+        }
+        if !advance(work, pitch, distances, k) {
+            return;
+        }
+        k += 1;
+    }
+}
+
+// The smallest state that x steps to and that is at the distance k.
+fn nearer(work: &[u8], pitch: usize, distances: &[u16; 1024], x: usize, k: usize) -> usize
+    requires { ⌜ Searchable pitch (now work) × (x < pitch * 8) × (k < 1024) ⌝ }
+    ensures { λ r. ⌜ Nearer (now (work .entry)) pitch (now (distances .entry)) x k r ⌝ }
+{
+    let states = pitch * 8;
+    let distance = k as u16;
+    let mut y: usize = 0;
+    while y < states {
+        if distances[y] == distance {
+            if is_step(work, pitch, x, y) {
+                return y;
+            }
+        }
+        y += 1;
+    }
+    states
+}
+
+// Writes the route into the list, by the distances, and answers the count of its states.
+fn write_route(
+    work: &[u8],
+    pitch: usize,
+    distances: &[u16; 1024],
+    start: usize,
+    end: usize,
+    list: &mut [u16],
+) -> usize
+    requires { ⌜ Writable (now work) pitch start end (now distances) (now list) ⌝ }
+    ensures { λ r. ⌜ (r ≡ length (routeAlong (now (work .entry)) pitch (now (distances .entry)) start end)) × Put (routeAlong (now (work .entry)) pitch (now (distances .entry)) start end) 0 r (now (list .entry)) (now (list .exit)) ⌝ }
+{
+    let steps = distances[start] as usize;
+    list[0] = start as u16;
+    let mut x = start;
+    let mut i: usize = 1;
+    while i < steps {
+        x = nearer(work, pitch, distances, x, steps - i);
+        list[i] = x as u16;
+        i += 1;
+    }
+    list[steps] = end as u16;
+    steps + 1
+}
+
+// The same over distances that are not known yet; where there is no route, the count is 0 and the list as before.
+fn draw_by(
+    distances: &mut [u16; 1024],
+    work: &[u8],
+    pitch: usize,
+    start: usize,
+    end: usize,
+    list: &mut [u16],
+) -> usize
+    requires { ⌜ Searchable pitch (now work) × (start < pitch * 8) × (end < pitch * 8) × (pitch * 8 + 1 ≤ length (now list)) ⌝ }
+    requires { ⌜ (length (now distances) ≡ 1024) × ((x : ℕ) → getD (now distances) x 0 ≡ 0) ⌝ }
+    ensures { λ r. ⌜ Drawn (now (work .entry)) pitch start end (now (list .entry)) r (now (list .exit)) ⌝ }
+{
+    measure(work, pitch, distances, start, end);
+    if distances[start] == 0 {
+        return 0;
+    }
+    write_route(work, pitch, distances, start, end, list)
+}
+
+// Draws the route from start to end into the list.
+pub fn draw(work: &[u8], pitch: usize, start: usize, end: usize, list: &mut [u16]) -> usize
+    requires { ⌜ Searchable pitch (now work) × (start < pitch * 8) × (end < pitch * 8) × (pitch * 8 + 1 ≤ length (now list)) ⌝ }
+    ensures { λ r. ⌜ Drawn (now (work .entry)) pitch start end (now (list .entry)) r (now (list .exit)) ⌝ }
+{
+    let mut distances = [0u16; 1024];
+    draw_by(&mut distances, work, pitch, start, end, list)
+}

@@ -1,0 +1,206 @@
+//! Routes worked out by hand, and rows 14 and 15.
+
+use super::starred::{k_with_rule, K_WORK};
+use super::{bare, lend, RouteCase, SPARE};
+use crate::gate::Routed;
+use crate::k::{first_add, k};
+use crate::networks::{all_widths, work_needed, Widths};
+use crate::records::{link, miss, output, rule, set, widths, with, Action, Record, ANY};
+use crate::winding::{looping, winding};
+
+/// What the entries of a list are before the call.
+const BEFORE: u16 = 0xBEEF;
+/// Entries beyond the 2^N + 1 that a list has at least.
+const MORE: usize = 3;
+
+pub fn cases() -> Vec<RouteCase> {
+    [on_k(), loops(), choices(), longest(), states(), lists(), order()].concat()
+}
+
+/// The case of a route; with no states, of there being none.
+fn case(name: &str, records: &[Record], [start, end]: [usize; 2], route: &[usize]) -> RouteCase {
+    let zeroed = work_needed(records);
+    let states = 1 << Widths::of(&records[0]).bits();
+    RouteCase {
+        name: format!("{name}: {start} to {end}"),
+        lent: lend(records, zeroed + SPARE),
+        start,
+        end,
+        list: vec![BEFORE; states + 1 + MORE],
+        answer: match route.len() {
+            0 => Routed::NoRoute,
+            count => Routed::Found { count },
+        },
+        route: route.iter().map(|state| *state as u16).collect(),
+        zeroed,
+    }
+}
+
+fn found(name: &str, records: &[Record], route: &[usize]) -> RouteCase {
+    case(name, records, [route[0], route[route.len() - 1]], route)
+}
+
+fn none(name: &str, records: &[Record], start: usize, end: usize) -> RouteCase {
+    case(name, records, [start, end], &[])
+}
+
+/// A case refused instead.
+fn refused(case: RouteCase, number: usize) -> RouteCase {
+    let answer = Routed::Refused { number, place: 0 };
+    RouteCase { answer, route: vec![], zeroed: 0, ..case }
+}
+
+/// State 2 reaches 20, 10 and 28 only; header 1 gets through as soon as a rule lets it, and the
+/// network is violated then.
+fn on_k() -> Vec<RouteCase> {
+    let route = [2, 20, 10, 28];
+    let mut cases = vec![none("K", &k(), 28, 2), none("K", &k(), 3, 29)];
+    for end in 0..32 {
+        cases.push(match route.iter().position(|state| *state == end) {
+            None | Some(0) => none("K", &k(), 2, end),
+            Some(steps) => found("K", &k(), &route[..=steps]),
+        });
+    }
+    let violated = k_with_rule(with(first_add(), 0, 4));
+    cases.push(found("K violated", &violated, &[3, 21, 11, 29]));
+    cases.push(found("K without its policy", &bare(), &route));
+    cases
+}
+
+/// One switch, header width 1 and port width 2, whose ports 1 and 2 are linked: a state is
+/// 8 (departing) + 2 port + header.
+fn turning(rules: &[Record]) -> Vec<Record> {
+    [&[widths(1, 2, 0), link(0, 1, 0, 2), miss(0, &[output(0, 3)])], rules].concat()
+}
+
+/// From a state to itself: a step turns arriving into departing or back, so two steps at least.
+fn loops() -> Vec<RouteCase> {
+    let from_1 = |header, actions: &[Action]| rule(0, 1, [1, 3], header, actions);
+    let same = turning(&[rule(0, 1, ANY, ANY, &[output(2, 3)])]);
+    let changing = turning(&[
+        from_1([0, 1], &[set(1, 1), output(2, 3)]),
+        from_1([1, 1], &[set(0, 1), output(2, 3)]),
+    ]);
+    let ending = turning(&[from_1([0, 1], &[set(1, 1), output(2, 3)])]);
+    vec![
+        found("loop of two steps", &same, &[2, 12, 2]),
+        found("loop of two steps, departing", &same, &[13, 3, 13]),
+        none("into a loop", &same, 4, 4),
+        found("loop of four steps", &changing, &[2, 13, 3, 12, 2]),
+        found("once round and on", &changing, &[12, 2, 13, 3]),
+        none("to its own header changed", &ending, 2, 2),
+        none("dropped", &ending, 3, 3),
+        none("port 0 arriving", &same, 0, 0),
+    ]
+}
+
+/// One switch, header width 1 and port width 3: a state is 16 (departing) + 2 port + header. Ports
+/// 1 and 4 are linked, and 2 and 3. What arrives at port 5 goes to 1 and 2, at 3 to 6.
+fn forked(at_4: &[Action]) -> Vec<Record> {
+    let at = |port, actions: &[Action]| rule(0, 1, [port, 7], ANY, actions);
+    vec![
+        widths(1, 3, 0),
+        link(0, 1, 0, 4),
+        link(0, 2, 0, 3),
+        miss(0, &[output(0, 7)]),
+        at(5, &[output(2, 7), output(1, 7)]),
+        at(3, &[output(6, 7)]),
+        at(4, at_4),
+    ]
+}
+
+/// Fewest steps first; among as many, the smaller state at the first difference.
+fn choices() -> Vec<RouteCase> {
+    let as_many = forked(&[output(6, 7)]);
+    let longer = forked(&[output(2, 7)]);
+    let later_header = forked(&[set(1, 1), output(6, 7)]);
+    let two_headers = turning(&[rule(0, 1, [1, 3], ANY, &[output(2, 3), set(1, 1), output(2, 3)])]);
+    vec![
+        found("smaller by way of a larger one", &as_many, &[10, 18, 8, 28]),
+        found("larger with fewer steps", &longer, &[10, 20, 6, 28]),
+        found("smaller with another header", &later_header, &[10, 18, 8, 29]),
+        found("larger with its header", &later_header, &[10, 20, 6, 28]),
+        found("with the header kept", &two_headers, &[2, 12, 2]),
+        found("with the header set", &two_headers, &[2, 13, 3]),
+    ]
+}
+
+/// The longest routes and loops of every width: 897 and 896 steps at N = 10 with port width 4.
+fn longest() -> Vec<RouteCase> {
+    let case = |of: Widths| {
+        let name = format!("longest, widths {} {} {}", of.h, of.p, of.w);
+        let (long, round) = (winding(of), looping(of));
+        let (start, end) = (long.route[0], long.route[long.route.len() - 1]);
+        [
+            found(&name, &long.records, &long.route),
+            none(&name, &long.records, end, start),
+            found(&name, &round.records, &round.route),
+        ]
+    };
+    all_widths().into_iter().flat_map(case).collect()
+}
+
+/// Row 14: 2^N − 1 is a state, and nothing from 2^N on, whatever its low bits are.
+fn states() -> Vec<RouteCase> {
+    let mut cases = vec![none("last state", &k(), 31, 2), none("last state", &k(), 2, 31)];
+    for state in [32, 34, 1 << 16, 2 + (1 << 16), 2 + (1 << 32), 2 + (1 << 63), usize::MAX] {
+        for ends in [[state, 28], [2, state], [state, state]] {
+            cases.push(refused(case("no state", &k(), ends, &[]), 14));
+        }
+    }
+    for bits in 4..=10 {
+        let (records, states) = (one_switch(bits), 1 << bits);
+        let name = format!("N of {bits}");
+        cases.push(none(&name, &records, states - 1, states - 1));
+        for ends in [[states, 0], [0, states]] {
+            cases.push(refused(case(&name, &records, ends, &[]), 14));
+        }
+    }
+    cases
+}
+
+/// A network of one switch with so many bits of state.
+fn one_switch(bits: u8) -> Vec<Record> {
+    let p = if bits == 10 { 3 } else { 2 };
+    vec![widths(bits - 1 - p, p, 0), miss(0, &[output(0, 0)])]
+}
+
+/// Row 15: a list of 2^N + 1 entries, and of fewer.
+fn lists() -> Vec<RouteCase> {
+    let with_list = |case: RouteCase, entries: usize| RouteCase {
+        name: format!("{}, list of {entries}", case.name),
+        list: vec![BEFORE; entries],
+        ..case
+    };
+    let route = || found("K", &k(), &[2, 20, 10, 28]);
+    let mut cases = vec![with_list(route(), 33), with_list(route(), 5_000)];
+    for entries in [0, 1, 4, 31, 32] {
+        cases.push(with_list(refused(route(), 15), entries));
+        cases.push(with_list(refused(none("K", &k(), 28, 2), 15), entries));
+    }
+    for bits in 4..=10 {
+        let missed = none("one switch", &one_switch(bits), 0, 0);
+        cases.push(with_list(missed.clone(), (1 << bits) + 1));
+        cases.push(with_list(refused(missed, 15), 1 << bits));
+    }
+    cases
+}
+
+/// Row 11 comes before row 14, and that before row 15.
+fn order() -> Vec<RouteCase> {
+    let lent_so = |work: usize, start: usize, entries: usize, number: usize| RouteCase {
+        name: format!("K, work of {work}, start {start}, list of {entries}"),
+        lent: lend(&k(), work),
+        list: vec![BEFORE; entries],
+        ..refused(none("K", &k(), start, 28), number)
+    };
+    vec![
+        lent_so(K_WORK - 1, 32, 32, 11),
+        lent_so(K_WORK - 1, 32, 33, 11),
+        lent_so(K_WORK - 1, 2, 32, 11),
+        lent_so(K_WORK - 1, 2, 33, 11),
+        lent_so(K_WORK, 32, 32, 14),
+        lent_so(K_WORK, 32, 33, 14),
+        lent_so(K_WORK, 2, 32, 15),
+    ]
+}
