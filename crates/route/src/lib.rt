@@ -15,6 +15,7 @@ ghost use Rattle.route.specs.Call.{routeCall, RoutePromised};
 ghost use Rattle.route.specs.Search.{Shown};
 
 mod search;
+mod turned;
 
 // What the route call answers.
 pub enum Routed {
