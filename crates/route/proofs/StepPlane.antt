@@ -5,24 +5,23 @@ use mathlib.Core.List.{List}
 use Prim.Native.Nat.{ℕ, _+_, _*_, _/_, _%_, _<_, _≤_}
 use native.Mathlib.Nat.{zero-add, mul-le-mul-right}
 use native.Mathlib.Omega.{arith}
-use lib.ListN.{length, getD}
+use lib.ListN.{getD}
 use Rattle.planes.specs.Bit.{bitOf}
 use Rattle.planes.specs.Plane.{bit, cell, planeSize}
 use Rattle.planes.specs.Laws.Bits.{bit-zero}
 use Rattle.planes.specs.Laws.Places.{bit-at, line-before}
-use Rattle.route.specs.Search.{Searchable}
 
 -- a plane has at most 131,072 bytes
 pub plane-small : (pitch : ℕ) → pitch ≤ 128 → planeSize pitch ≤ 131072
 plane-small pitch h = let p : pitch * 8 ≤ 1024 = omega arith in omega (arith, mul-le-mul-right pitch p)
 
--- the line of a state starts within it
+-- the line of a state starts within it, so early
 pub line-small : (pitch x : ℕ) → pitch ≤ 128 → x < pitch * 8 → x * pitch ≤ 131072
 line-small pitch x h hx = omega (arith, plane-small pitch h, line-before x (pitch * 8) pitch hx)
 
--- and a step's byte is in the work buffer
-pub step-byte : (work : List ℕ) (pitch x y : ℕ) → Searchable pitch work → x < pitch * 8 → y < pitch * 8 → x * pitch + y / 8 < length work
-step-byte work pitch x y s hx hy = omega (arith, s .room, line-before x (pitch * 8) pitch hx)
+-- and its bytes are within each plane
+pub line-in : (pitch x : ℕ) → x < pitch * 8 → x * pitch + pitch ≤ planeSize pitch
+line-in pitch x h = line-before x (pitch * 8) pitch h
 
 -- a byte without a step: the states from y up to its last are not stepped to
 pub no-step : (work : List ℕ) (base pitch x y u : ℕ) → getD work (base + x * pitch + y / 8) 0 ≡ 0 → y ≤ u → u < (y / 8 + 1) * 8

@@ -10,11 +10,11 @@ use native.Mathlib.Omega.{arith}
 use lib.ListN.{length, getD}
 use Rattle.planes.specs.Plane.{bit, cell, planeSize}
 use Rattle.planes.specs.Lines.{BitSet, Cleared}
-use Rattle.planes.specs.Laws.Places.{byte-at, line-before, same-place}
+use Rattle.planes.specs.Laws.Places.{byte-at, same-place}
 use Rattle.planes.specs.Laws.Lines.{plane-kept}
 use Rattle.truth.specs.Laws.PlaneShapes.{made-cleared}
 use Rattle.route.specs.Turned.{Turned}
-use Rattle.route.proofs.StepPlane.{no-step, step-bit}
+use Rattle.route.proofs.StepPlane.{line-in, no-step, step-bit}
 
 module _ (pitch : ℕ) where
   abbrev S : ℕ
@@ -22,10 +22,6 @@ module _ (pitch : ℕ) where
 
   abbrev P : ℕ
   P = planeSize pitch
-
-  -- a line of the second plane is behind the first, and within it
-  pub line-in : (y : ℕ) → y < S → y * pitch + pitch ≤ P
-  line-in y h = line-before y S pitch h
 
   -- at first the second plane is clear
   pub turned-none : (a l : List ℕ) → Cleared P P a l → Turned pitch 0 0 a l
@@ -64,7 +60,7 @@ module _ (pitch : ℕ) where
         record {
           len = B .len ∙ T .len;
           first = λ n h. B .bytes n (λ e. omega (arith, e, h, place)) ∙ T .first n h;
-          behind = λ n h. B .bytes n (λ e. omega (arith, e, h, place, line-in y hy)) ∙ T .behind n h;
+          behind = λ n h. B .bytes n (λ e. omega (arith, e, h, place, line-in pitch y hy)) ∙ T .behind n h;
           done = λ u v hu hv k. done u v hu hv k (ℕ-discrete u y) (ℕ-discrete v x);
           clear = λ u v hu hv k. B .others _ (λ e. not-here u v hv k (same-place P pitch u v y x hv hx e)) ∙ T .clear u v hu hv (later k);
         }

@@ -6,8 +6,8 @@ use Prim.Native.Nat.{ℕ, _-_, _*_, _≤_}
 use native.Mathlib.Omega.{arith}
 use lib.ListN.{length}
 use Rattle.route.specs.Turned.{Turned}
-use Rattle.route.proofs.StepPlane.{plane-small, line-small}
-use Rattle.route.proofs.Turning.{line-in, turn-skip, turn-off, turn-on, turned-line}
+use Rattle.route.proofs.StepPlane.{plane-small, line-small, line-in}
+use Rattle.route.proofs.Turning.{turn-skip, turn-off, turn-on, turned-line}
 use Rattle.route.proofs.turned.turn_line.Statement.{statement}
 use Rattle.route.proofs.turned.turn_line.Tie as tie
 
@@ -34,7 +34,7 @@ add-if1 : tie.Need-add-if1 Inv-loop μ-loop
 add-if1 c = let p = c .before .before .before .pre in omega (arith, line-small _ _ (p .0 .small) (p .1), c .loop-test .taken, p .0 .small)
 
 slice-read-if1 : tie.Need-slice-read-if1 Inv-loop μ-loop
-slice-read-if1 c = 
+slice-read-if1 c =
     let p = c .before .before .before .before .pre in
     omega (arith, line-in _ _ (p .1), c .before .loop-test .taken, p .0 .room, c .before .before .loop .inv .1)
 
@@ -48,13 +48,13 @@ loop-less : tie.Need-loop-less Inv-loop μ-loop
 loop-less c = omega (arith, c .before .before .loop-test .taken)
 
 loop-again : tie.Need-loop-again Inv-loop μ-loop
-loop-again c = 
+loop-again c =
     let I = c .before .before .before .loop .inv in
     let h = c .before .before .loop-test .taken in
     (omega (arith, h), I .1, λ before T. turn-skip _ _ _ _ _ (I .2 before T) (c .before .before .before .before .before .pre .1) h (c .if1 .taken))
 
 get-at-requires : tie.Need-get-at-requires Inv-loop μ-loop
-get-at-requires c κs = 
+get-at-requires c κs =
     let p = c .before .before .before .before .before .before .pre in
     omega (arith, line-in _ _ (p .1), c .before .before .before .loop-test .taken, p .0 .room, c .before .before .before .before .loop .inv .1)
 
@@ -62,12 +62,12 @@ mul-set-at : tie.Need-mul-set-at Inv-loop μ-loop
 mul-set-at c = let p = c .before .before .before .before .before .before .before .before .before .pre in omega (arith, line-small _ _ (p .0 .small) (c .before .before .before .before .before .before .loop-test .taken))
 
 add-set-at : tie.Need-add-set-at Inv-loop μ-loop
-add-set-at c = 
+add-set-at c =
     let p = c .before .before .before .before .before .before .before .before .before .pre in
     omega (arith, line-small _ _ (p .0 .small) (c .before .before .before .before .before .before .loop-test .taken), plane-small _ (p .0 .small))
 
 set-at-requires : tie.Need-set-at-requires Inv-loop μ-loop
-set-at-requires c κs = 
+set-at-requires c κs =
     let p = c .before .before .before .before .before .before .before .before .before .pre in
     omega (arith, line-in _ _ (c .before .before .before .before .before .before .loop-test .taken), p .1, p .0 .room, c .before .before .before .before .before .before .before .loop .inv .1)
 
@@ -78,7 +78,7 @@ loop-less-2 : tie.Need-loop-less-2 Inv-loop μ-loop
 loop-less-2 c = omega (arith, c .before .before .before .before .before .loop-test .taken)
 
 loop-again-2 : tie.Need-loop-again-2 Inv-loop μ-loop
-loop-again-2 c = 
+loop-again-2 c =
     let I = c .before .before .before .before .before .before .loop .inv in
     let h = c .before .before .before .before .before .loop-test .taken in
     let x = c .before .before .before .before .before .before .before .before .pre .1 in
@@ -92,7 +92,7 @@ same-length : tie.Need-same-length Inv-loop μ-loop
 same-length c = c .before .loop .inv .1
 
 returns : tie.Need-returns Inv-loop μ-loop
-returns c = 
+returns c =
     let I = c .before .loop .inv in
     let e : c .before .loop .y ≡ c .before .before .before .args .pitch * 8 = omega (arith, I .0, c .loop-test .left) in
     λ before T. turned-line _ _ _ _ _ e (I .2 before T)
