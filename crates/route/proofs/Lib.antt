@@ -6,3 +6,4 @@ pub mod Reading
 pub mod Rounds
 pub mod Showing
 pub mod StepPlane
+pub mod Turning

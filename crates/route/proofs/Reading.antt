@@ -3,7 +3,7 @@ use mathlib.Core.Path.{_≡_, refl, sym, ap, subst, _∙_}
 use mathlib.Core.Bool.{Bool, true}
 use mathlib.Core.List.{List, _∷_}
 use mathlib.Core.Option.{Option, none, some}
-use Prim.Native.Nat.{ℕ, zero, suc, _+_, _-_, _*_, _<_, _≤_}
+use Prim.Native.Nat.{ℕ, zero, suc, _+_, _-_, _*_, _/_, _<_, _≤_}
 use native.Mathlib.Nat.{zero-add, not-suc-le-zero}
 use native.Mathlib.Decide.{decLt}
 use native.Mathlib.Omega.{arith}
@@ -13,6 +13,7 @@ use lib.Seq.{getD-set-same, getD-set-other}
 use Rattle.planes.specs.Plane.{cell}
 use Rattle.planes.specs.Lines.{Put}
 use Rattle.planes.proofs.LaidBytes.{laid-more}
+use Rattle.planes.specs.Laws.Tests.{not-both}
 use Rattle.verdict.specs.Computed.{firstFrom}
 use Rattle.verdict.specs.Laws.FirstState.{FirstPassing, first-is}
 use Rattle.route.specs.Route.{Route}
@@ -21,6 +22,17 @@ use Rattle.route.specs.Meant.{route-short, route-by}
 use Rattle.route.specs.Search.{Steps, Measured, Nearer, routeAlong, Writable}
 use Rattle.route.specs.Laws.Onward.{onward-iff, onward-at, onward-length}
 use Rattle.route.proofs.Rounds.{at-distance, of-distance}
+use Rattle.route.proofs.StepPlane.{no-step}
+
+-- a byte without a step has no state that passes
+pub none-passes : (work : List ℕ) (pitch : ℕ) (ds : List ℕ) (x k y : ℕ) → getD work (x * pitch + y / 8) 0 ≡ 0
+    → ((z : ℕ) → z < y → cell work 0 pitch x z ≡ true → getD ds z 0 ≡ k → ⊥)
+    → (z : ℕ) → z < (y / 8 + 1) * 8 → cell work 0 pitch x z ≡ true → getD ds z 0 ≡ k → ⊥
+none-passes work pitch ds x k y e no-earlier z h = go (decLt z y)
+  where
+    go : Dec (z < y) → cell work 0 pitch x z ≡ true → getD ds z 0 ≡ k → ⊥
+    go (yes i) = no-earlier z i
+    go (no i) = λ t q. not-both t (no-step work 0 pitch x y z (ap (λ (n : ℕ). getD work (n + y / 8) 0) (zero-add (x * pitch)) ∙ e) (omega (arith, i)) h)
 
 -- what the code finds is the next state
 pub nearer-is : (work : List ℕ) (pitch : ℕ) (ds : List ℕ) (b x k y : ℕ) → 1 ≤ k → x < pitch * 8 → Nearer work pitch ds x k y

@@ -3,7 +3,7 @@ use borrow.Author.Tests.{le-ltb, lt-ltb, le-leb, lt-leb}
 use mathlib.Core.Path.{_≡_, refl, sym, ap, ap₂, subst, _∙_}
 use mathlib.Core.Bool.{Bool, true, _||_}
 use mathlib.Core.List.{List, _++_}
-use mathlib.Core.Logic.{_↔_}
+use mathlib.Core.Logic.{_↔_, inl}
 use mathlib.Core.Option.{Option, none, some}
 use Prim.Native.Nat.{ℕ, _+_, _*_, _/_, _<_, _≤_}
 use native.Mathlib.Nat.{zero-add}
@@ -27,7 +27,8 @@ use Rattle.actions.specs.Adds.{lineBytes}
 use Rattle.steps.specs.Step.{next, Step}
 use Rattle.steps.specs.Filled.{Filled}
 use Rattle.verdict.specs.Judge.{Judgeable}
-use Rattle.verdict.proofs.JudgedWork.{needed, first-plane, step-room}
+use Rattle.truth.specs.Laws.NodePlanes.{plane-after}
+use Rattle.verdict.proofs.JudgedWork.{needed}
 use Rattle.calls.specs.Check.{cleared}
 use Rattle.calls.specs.Bytes.{WorkBytes}
 use Rattle.calls.specs.Laws.Bytes.{cleared-bytes}
@@ -38,7 +39,9 @@ use Rattle.route.specs.Route.{Is}
 use Rattle.route.specs.Meant.{is-same}
 use Rattle.route.specs.Answer.{RouteAnswer, found, noRoute, refused, routeAnswerOf}
 use Rattle.route.specs.Call.{ofRoute, withRoute, RouteCall, routeCall, networkOf, row14, row15, routeRow, routeRefusal, routeFor, routeAnswer, listAfter, workAfter, RoutePromised}
+use Rattle.route.specs.Turned.{TwoPlanes, Turned}
 use Rattle.route.specs.Search.{Searchable, Steps, Drawn, entries, Shown}
+use Rattle.route.proofs.Turning.{same-steps}
 
 -- two lists with the same bytes
 same-bytes : (k : ℕ) (a b c : List ℕ) → WorkBytes k a b → WorkBytes k a c → b ≡ c
@@ -69,7 +72,10 @@ module _ (n : ℕ) (l : Layout) (store work : List ℕ) (J : Judgeable n l store
   unfolding workNeeded
   amount = ap₂ (λ (m : ℕ) (v : Widths). (m + 2) * planeBytes v) (J .clean .laid .longest) widths-are
 
-  -- the plane that was filled can be searched
+  -- two planes are always there
+  two-planes : planeSize (lineBytes w) + planeSize (lineBytes w) ≤ workNeeded net
+  two-planes = omega (arith, needed net within, plane-after (lineBytes w) (longest net))
+
   module _ (pitch : ℕ) (e : pitch ≡ lineBytes (l .widths)) (b : List ℕ) (F : Filled net 0 work b) where
     line-is : pitch ≡ lineBytes w
     line-is = e ∙ ap lineBytes widths-are
@@ -77,74 +83,91 @@ module _ (n : ℕ) (l : Layout) (store work : List ℕ) (J : Judgeable n l store
     states-are : pitch * 8 ≡ states w
     states-are = ap (λ (k : ℕ). k * 8) line-is ∙ bits
 
-    searchable : Searchable pitch b
-    searchable =
-        record {
-          small = omega (arith, states-are, few-states w within);
-          room = subst (λ (k : ℕ). planeSize k ≤ length b) (sym e) (omega (arith, step-room n l store work J, F .len));
-        }
+    room : planeSize pitch + planeSize pitch ≤ workNeeded net
+    room = subst (λ (k : ℕ). planeSize k + planeSize k ≤ workNeeded net) (sym line-is) two-planes
 
-    -- from one state to another, into a list with room for the longest route
-    pub drawable : (start end : ℕ) (list : List ℕ) → start < states (l .widths) → end < states (l .widths) → states (l .widths) + 1 ≤ length list
-        → Searchable pitch b × (start < pitch * 8) × (end < pitch * 8) × (pitch * 8 + 1 ≤ length list)
-    drawable start end list h k m =
-        let q : pitch * 8 ≡ states (l .widths) = states-are ∙ ap states (sym widths-are) in
-        (searchable, omega (arith, h, q), omega (arith, k, q), omega (arith, m, q))
+    small : pitch ≤ 128
+    small = omega (arith, states-are, few-states w within)
 
-    -- its steps are the network's
-    steps-are : (x y : ℕ) → x < pitch * 8 → y < pitch * 8 → Steps b pitch x y ↔ Step net x y
-    unfolding Step
-    steps-are x y hx hy = subst (λ (k : ℕ). Steps b k x y ↔ (member y (next net x) ≡ true)) (sym line-is) (λ t. sym f ∙ t, λ t. f ∙ t)
-      where
-        f : cell b 0 (lineBytes w) x y ≡ member y (next net x)
-        f = F .here x y (omega (arith, states-are)) (omega (arith, states-are, bits))
+    -- the steps that were filled can be exchanged
+    pub turnable : TwoPlanes pitch b
+    turnable = record { small = small; room = omega (arith, room, J .room, F .len) }
 
-    -- what the search has found is the network's route
-    module _ (start end : ℕ) (list : List ℕ) (count : ℕ) (after : List ℕ) (D : Drawn b pitch start end list count after) where
-      answer-is : D .answer ≡ route net start end
-      answer-is =
-          only-answer net start end (D .answer) (route net start end)
-          (subst (λ (k : ℕ). Is k (Step net) start end (D .answer)) states-are
-          (is-same (pitch * 8) (Steps b pitch) (Step net) steps-are start end (D .answer) (D .meant)))
-          (route-is-meant net start end)
+    module _ (c : List ℕ) (T : Turned pitch (pitch * 8) 0 b c) where
+      -- and then be searched
+      searchable : Searchable pitch c
+      searchable =
+          record {
+            small = small;
+            room = omega (arith, room, J .room, F .len, T .len);
+            turned = λ x y hx hy. T .done x y hx hy (inl hy) ∙ sym (same-steps pitch (pitch * 8) 0 b c T y x hy hx);
+          }
 
-      list-is : after ≡ withRoute (route net start end) list
-      list-is = D .written ∙ ap (λ (o : Option (List ℕ)). withRoute o list) answer-is
+      -- from one state to another, into a list with room for the longest route
+      pub drawable : (start end : ℕ) (list : List ℕ) → start < states (l .widths) → end < states (l .widths) → states (l .widths) + 1 ≤ length list
+          → Searchable pitch c × (start < pitch * 8) × (end < pitch * 8) × (pitch * 8 + 1 ≤ length list)
+      drawable start end list h k m =
+          let q : pitch * 8 ≡ states (l .widths) = states-are ∙ ap states (sym widths-are) in
+          (searchable, omega (arith, h, q), omega (arith, k, q), omega (arith, m, q))
 
-      counted : count ≡ entries (route net start end)
-      counted = D .counted ∙ ap entries answer-is
-
-      -- the work that a verdict needs is zero, and the rest as before
-      work-is : (k : ℕ) (d : List ℕ) → k ≡ workNeeded net → Cleared 0 k b d → d ≡ cleared (workNeeded net) work
-      work-is k d q C =
-          same-bytes (workNeeded net) work d (cleared (workNeeded net) work) bytes (cleared-bytes (workNeeded net) work (J .room))
+      -- the steps are the network's
+      steps-are : (x y : ℕ) → x < pitch * 8 → y < pitch * 8 → Steps c pitch x y ↔ Step net x y
+      unfolding Step
+      steps-are x y hx hy =
+          let q = same-steps pitch (pitch * 8) 0 b c T x y hx hy in
+          let s = subst (λ (k : ℕ). Steps b k x y ↔ (member y (next net x) ≡ true)) (sym line-is) (λ t. sym f ∙ t, λ t. f ∙ t) in
+          (λ t. s .0 (sym q ∙ t), λ t. q ∙ s .1 t)
         where
-          bytes : WorkBytes (workNeeded net) work d
-          bytes =
-              record {
-                len = C .len ∙ F .len;
-                within = λ j h. ap (λ (m : ℕ). getD d m 0) (sym (zero-add j)) ∙ C .inside j (omega (arith, h, q));
-                behind = λ j h.
-                    C .over j (omega (arith, h, q))
-                    ∙ F .over j (omega (arith, h, needed net within, first-plane (lineBytes w) (longest net), ap (λ (m : ℕ). m * lineBytes w) bits));
-              }
+          f : cell b 0 (lineBytes w) x y ≡ member y (next net x)
+          f = F .here x y (omega (arith, states-are)) (omega (arith, states-are, bits))
 
-      pub shown-none : (k : ℕ) (d : List ℕ) → k ≡ workNeeded net → Cleared 0 k b d → count ≡ 0 → Shown net start end work list NoRoute after d
-      shown-none k d q C z = record { answer = sym (go (route net start end) (sym counted ∙ z) some-states); lists = list-is; works = work-is k d q C }
-        where
-          some-states : IsIn net start end (route net start end)
-          some-states = route-is-meant net start end
+      -- what the search has found is the network's route
+      module _ (start end : ℕ) (list : List ℕ) (count : ℕ) (after : List ℕ) (D : Drawn c pitch start end list count after) where
+        answer-is : D .answer ≡ route net start end
+        answer-is =
+            only-answer net start end (D .answer) (route net start end)
+            (subst (λ (k : ℕ). Is k (Step net) start end (D .answer)) states-are
+            (is-same (pitch * 8) (Steps c pitch) (Step net) steps-are start end (D .answer) (D .meant)))
+            (route-is-meant net start end)
 
-          go : (o : Option (List ℕ)) → entries o ≡ 0 → IsIn net start end o → ofRoute o ≡ noRoute
-          go none e h = refl
-          go (some l) e h = absurd (omega (arith, e, h .path .two))
+        list-is : after ≡ withRoute (route net start end) list
+        list-is = D .written ∙ ap (λ (o : Option (List ℕ)). withRoute o list) answer-is
 
-      pub shown-some : (k : ℕ) (d : List ℕ) → k ≡ workNeeded net → Cleared 0 k b d → (count ≡ 0 → ⊥) → Shown net start end work list (Found count) after d
-      shown-some k d q C z = record { answer = sym (go (route net start end) counted); lists = list-is; works = work-is k d q C }
-        where
-          go : (o : Option (List ℕ)) → count ≡ entries o → ofRoute o ≡ found count
-          go none e = absurd (z e)
-          go (some l) e = ap found (sym e)
+        counted : count ≡ entries (route net start end)
+        counted = D .counted ∙ ap entries answer-is
+
+        -- the work that a verdict needs is zero, and the rest as before
+        work-is : (k : ℕ) (d : List ℕ) → k ≡ workNeeded net → Cleared 0 k c d → d ≡ cleared (workNeeded net) work
+        work-is k d q C =
+            same-bytes (workNeeded net) work d (cleared (workNeeded net) work) bytes (cleared-bytes (workNeeded net) work (J .room))
+          where
+            bytes : WorkBytes (workNeeded net) work d
+            bytes =
+                record {
+                  len = C .len ∙ T .len ∙ F .len;
+                  within = λ j h. ap (λ (m : ℕ). getD d m 0) (sym (zero-add j)) ∙ C .inside j (omega (arith, h, q));
+                  behind = λ j h.
+                      C .over j (omega (arith, h, q))
+                      ∙ T .behind j (omega (arith, h, room))
+                      ∙ F .over j (omega (arith, h, two-planes, ap (λ (m : ℕ). m * lineBytes w) bits));
+                }
+
+        pub shown-none : (k : ℕ) (d : List ℕ) → k ≡ workNeeded net → Cleared 0 k c d → count ≡ 0 → Shown net start end work list NoRoute after d
+        shown-none k d q C z = record { answer = sym (go (route net start end) (sym counted ∙ z) some-states); lists = list-is; works = work-is k d q C }
+          where
+            some-states : IsIn net start end (route net start end)
+            some-states = route-is-meant net start end
+
+            go : (o : Option (List ℕ)) → entries o ≡ 0 → IsIn net start end o → ofRoute o ≡ noRoute
+            go none e h = refl
+            go (some l) e h = absurd (omega (arith, e, h .path .two))
+
+        pub shown-some : (k : ℕ) (d : List ℕ) → k ≡ workNeeded net → Cleared 0 k c d → (count ≡ 0 → ⊥) → Shown net start end work list (Found count) after d
+        shown-some k d q C z = record { answer = sym (go (route net start end) counted); lists = list-is; works = work-is k d q C }
+          where
+            go : (o : Option (List ℕ)) → count ≡ entries o → ofRoute o ≡ found count
+            go none e = absurd (z e)
+            go (some l) e = ap found (sym e)
 
 -- the rows of a route call
 module _ (c : RouteCall) where

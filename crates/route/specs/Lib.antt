@@ -8,5 +8,6 @@ pub mod InNet
 pub mod Answer
 pub mod Call
 pub mod Told
+pub mod Turned
 pub mod Search
 pub mod Example

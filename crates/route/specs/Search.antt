@@ -18,12 +18,13 @@ use Rattle.route.specs.declared.Routed.{Routed}
 use Rattle.route.specs.Answer.{routeAnswerOf}
 use Rattle.route.specs.Call.{ofRoute, withRoute}
 
--- a plane of at most 1024 states stands at the front of the work buffer
+-- of two planes at the front of the work buffer the second has the steps of the first with both states exchanged
 pub record Searchable (pitch : ℕ) (work : List ℕ) : Type 0 where
   pub small : pitch ≤ 128
-  pub room : planeSize pitch ≤ length work
+  pub room : planeSize pitch + planeSize pitch ≤ length work
+  pub turned : (x y : ℕ) → x < pitch * 8 → y < pitch * 8 → cell work (planeSize pitch) pitch x y ≡ cell work 0 pitch y x
 
--- the steps of the plane
+-- the steps of the first plane
 abbrev pub Steps : List ℕ → ℕ → ℕ → ℕ → Type 0
 Steps work pitch x y = On work 0 pitch x y
 

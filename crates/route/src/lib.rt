@@ -15,6 +15,7 @@ ghost use Rattle.route.specs.Call.{routeCall, RoutePromised};
 ghost use Rattle.route.specs.Search.{Shown};
 
 mod search;
+mod turned;
 
 // What the route call answers.
 pub enum Routed {
@@ -40,6 +41,7 @@ fn show(
     let widths = l.widths;
     let pitch = widths.states() / 8;
     steps::fill_steps(work, 0, store, n, l);
+    turned::turn(work, pitch);
     let count = search::draw(work, pitch, start, end, list);
     let needed = scan::work_needed(l);
     planes::clear(work, 0, needed);

@@ -1,19 +1,11 @@
-// The search for a route over the step plane at the front of the work buffer, whose lines have pitch bytes: distances backwards
-// from the end, then the route forwards by the smallest state that is one step nearer.
+// The search for a route: distances backwards from the end, over the exchanged steps, then the route forwards by the smallest
+// state that is one step nearer. The work buffer has the steps in its first plane and the exchanged ones in its second, in lines
+// of pitch bytes.
 ghost use mathlib.Core.Path.{_≡_};
 ghost use Prim.Native.Nat.{ℕ, _+_, _*_, _<_, _≤_};
 ghost use lib.ListN.{length, getD};
-ghost use Rattle.planes.specs.Plane.{cell};
 ghost use Rattle.planes.specs.Lines.{Put};
 ghost use Rattle.route.specs.Search.{Searchable, Marked, Advanced, Measured, Nearer, Writable, routeAlong, Drawn};
-
-// x steps to y.
-fn is_step(work: &[u8], pitch: usize, x: usize, y: usize) -> bool
-    requires { ⌜ Searchable pitch (now work) × (x < pitch * 8) × (y < pitch * 8) ⌝ }
-    ensures { λ r. ⌜ r ≡ cell (now (work .entry)) 0 pitch x y ⌝ }
-{
-    planes::get_at(work, x * pitch, y)
-}
 
 // Gives the distance k + 1 to each state without one that steps to x.
 fn mark(work: &[u8], pitch: usize, distances: &mut [u16; 1024], x: usize, k: usize)
@@ -22,15 +14,20 @@ fn mark(work: &[u8], pitch: usize, distances: &mut [u16; 1024], x: usize, k: usi
     ensures { λ _. ⌜ Marked (now (work .entry)) pitch x k (pitch * 8) (now (distances .entry)) (now (distances .exit)) ⌝ }
 {
     let states = pitch * 8;
+    let line = states * pitch + x * pitch;
     let distance = (k + 1) as u16;
     let mut y: usize = 0;
     while y < states {
-        if distances[y] == 0 {
-            if is_step(work, pitch, y, x) {
-                distances[y] = distance;
+        if work[line + y / 8] == 0 {
+            y = (y / 8 + 1) * 8;
+        } else {
+            if distances[y] == 0 {
+                if planes::get_at(work, line, y) {
+                    distances[y] = distance;
+                }
             }
+            y += 1;
         }
-        y += 1;
     }
 }
 
@@ -80,15 +77,20 @@ fn nearer(work: &[u8], pitch: usize, distances: &[u16; 1024], x: usize, k: usize
     ensures { λ r. ⌜ Nearer (now (work .entry)) pitch (now (distances .entry)) x k r ⌝ }
 {
     let states = pitch * 8;
+    let line = x * pitch;
     let distance = k as u16;
     let mut y: usize = 0;
     while y < states {
-        if distances[y] == distance {
-            if is_step(work, pitch, x, y) {
-                return y;
+        if work[line + y / 8] == 0 {
+            y = (y / 8 + 1) * 8;
+        } else {
+            if distances[y] == distance {
+                if planes::get_at(work, line, y) {
+                    return y;
+                }
             }
+            y += 1;
         }
-        y += 1;
     }
     states
 }

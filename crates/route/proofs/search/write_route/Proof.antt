@@ -76,21 +76,20 @@ cast-list-3 : tie.Need-cast-list-3 Inv-loop μ-loop
 cast-list-3 c = let W = c .before .loop .inv .0 in omega (arith, W .to, W .plane .small)
 
 mul-list-2 : tie.Need-mul-list-2 Inv-loop μ-loop
-mul-list-2 c = let W = c .before .loop .inv .0 in omega (arith, short _ _ _ _ _ _ W, W .plane .small)
+mul-list-2 c = let W = c .before .loop .inv .0 in omega (arith, short _ _ _ _ _ _ W, W .to, W .plane .small)
 
 slice-write-list-3 : tie.Need-slice-write-list-3 Inv-loop μ-loop
 slice-write-list-3 c =
     let I = c .before .loop .inv in
-    omega (arith, short _ _ _ _ _ _ (I .0), I .0 .room, I .1 .written .len)
+    omega (arith, short _ _ _ _ _ _ (I .0), I .0 .to, I .0 .room, I .1 .written .len)
 
 add-result : tie.Need-add-result Inv-loop μ-loop
 add-result c = let W = c .before .loop .inv .0 in omega (arith, short _ _ _ _ _ _ W, W .plane .small)
 
 same-length : tie.Need-same-length Inv-loop μ-loop
 same-length c =
-    let I = c .before .loop .inv in
     let a = c .before .before .before .before .before .args in
-    written-all _ _ _ _ _ _ (I .0) _ _ _ (I .1) (c .loop-test .left) .len ∙ length-set (now (a .list)) 0 (a .start)
+    length-set (c .before .loop .list) _ _ ∙ c .before .loop .inv .1 .written .len ∙ length-set (now (a .list)) 0 (a .start)
 
 returns : tie.Need-returns Inv-loop μ-loop
 returns c =
