@@ -16,7 +16,7 @@ use Rattle.verdict.specs.Computed.{tableOf}
 use Rattle.verdict.specs.Laws.Tabled.{table-agrees}
 use Rattle.route.specs.Route.{Trail, Route, Is}
 use Rattle.route.specs.Computed.{routeOf}
-use Rattle.route.specs.Meant.{one-route, only, route-short, route-meant, route-iff}
+use Rattle.route.specs.Meant.{one-route, trail-walk, short-trail, only, route-short, route-meant, route-iff}
 
 -- the list is a path of one or more steps of the network, both ends included
 abbrev pub PathIn : Net → ℕ → ℕ → List ℕ → Type 0
@@ -42,6 +42,11 @@ module _ (net : Net) (a b : ℕ) where
   -- it has at most 2^N steps, so 2^N + 1 states
   pub route-length : {l : List ℕ} → RouteIn net a b l → length l ≤ states (widthsOf net) + 1
   route-length p = route-short (states (widthsOf net)) (Step net) p
+
+  -- there is a path exactly if a walk leads from a to b
+  pub path-exists : ((l : List ℕ) × PathIn net a b l) ↔ Walk (states (widthsOf net)) (Step net) a b
+  path-exists =
+      (λ p. trail-walk (states (widthsOf net)) (Step net) (p .1), λ w. let s = short-trail (states (widthsOf net)) (Step net) w in (s .0, s .1))
 
   -- there is a route exactly if a walk leads from a to b
   pub route-exists : ((l : List ℕ) × RouteIn net a b l) ↔ Walk (states (widthsOf net)) (Step net) a b
