@@ -2,18 +2,16 @@
 use mathlib.Core.Path.{_≡_, refl, sym, ap, ap₂, subst, _∙_}
 use mathlib.Core.Bool.{Bool, true, false}
 use mathlib.Core.List.{List}
-use mathlib.Core.Logic.{_⊎_, inl, inr, ⊎-elim}
-use Prim.Native.Nat.{ℕ, zero, suc, _+_, _*_, _<_, _≤_}
+use Prim.Native.Nat.{ℕ, zero, suc, _+_, _<_, _≤_}
 use native.Mathlib.Nat.{not-suc-le-zero}
-use native.Mathlib.Decide.{ℕ-discrete, decLt}
+use native.Mathlib.Decide.{decLt}
 use native.Mathlib.Omega.{arith}
 use borrow.Author.Count.{below-more}
 use lib.ListN.{length, getD, set, length-set}
 use lib.Seq.{getD-set-same, getD-set-other}
 use Rattle.planes.specs.Plane.{cell}
 use Rattle.route.specs.Computed.{orOneMore}
-use Rattle.route.specs.Distances.{Away, Farther}
-use Rattle.route.specs.Search.{Steps, Marked}
+use Rattle.route.specs.Search.{Marked}
 
 -- a state that has a distance keeps it
 has-distance : (d : ℕ) (steps : Bool) (k : ℕ) → (d ≡ 0 → ⊥) → orOneMore d steps k ≡ d

@@ -1,9 +1,9 @@
 -- The forward reading by distances: each state that is written is the route's.
 use mathlib.Core.Path.{_≡_, refl, sym, ap, subst, _∙_}
 use mathlib.Core.Bool.{Bool, true}
-use mathlib.Core.List.{List, _∷_}
+use mathlib.Core.List.{List}
 use mathlib.Core.Option.{Option, none, some}
-use Prim.Native.Nat.{ℕ, zero, suc, _+_, _-_, _*_, _/_, _<_, _≤_}
+use Prim.Native.Nat.{ℕ, suc, _+_, _-_, _*_, _/_, _<_, _≤_}
 use native.Mathlib.Nat.{zero-add, not-suc-le-zero}
 use native.Mathlib.Decide.{decLt}
 use native.Mathlib.Omega.{arith}
@@ -17,9 +17,9 @@ use Rattle.planes.specs.Laws.Tests.{not-both}
 use Rattle.verdict.specs.Computed.{firstFrom}
 use Rattle.verdict.specs.Laws.FirstState.{FirstPassing, first-is}
 use Rattle.route.specs.Route.{Route}
-use Rattle.route.specs.Computed.{isOnward, orCount, nextState, onward}
+use Rattle.route.specs.Computed.{isOnward, orCount, nextState}
 use Rattle.route.specs.Meant.{route-short, route-by}
-use Rattle.route.specs.Search.{Steps, Measured, Nearer, routeAlong, Writable}
+use Rattle.route.specs.Search.{Steps, Nearer, routeAlong, Writable}
 use Rattle.route.specs.Laws.Onward.{onward-iff, onward-at, onward-length}
 use Rattle.route.proofs.Rounds.{at-distance, of-distance}
 use Rattle.route.proofs.StepPlane.{no-step}

@@ -1,15 +1,14 @@
 -- What the route call has done, by whether a row refuses and by the route.
 use borrow.Author.Tests.{le-ltb, lt-ltb, le-leb, lt-leb}
 use mathlib.Core.Path.{_≡_, refl, sym, ap, ap₂, subst, _∙_}
-use mathlib.Core.Bool.{Bool, true, _||_}
-use mathlib.Core.List.{List, _++_}
+use mathlib.Core.Bool.{true}
+use mathlib.Core.List.{List}
 use mathlib.Core.Logic.{_↔_, inl}
 use mathlib.Core.Option.{Option, none, some}
-use Prim.Native.Nat.{ℕ, _+_, _*_, _/_, _<_, _≤_}
+use Prim.Native.Nat.{ℕ, _+_, _*_, _<_, _≤_}
 use native.Mathlib.Nat.{zero-add}
 use native.Mathlib.Decide.{decLt}
 use native.Mathlib.Omega.{arith}
-use lib.Dec.{leb, ltb}
 use lib.ListN.{length, getD}
 use lib.Seq.{ext-getD}
 use Rattle.planes.specs.Plane.{cell, planeSize}
@@ -33,12 +32,12 @@ use Rattle.calls.specs.Check.{cleared}
 use Rattle.calls.specs.Bytes.{WorkBytes}
 use Rattle.calls.specs.Laws.Bytes.{cleared-bytes}
 use Rattle.route.specs.declared.Routed.{Routed}
-use Rattle.route.specs.declared.Routed.the-variants.{Found, NoRoute, Refused}
+use Rattle.route.specs.declared.Routed.the-variants.{Found, NoRoute}
 use Rattle.route.specs.InNet.{IsIn, route, route-is-meant, only-answer}
 use Rattle.route.specs.Route.{Is}
 use Rattle.route.specs.Meant.{is-same}
-use Rattle.route.specs.Answer.{RouteAnswer, found, noRoute, refused, routeAnswerOf}
-use Rattle.route.specs.Call.{ofRoute, withRoute, RouteCall, routeCall, networkOf, row14, row15, routeRow, routeRefusal, routeFor, routeAnswer, listAfter, workAfter, RoutePromised}
+use Rattle.route.specs.Answer.{found, noRoute, refused, routeAnswerOf}
+use Rattle.route.specs.Call.{ofRoute, withRoute, RouteCall, networkOf, row14, row15, routeRow, routeRefusal, routeFor, routeAnswer, listAfter, workAfter, RoutePromised}
 use Rattle.route.specs.Turned.{TwoPlanes, Turned}
 use Rattle.route.specs.Search.{Searchable, Steps, Drawn, entries, Shown}
 use Rattle.route.proofs.Turning.{same-steps}

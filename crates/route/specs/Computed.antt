@@ -5,9 +5,10 @@ use mathlib.Core.Option.{Option, none, some}
 use Prim.Native.Nat.{ℕ, zero, suc}
 use lib.Dec.{eqb}
 use lib.ListN.{getD}
-use Rattle.planes.specs.Tabulated.{tab}
+use Rattle.planes.specs.Tabulated.{gridTest, tab}
+use Rattle.records.specs.Record.{Net}
 use Rattle.truth.specs.Computed.{anyBelow}
-use Rattle.verdict.specs.Computed.{firstFrom}
+use Rattle.verdict.specs.Computed.{tableOf, firstFrom}
 
 -- by the distances ds, x is k steps away from b
 unfoldable pub isAway : List ℕ → ℕ → ℕ → ℕ → Bool
@@ -53,3 +54,7 @@ routeBy count r ds a b = let d = getD ds a 0 in cond (eqb d 0) none (some (a ∷
 -- the route from a to b
 unfoldable pub routeOf : ℕ → (ℕ → ℕ → Bool) → ℕ → ℕ → Option (List ℕ)
 routeOf count r a b = let ds = distances count r b count in routeBy count r ds a b
+
+-- the route between two states of a network, over its tabulated steps
+unfoldable pub tabledRoute : Net → ℕ → ℕ → Option (List ℕ)
+tabledRoute net a b = let table = tableOf net in routeOf (table .count) (gridTest (table .steps)) a b

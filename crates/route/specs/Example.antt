@@ -21,12 +21,12 @@ use Rattle.actions.specs.Actions.{reached, copies, sent}
 use Rattle.steps.specs.Step.{across, next, Step, external}
 use Rattle.truth.specs.Computed.{anyBelow}
 use Rattle.verdict.specs.Computed.{tableOf, firstFrom}
-use Rattle.route.specs.Computed.{isAway, isOnward, fartherAt, distances, nextState, onward, routeBy, routeOf}
-use Rattle.route.specs.InNet.{RouteIn, IsIn, computed, routedFrom, routed, route, route-is-meant}
+use Rattle.route.specs.Computed.{isAway, isOnward, fartherAt, distances, nextState, onward, routeBy, routeOf, tabledRoute}
+use Rattle.route.specs.InNet.{RouteIn, IsIn, routedFrom, routed, route, route-is-meant}
 
 -- all that the examples compute with
 unfoldable computing : Unit {0}
-unfolding flatMap bitOf gridTest tab keep any member from ofKind priority endsAt linked states widthsOf state headerOf portOf switchOf directionOf ordinary ternary matches putBits record24 node A B policy0 K ruleMatches outranked best orMiss chosen reached copies sent across next external tableOf anyBelow firstFrom isAway isOnward fartherAt distances nextState onward routeBy routeOf computed routedFrom routed route decLt
+unfolding flatMap bitOf gridTest tab keep any member from ofKind priority endsAt linked states widthsOf state headerOf portOf switchOf directionOf ordinary ternary matches putBits record24 node A B policy0 K ruleMatches outranked best orMiss chosen reached copies sent across next external tableOf anyBelow firstFrom isAway isOnward fartherAt distances nextState onward routeBy routeOf tabledRoute routedFrom routed route decLt
 computing = tt
 
 -- from 2 to 28 by way of 20 and 10; from 28 to 2 there is none

@@ -15,7 +15,7 @@ use Rattle.steps.specs.Step.{Step}
 use Rattle.verdict.specs.Computed.{tableOf}
 use Rattle.verdict.specs.Laws.Tabled.{table-agrees}
 use Rattle.route.specs.Route.{Trail, Route, Is}
-use Rattle.route.specs.Computed.{routeOf}
+use Rattle.route.specs.Computed.{tabledRoute}
 use Rattle.route.specs.Meant.{one-route, trail-walk, short-trail, only, route-short, route-meant, route-iff}
 
 -- the list is a path of one or more steps of the network, both ends included
@@ -29,10 +29,6 @@ RouteIn net a b l = Route (states (widthsOf net)) (Step net) a b l
 -- the answer that is meant: the route, or none if no walk leads from a to b
 abbrev pub IsIn : Net → ℕ → ℕ → Option (List ℕ) → Type 0
 IsIn net a b o = Is (states (widthsOf net)) (Step net) a b o
-
--- the route over the tabulated steps
-unfoldable pub computed : Net → ℕ → ℕ → Option (List ℕ)
-computed net a b = let table = tableOf net in routeOf (table .count) (gridTest (table .steps)) a b
 
 module _ (net : Net) (a b : ℕ) where
   -- at most one list is the route
@@ -58,9 +54,9 @@ module _ (net : Net) (a b : ℕ) where
 
   -- the answer that is meant, with the proof that it is; nothing leads from what is no state
   unfoldable pub routedFrom : Dec (a < states (widthsOf net)) → (o : Option (List ℕ)) × IsIn net a b o
-  unfolding computed tableOf
+  unfolding tabledRoute tableOf
   routedFrom (yes h) =
-      (computed net a b, route-meant (states (widthsOf net)) (Step net) (gridTest (tableOf net .steps)) (table-agrees net .steps-agree) a b h)
+      (tabledRoute net a b, route-meant (states (widthsOf net)) (Step net) (gridTest (tableOf net .steps)) (table-agrees net .steps-agree) a b h)
   routedFrom (no h) = (none, λ w. h (start w))
 
 -- the answer that is meant, with the proof that it is

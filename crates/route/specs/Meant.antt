@@ -13,14 +13,13 @@ use lib.Dec.{eqb}
 use lib.ListN.{length, getD}
 use Rattle.planes.specs.Tabulated.{tab}
 use Rattle.planes.specs.Laws.Tabulated.{tab-at}
-use Rattle.planes.specs.Laws.Tests.{not-both}
 use Rattle.closure.specs.Walk.{Walk}
 use Rattle.closure.specs.Laws.Walks.{start, map-walk}
 use Rattle.truth.specs.Computed.{anyBelow}
 use Rattle.truth.specs.Laws.Tables.{any-iff}
 use Rattle.route.specs.Route.{Trail, Before, Route, Is}
 use Rattle.route.specs.Computed.{isOnward, orOneMore, fartherAt, distances, onward, routeBy, routeOf}
-use Rattle.route.specs.Distances.{Away, In, Near, Farther}
+use Rattle.route.specs.Distances.{Away, Near, Farther}
 use Rattle.route.specs.Laws.Leading.{Leads, trail, untrail, walk, unwalk}
 use Rattle.route.specs.Laws.Cutting.{short}
 use Rattle.route.specs.Laws.Searching.{near-start, near-more}

@@ -3,7 +3,7 @@ use mathlib.Core.Path.{_≡_}
 use mathlib.Core.Bool.{Bool, true, false}
 use mathlib.Core.List.{List, _∷_}
 use mathlib.Core.Option.{Option, none, some}
-use Prim.Native.Nat.{ℕ, suc, _+_, _*_, _<_, _≤_}
+use Prim.Native.Nat.{ℕ, _+_, _*_, _<_, _≤_}
 use lib.ListN.{length, getD}
 use Rattle.planes.specs.Plane.{cell, On, planeSize}
 use Rattle.planes.specs.Lines.{Put}
@@ -64,6 +64,11 @@ pub record Writable (work : List ℕ) (pitch a b : ℕ) (ds list : List ℕ) : T
   pub measured : Measured work pitch a b ds
   pub some : 1 ≤ getD ds a 0
   pub room : pitch * 8 + 1 ≤ length list
+
+-- the route is counted, and written into the list
+pub record RouteWritten (work : List ℕ) (pitch a b : ℕ) (ds before : List ℕ) (count : ℕ) (after : List ℕ) : Type 0 where
+  pub counted : count ≡ length (routeAlong work pitch ds a b)
+  pub written : Put (routeAlong work pitch ds a b) 0 count before after
 
 -- the count of a route's states; 0 if there is none
 abbrev pub entries : Option (List ℕ) → ℕ

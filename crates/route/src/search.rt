@@ -4,8 +4,7 @@
 ghost use mathlib.Core.Path.{_≡_};
 ghost use Prim.Native.Nat.{ℕ, _+_, _*_, _<_, _≤_};
 ghost use lib.ListN.{length, getD};
-ghost use Rattle.planes.specs.Lines.{Put};
-ghost use Rattle.route.specs.Search.{Searchable, Marked, Advanced, Measured, Nearer, Writable, routeAlong, Drawn};
+ghost use Rattle.route.specs.Search.{Searchable, Marked, Advanced, Measured, Nearer, Writable, RouteWritten, Drawn};
 
 // Gives the distance k + 1 to each state without one that steps to x.
 fn mark(work: &[u8], pitch: usize, distances: &mut [u16; 1024], x: usize, k: usize)
@@ -19,6 +18,7 @@ fn mark(work: &[u8], pitch: usize, distances: &mut [u16; 1024], x: usize, k: usi
     let mut y: usize = 0;
     while y < states {
         if work[line + y / 8] == 0 {
+            // No step is in this byte.
             y = (y / 8 + 1) * 8;
         } else {
             if distances[y] == 0 {
@@ -82,6 +82,7 @@ fn nearer(work: &[u8], pitch: usize, distances: &[u16; 1024], x: usize, k: usize
     let mut y: usize = 0;
     while y < states {
         if work[line + y / 8] == 0 {
+            // No step is in this byte.
             y = (y / 8 + 1) * 8;
         } else {
             if distances[y] == distance {
@@ -105,7 +106,7 @@ fn write_route(
     list: &mut [u16],
 ) -> usize
     requires { ⌜ Writable (now work) pitch start end (now distances) (now list) ⌝ }
-    ensures { λ r. ⌜ (r ≡ length (routeAlong (now (work .entry)) pitch (now (distances .entry)) start end)) × Put (routeAlong (now (work .entry)) pitch (now (distances .entry)) start end) 0 r (now (list .entry)) (now (list .exit)) ⌝ }
+    ensures { λ r. ⌜ RouteWritten (now (work .entry)) pitch start end (now (distances .entry)) (now (list .entry)) r (now (list .exit)) ⌝ }
 {
     let steps = distances[start] as usize;
     list[0] = start as u16;

@@ -14,6 +14,7 @@ fn turn_line(work: &mut [u8], pitch: usize, x: usize)
     let mut y: usize = 0;
     while y < states {
         if work[line + y / 8] == 0 {
+            // No step is in this byte.
             y = (y / 8 + 1) * 8;
         } else {
             if planes::get_at(work, line, y) {

@@ -1,12 +1,11 @@
 -- The distances after a round of the search.
-use mathlib.Core.Path.{_≡_, refl, sym, subst, _∙_}
+use mathlib.Core.Path.{_≡_, refl, sym, subst}
 use mathlib.Core.List.{List, [], _∷_}
 use mathlib.Core.Logic.{_⊎_, inl, inr, ⊎-elim}
 use Prim.Native.Nat.{ℕ, zero, suc, _+_, _<_, _≤_}
 use native.Mathlib.Omega.{arith}
 use native.Mathlib.Decide.{ℕ-discrete, decLe}
-use lib.ListN.{length, getD}
-use Rattle.route.specs.Laws.Leading.{Leads}
+use lib.ListN.{getD}
 use Rattle.route.specs.Distances.{Away, In, Near, Farther}
 
 module _ (S : ℕ) (R : ℕ → ℕ → Type 0) (b : ℕ) where

@@ -25,7 +25,7 @@ write-route-requires c κs =
 returns-2 : tie.Need-returns-2
 returns-2 c =
     let w = c .before .before .write-route .ensures in
-    drawn-some _ _ _ _ _ _ (write-route-requires (c .before .before .before) (c .before .before .write-route .lifetimes)) _ _ (w .0) (w .1)
+    drawn-some _ _ _ _ _ _ (write-route-requires (c .before .before .before) (c .before .before .write-route .lifetimes)) _ _ (w .counted) (w .written)
 
 pub draw-by-spec : {M : Type 1} → statement M
 draw-by-spec =

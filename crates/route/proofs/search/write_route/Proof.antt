@@ -94,10 +94,11 @@ same-length c =
 returns : tie.Need-returns Inv-loop μ-loop
 returns c =
     let I = c .before .loop .inv in
-    let W = c .before .before .before .before .before .pre in (
-      sym (count _ _ _ _ _ _ W),
-      with-first _ _ _ _ _ _ W _ _ (written-all _ _ _ _ _ _ (I .0) _ _ _ (I .1) (c .loop-test .left)),
-    )
+    let W = c .before .before .before .before .before .pre in
+    record {
+      counted = sym (count _ _ _ _ _ _ W);
+      written = with-first _ _ _ _ _ _ W _ _ (written-all _ _ _ _ _ _ (I .0) _ _ _ (I .1) (c .loop-test .left));
+    }
 
 pub write-route-spec : {M : Type 1} → statement M
 write-route-spec =
