@@ -14,7 +14,7 @@ use Rattle.route.specs.Computed.{orOneMore}
 use Rattle.route.specs.Search.{Marked}
 
 -- a state that has a distance keeps it
-has-distance : (d : ℕ) (steps : Bool) (k : ℕ) → (d ≡ 0 → ⊥) → orOneMore d steps k ≡ d
+pub has-distance : (d : ℕ) (steps : Bool) (k : ℕ) → (d ≡ 0 → ⊥) → orOneMore d steps k ≡ d
 has-distance zero steps k h = absurd (h refl)
 has-distance (suc d) steps k h = refl
 

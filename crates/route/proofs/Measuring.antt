@@ -9,8 +9,8 @@ use native.Mathlib.Omega.{arith}
 use lib.ListN.{length, getD}
 use Rattle.route.specs.Distances.{Near}
 use Rattle.route.specs.Search.{Steps, Marked, Advanced, Measured}
-use Rattle.route.specs.Laws.Searching.{near-start, near-more, near-all}
-use Rattle.route.proofs.Rounds.{at-distance, round-first}
+use Rattle.route.specs.Laws.Searching.{at-distance, near-start, near-more, near-all}
+use Rattle.route.proofs.Rounds.{round-first}
 
 -- the distances up to k are known
 pub record Measuring (work : List ℕ) (pitch b k : ℕ) (ds : List ℕ) : Type 0 where

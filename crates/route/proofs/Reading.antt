@@ -21,7 +21,7 @@ use Rattle.route.specs.Computed.{isOnward, orCount, nextState}
 use Rattle.route.specs.Meant.{route-short, route-by}
 use Rattle.route.specs.Search.{Steps, Nearer, routeAlong, Writable}
 use Rattle.route.specs.Laws.Onward.{onward-iff, onward-at, onward-length}
-use Rattle.route.proofs.Rounds.{at-distance, of-distance}
+use Rattle.route.specs.Laws.Searching.{at-distance, of-distance}
 use Rattle.route.proofs.StepPlane.{no-step}
 
 -- a byte without a step has no state that passes

@@ -3,7 +3,7 @@ use mathlib.Core.Path.{_≡_, refl, sym, ap₂, subst, _∙_}
 use mathlib.Core.Bool.{Bool, true, false, false≢true}
 use mathlib.Core.List.{List}
 use mathlib.Core.Logic.{_⊎_, inl, inr, ⊎-elim}
-use Prim.Native.Nat.{ℕ, zero, suc, _+_, _*_, _<_, _≤_}
+use Prim.Native.Nat.{ℕ, suc, _+_, _*_, _<_, _≤_}
 use native.Mathlib.Nat.{not-suc-le-zero}
 use native.Mathlib.Decide.{ℕ-discrete}
 use native.Mathlib.Omega.{arith}
@@ -13,20 +13,8 @@ use Rattle.planes.specs.Plane.{cell}
 use Rattle.route.specs.Computed.{orOneMore}
 use Rattle.route.specs.Distances.{Away, Farther}
 use Rattle.route.specs.Search.{Steps, Marked, Advanced}
-
--- at a distance of one or more
-pub at-distance : (ds : List ℕ) (b k x : ℕ) → 1 ≤ k → Away ds b k x → getD ds x 0 ≡ k
-at-distance ds b zero x h a = absurd (omega (arith, h))
-at-distance ds b (suc k) x h a = a
-
-pub of-distance : (ds : List ℕ) (b k x : ℕ) → 1 ≤ k → getD ds x 0 ≡ k → Away ds b k x
-of-distance ds b zero x h a = absurd (omega (arith, h))
-of-distance ds b (suc k) x h a = a
-
--- what marking makes of a distance
-has : (d : ℕ) (steps : Bool) (k : ℕ) → 1 ≤ d → orOneMore d steps k ≡ d
-has zero steps k h = absurd (omega (arith, h))
-has (suc d) steps k h = refl
+use Rattle.route.specs.Laws.Searching.{at-distance, of-distance}
+use Rattle.route.proofs.Marking.{has-distance}
 
 module _ (work : List ℕ) (pitch b k : ℕ) (before : List ℕ) where
   abbrev S : ℕ
@@ -52,7 +40,7 @@ module _ (work : List ℕ) (pitch b k : ℕ) (before : List ℕ) where
       (all : (z : ℕ) → z < m → Away before b k z → (z < n) ⊎ (z ≡ x)) (M : Marked work pitch x k S l after) where
     -- a state that had a distance keeps it
     had : (y : ℕ) → y < S → 1 ≤ getD l y 0 → getD after y 0 ≡ getD l y 0
-    had y hy h = M .here y hy ∙ has (getD l y 0) (cell work 0 pitch y x) k h
+    had y hy h = M .here y hy ∙ has-distance (getD l y 0) (cell work 0 pitch y x) k (λ e. omega (arith, e, h))
 
     kept : (y : ℕ) → y < S → 1 ≤ getD before y 0 → getD after y 0 ≡ getD before y 0
     kept y hy h = let q = F .kept y hy h in had y hy (omega (arith, q)) ∙ q

@@ -8,6 +8,15 @@ use native.Mathlib.Decide.{ℕ-discrete, decLe}
 use lib.ListN.{getD}
 use Rattle.route.specs.Distances.{Away, In, Near, Farther}
 
+-- one step or more away is a distance
+pub at-distance : (ds : List ℕ) (b k x : ℕ) → 1 ≤ k → Away ds b k x → getD ds x 0 ≡ k
+at-distance ds b zero x h a = absurd (omega (arith, h))
+at-distance ds b (suc k) x h a = a
+
+pub of-distance : (ds : List ℕ) (b k x : ℕ) → 1 ≤ k → getD ds x 0 ≡ k → Away ds b k x
+of-distance ds b zero x h a = absurd (omega (arith, h))
+of-distance ds b (suc k) x h a = a
+
 module _ (S : ℕ) (R : ℕ → ℕ → Type 0) (b : ℕ) where
   -- one step more
   pub in-more : {k x y : ℕ} → y < S → R x y → In S R b k y → In S R b (suc k) x
@@ -108,14 +117,10 @@ module _ (S : ℕ) (R : ℕ → ℕ → Type 0) (b : ℕ) where
       subst (λ (k : ℕ). Near S R b k ds) (omega arith)
       (near-all n (suc k) ds (omega arith) (near-more k ds near ds same) (λ x hx e. omega (arith, e, near .upTo x hx)))
     where
-      away : (k x : ℕ) → 1 ≤ k → Away ds b k x → getD ds x 0 ≡ k
-      away zero x h a = absurd (omega (arith, h))
-      away (suc k) x h a = a
-
       same : Farther S R b k S ds ds
       same =
           record {
             kept = λ y hy p. refl;
-            reached = λ y x hy e hx a r. absurd (none x hx (away k x h a));
+            reached = λ y x hy e hx a r. absurd (none x hx (at-distance ds b k x h a));
             only = λ y hy e. inl e;
           }
