@@ -9,7 +9,7 @@ use lib.ListN.{length, getD, drop}
 use Rattle.planes.specs.Plane.{cell}
 use Rattle.planes.specs.Lines.{Put}
 use Rattle.planes.specs.Laws.Copies.{put-is}
-use Rattle.route.specs.Meant.{no-walk}
+use Rattle.route.specs.Laws.Meant.{no-walk}
 use Rattle.route.specs.Search.{Steps, Measured, Writable, routeAlong, Drawn}
 use Rattle.route.proofs.Reading.{is-route, count, short}
 

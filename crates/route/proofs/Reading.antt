@@ -18,7 +18,7 @@ use Rattle.verdict.specs.Computed.{firstFrom}
 use Rattle.verdict.specs.Laws.FirstState.{FirstPassing, first-is}
 use Rattle.route.specs.Route.{Route}
 use Rattle.route.specs.Computed.{isOnward, orCount, nextState}
-use Rattle.route.specs.Meant.{route-short, route-by}
+use Rattle.route.specs.Laws.Meant.{route-short, route-by}
 use Rattle.route.specs.Search.{Steps, Nearer, routeAlong, Writable}
 use Rattle.route.specs.Laws.Onward.{onward-iff, onward-at, onward-length}
 use Rattle.route.specs.Laws.Searching.{at-distance, of-distance}

@@ -35,7 +35,7 @@ use Rattle.route.specs.declared.Routed.{Routed}
 use Rattle.route.specs.declared.Routed.the-variants.{Found, NoRoute}
 use Rattle.route.specs.InNet.{IsIn, route, route-is-meant, only-answer}
 use Rattle.route.specs.Route.{Is}
-use Rattle.route.specs.Meant.{is-same}
+use Rattle.route.specs.Laws.Meant.{is-same}
 use Rattle.route.specs.Answer.{found, noRoute, refused, routeAnswerOf}
 use Rattle.route.specs.Call.{ofRoute, withRoute, RouteCall, networkOf, row14, row15, routeRow, routeRefusal, routeFor, routeAnswer, listAfter, workAfter, RoutePromised}
 use Rattle.route.specs.Turned.{TwoPlanes, Turned}

@@ -1,4 +1,4 @@
--- The route, computed: what is proved of it stands in Meant.
+-- The route, computed: what is proved of it stands in Laws.Meant.
 use mathlib.Core.Bool.{Bool, cond, _&&_}
 use mathlib.Core.List.{List, [], _∷_}
 use mathlib.Core.Option.{Option, none, some}

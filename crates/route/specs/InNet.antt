@@ -16,7 +16,7 @@ use Rattle.verdict.specs.Computed.{tableOf}
 use Rattle.verdict.specs.Laws.Tabled.{table-agrees}
 use Rattle.route.specs.Route.{Trail, Route, Is}
 use Rattle.route.specs.Computed.{tabledRoute}
-use Rattle.route.specs.Meant.{one-route, trail-walk, short-trail, only, route-short, route-meant, route-iff}
+use Rattle.route.specs.Laws.Meant.{one-route, trail-walk, short-trail, only, route-short, route-meant, route-iff}
 
 -- the list is a path of one or more steps of the network, both ends included
 abbrev pub PathIn : Net → ℕ → ℕ → List ℕ → Type 0

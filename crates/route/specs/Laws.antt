@@ -3,4 +3,5 @@ pub mod Leading
 pub mod Cutting
 pub mod Searching
 pub mod Onward
+pub mod Meant
 pub mod Bounds

@@ -3,7 +3,6 @@ pub mod Route
 pub mod Computed
 pub mod Distances
 pub mod Laws
-pub mod Meant
 pub mod InNet
 pub mod Answer
 pub mod Call
