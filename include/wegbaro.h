@@ -3,8 +3,8 @@
  * The words used here (record, policy, state, route, row) are explained in docs/FORMAT.md, installed in share/doc/wegbaro.
  *
  * Every length, every content and every number is allowed: what is wrong with them is answered as a refusal. Asked of
- * the caller is only what C asks of any function: each pointer is not null, even with length 0, and has its length behind
- * it, in bytes or, for a list, in entries; and the buffers of one call do not overlap.
+ * the caller is only what C asks of any function: each pointer is not null, even with length 0, is aligned as its type
+ * asks, and has its length behind it, in bytes or, for a list, in entries; and the buffers of one call do not overlap.
  *
  * Memory: everything is in the buffers, which are lent for the call alone. No call keeps a pointer, allocates, or
  * remembers an earlier call. On the stack a call needs at most WEGBARO_STACK_BYTES.

@@ -16,12 +16,15 @@ use Rattle.records.specs.Widths.{states, widthsOf}
 use Rattle.records.specs.State.{state, headerOf, portOf, switchOf, directionOf, ordinary}
 use Rattle.records.specs.Pattern.{ternary, matches, putBits}
 use Rattle.records.specs.NetK.{record24, node, A, B, policy0, K}
+use Rattle.rows.specs.Rows.{row1}
+use Rattle.rows.specs.Refusal.{argumentsRow, checkRefusal}
 use Rattle.actions.specs.Chosen.{ruleMatches, outranked, best, orMiss, chosen}
 use Rattle.actions.specs.Actions.{reached, copies, sent}
 use Rattle.steps.specs.Step.{across, next, Step, external}
 use Rattle.truth.specs.Computed.{anyBelow}
 use Rattle.verdict.specs.Computed.{tableOf, firstFrom}
 use Rattle.route.specs.Computed.{isAway, isOnward, fartherAt, distances, nextState, onward, routeBy, routeOf, tabledRoute}
+use Rattle.route.specs.Call.{row14, row15, routeRow, routeCall, routeRefusal}
 use Rattle.route.specs.InNet.{RouteIn, IsIn, routedFrom, routed, route, route-is-meant}
 
 -- all that the examples compute with
@@ -41,6 +44,13 @@ from-2 = subst (IsIn K 2 28) (ap (λ (l : List (Option (List ℕ))). getD l 0 no
 -- no walk leads from 28 to 2
 from-28 : Walk (states (widthsOf K)) (Step K) 28 2 → ⊥
 from-28 = subst (IsIn K 28 2) (ap (λ (l : List (Option (List ℕ))). getD l 1 none) routes-of-K) (route-is-meant K 28 2)
+
+-- rows 14 and 15 at K's 32 states: the last state and the next number, as the start and as the end; a list of 32 entries and of 33; 14 before 15, and row 1 before both
+rows-of-K :
+    routeRow K 31 31 33 ∷ routeRow K 32 0 33 ∷ routeRow K 0 32 33 ∷ routeRow K 0 0 32 ∷ routeRow K 32 0 32 ∷ routeRefusal (routeCall [] 0 [] 32 0 []) ∷ []
+    ≡ none ∷ some (14, 0) ∷ some (14, 0) ∷ some (15, 0) ∷ some (14, 0) ∷ some (1, 0) ∷ []
+unfolding computing row1 argumentsRow checkRefusal row14 row15 routeRow routeRefusal
+rows-of-K = refl
 
 -- a ring of three, a chain with a short cut from 0 to 2, and steps by one or two
 unfoldable ring : ℕ → ℕ → Bool
