@@ -1,10 +1,10 @@
 -- The fields of a record, as its kind reads them: ranges, widths, patterns, actions and unnamed bytes.
-use mathlib.Core.Bool.{Bool, true, false, not, _&&_, _||_}
+use mathlib.Core.Bool.{Bool, true, false, not, _&&_}
 use Prim.Native.Nat.{ℕ, suc, _+_, _*_, _^_}
 use lib.Dec.{eqb, leb, ltb}
 use lib.ListN.{take, drop}
 use Rattle.records.specs.Lists.{all}
-use Rattle.records.specs.Record.{Rec, mostPolicies, at, kind, RecordKind, kWidths, kLink, kMiss, kRule, kNode, kNoRecord, recordKind, CommandKind, kAdd, kModify, kDelete, kNoCommand, commandKind}
+use Rattle.records.specs.Record.{Rec, mostPolicies, at, kind, RecordKind, kWidths, kLink, kMiss, kRule, kNode, kNoRecord, recordKind, CommandKind, kAdd, kModify, kDelete, kNoCommand, commandKind, ActionKind, kOutput, kSet, kInPort, kNoAction, actionKind}
 use Rattle.records.specs.Widths.{width}
 use Rattle.records.specs.Pattern.{patternGood}
 use Rattle.records.specs.Policy.{NodeKind, kBIT, kR, kE, kNOT, kAND, kOR, kSOME, kALL, kTC, kNone, nodeKind}
@@ -18,14 +18,24 @@ zeros first last r = all (eqb 0) (drop first (take (suc last) r))
 unfoldable pub pointGood : Widths → ℕ → ℕ → Bool
 pointGood w sw p = ltb sw (2 ^ w .w) && ltb p (2 ^ w .p)
 
--- the bytes of an action that is used: OUTPUT with a port pattern, or, not as the last, SET with a header pattern
+-- value and care are zero
+abbrev pub noPattern : ℕ → ℕ → Bool
+noPattern value care = eqb value 0 && eqb care 0
+
+-- an action of each kind that is used: OUTPUT with a port pattern; SET with a header pattern, and not the last; IN_PORT with value and care zero
+abbrev pub usedFields : ActionKind → Widths → ℕ → ℕ → Bool → Bool
+usedFields kOutput w value care last = patternGood (w .p) value care
+usedFields kSet w value care last = patternGood (w .h) value care && not last
+usedFields kInPort w value care last = noPattern value care
+usedFields kNoAction w value care last = false
+
+-- the bytes of an action that is used
 abbrev pub usedGood : Widths → ℕ → ℕ → ℕ → Bool → Bool
-usedGood w k value care last =
-    (eqb k 1 && patternGood (w .p) value care) || (eqb k 2 && patternGood (w .h) value care && not last)
+usedGood w k value care last = usedFields (actionKind k) w value care last
 
 -- the bytes of an action that is not used are zero
 abbrev pub unusedGood : ℕ → ℕ → ℕ → Bool
-unusedGood k value care = eqb k 0 && eqb value 0 && eqb care 0
+unusedGood k value care = eqb k 0 && noPattern value care
 
 -- action i of `count` by its three bytes
 unfoldable pub actionBytesGood : Widths → ℕ → ℕ → ℕ → ℕ → ℕ → Bool

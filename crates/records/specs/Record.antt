@@ -58,6 +58,14 @@ pub data CommandKind : Type 0 where
 unfoldable pub commandKind : ℕ → CommandKind
 commandKind k = getD (kNoCommand ∷ kNoCommand ∷ kNoCommand ∷ kNoCommand ∷ kNoCommand ∷ kNoCommand ∷ kAdd ∷ kModify ∷ kDelete ∷ []) k kNoCommand
 
+-- the kinds of actions, and none
+pub data ActionKind : Type 0 where
+  kOutput kSet kInPort kNoAction : ActionKind
+
+-- OUTPUT is 1, SET 2, IN_PORT 3
+unfoldable pub actionKind : ℕ → ActionKind
+actionKind k = getD (kNoAction ∷ kOutput ∷ kSet ∷ kInPort ∷ []) k kNoAction
+
 -- the first n records of a store
 unfoldable pub records : ℕ → List ℕ → Net
 records zero s = []

@@ -12,7 +12,7 @@ ghost use Rattle.records.specs.Record.{kind};
 ghost use Rattle.records.specs.Widths.{withinLimits, widthsOf};
 ghost use Rattle.records.specs.State.{ordinary};
 ghost use Rattle.records.specs.Pattern.{patternGood};
-ghost use Rattle.records.specs.Fields.{zeros, pointGood, matchGood, actionGood, actionsGood, nodeGood, fieldsGood, commandGood};
+ghost use Rattle.records.specs.Fields.{zeros, pointGood, noPattern, matchGood, actionGood, actionsGood, nodeGood, fieldsGood, commandGood};
 
 // The bytes from the first up to the last are zero.
 pub fn zeros(r: &[u8], first: usize, last: usize) -> bool
@@ -75,6 +75,16 @@ pub fn match_good(w: Widths, body: &[u8]) -> bool
     pattern_good(w.h, body[5], body[6])
 }
 
+// An action's value and care are zero.
+fn no_pattern(value: u8, care: u8) -> bool
+    ensures { λ g. ⌜ g ≡ noPattern value care ⌝ }
+{
+    if value != 0 {
+        return false;
+    }
+    care == 0
+}
+
 // Action i of a body that uses `count` of them.
 fn action_good(w: Widths, body: &[u8], count: u8, i: u8) -> bool
     requires { ⌜ (length (now body) ≡ 20) × (withinLimits w ≡ true) × (i < 4) ⌝ }
@@ -88,10 +98,7 @@ fn action_good(w: Widths, body: &[u8], count: u8, i: u8) -> bool
         if k != 0 {
             return false;
         }
-        if value != 0 {
-            return false;
-        }
-        return care == 0;
+        return no_pattern(value, care);
     }
     match k {
         1 => pattern_good(w.p, value, care),
@@ -101,7 +108,8 @@ fn action_good(w: Widths, body: &[u8], count: u8, i: u8) -> bool
             }
             pattern_good(w.h, value, care)
         }
-        0 | 3..=255 => false,
+        3 => no_pattern(value, care),
+        0 | 4..=255 => false,
     }
 }
 

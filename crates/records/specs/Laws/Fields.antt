@@ -11,7 +11,7 @@ use lib.Dec.{eqb, leb, ltb, lit<, lit≤}
 use lib.ListN.{length, getD, take, drop, length-drop}
 use lib.Seq.{length-take-le, getD-take, getD-drop, slice-cons, slice-empty}
 use Rattle.records.specs.Lists.{all}
-use Rattle.records.specs.Record.{Rec, mostPolicies, at, kind, recordKind, commandKind}
+use Rattle.records.specs.Record.{Rec, mostPolicies, at, kind, recordKind, commandKind, kNoAction, actionKind}
 use Rattle.records.specs.Policy.{nodeKind}
 use Rattle.records.specs.Fields.{zeros, usedGood, unusedGood, actionBytesGood, actionGood, actionsGood, pointGood, matchGood, nodeGood, fieldsGood, commandGood}
 use Rattle.records.specs.declared.Widths.{Widths}
@@ -95,6 +95,15 @@ module _ (w : Widths) (r : Rec) where
   unfolding actionsGood
   actions-pass l h f =
       simp (le-leb 1 (at r 8) l, le-leb (at r 8) 4 h, f 0 (lit< tt), f 1 (lit< tt), f 2 (lit< tt), f 3 (lit< tt))
+
+-- no action has another kind than 1, 2 and 3
+pub no-action : (k : ℕ) → (k ≡ 1 → ⊥) → (k ≡ 2 → ⊥) → (k ≡ 3 → ⊥) → actionKind k ≡ kNoAction
+unfolding actionKind
+no-action zero a b c = refl
+no-action (suc zero) a b c = absurd (a refl)
+no-action (suc (suc zero)) a b c = absurd (b refl)
+no-action (suc (suc (suc zero))) a b c = absurd (c refl)
+no-action (suc (suc (suc (suc k)))) a b c = refl
 
 -- no node has a kind above 8
 pub no-node : (w : Widths) (k a b : ℕ) → 9 ≤ k → nodeGood w k a b ≡ false

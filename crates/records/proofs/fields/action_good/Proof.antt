@@ -1,13 +1,14 @@
 use borrow.Author.Needs.{needs}
 use borrow.Author.Tests.{eq-eqb, ne-eqb}
 use mathlib.Core.Path.{_≡_, sym, _∙_}
-use mathlib.Core.Bool.{and-true, and-false, or-false}
+use mathlib.Core.Bool.{and-true, and-false}
 use denote.Ref.{now}
 use Prim.Native.Nat.{suc}
 use native.Mathlib.Numerals.{add-one}
 use native.Mathlib.Omega.{arith}
+use Rattle.records.specs.Record.{actionKind}
 use Rattle.records.specs.Laws.Limits.{limits}
-use Rattle.records.specs.Laws.Fields.{action-used, action-unused}
+use Rattle.records.specs.Laws.Fields.{action-used, action-unused, no-action}
 use Rattle.records.proofs.fields.action_good.Statement.{statement}
 use Rattle.records.proofs.fields.action_good.Tie as tie
 
@@ -21,19 +22,14 @@ returns-2 : tie.Need-returns-2
 returns-2 c =
     let d = c .before .before in
     let a = d .before .before .before .before .before .args in
-    rw (action-unused (a .w) (now (a .body)) (a .count) (a .i) (d .if1 .taken), eq-eqb _ 0 (c .before .if2 .left), ne-eqb _ 0 (c .if3 .taken))
-
-returns-3 : tie.Need-returns-3
-returns-3 c =
-    let d = c .before .before in
-    let a = d .before .before .before .before .before .args in
-    rw (action-unused (a .w) (now (a .body)) (a .count) (a .i) (d .if1 .taken), eq-eqb _ 0 (c .before .if2 .left), eq-eqb _ 0 (c .if3 .left))
+    rw (action-unused (a .w) (now (a .body)) (a .count) (a .i) (d .if1 .taken), eq-eqb _ 0 (c .before .if2 .left)) (c .no-pattern .ensures)
 
 pattern-good-requires : tie.Need-pattern-good-requires
 pattern-good-requires c κs = let d = c .before in omega (arith, limits _ (d .before .before .before .before .before .pre .1))
 
-returns-4 : tie.Need-returns-4
-returns-4 c =
+returns-3 : tie.Need-returns-3
+unfolding actionKind
+returns-3 c =
     let d = c .before .before in
     let a = d .before .before .before .before .before .args in
     let last : suc (a .i) ≡ a .count = omega arith in
@@ -44,30 +40,40 @@ pattern-good-requires-2 c κs =
     let d = c .before .before in
     omega (arith, limits _ (d .before .before .before .before .before .pre .1))
 
-returns-5 : tie.Need-returns-5
-returns-5 c =
+returns-4 : tie.Need-returns-4
+unfolding actionKind
+returns-4 c =
     let d = c .before .before in
     let a = d .before .before .before .before .before .args in
-    rw (action-used (a .w) (now (a .body)) (a .count) (a .i) (d .if1 .left), c .before .match .keys1) (c .pattern-good .ensures ∙ sym (or-false _))
+    rw (action-used (a .w) (now (a .body)) (a .count) (a .i) (d .if1 .left), c .before .match .keys1) (c .pattern-good .ensures)
 
-returns-6 : tie.Need-returns-6
-returns-6 c =
+returns-5 : tie.Need-returns-5
+unfolding actionKind
+returns-5 c =
     let d = c .before .before .before in
     let a = d .before .before .before .before .before .args in
-    rw (action-used (a .w) (now (a .body)) (a .count) (a .i) (d .if1 .left), c .before .before .match .keys2, ne-eqb (suc (a .i)) (a .count) (λ e. c .before .if4 .left (add-one (a .i) ∙ e)))
+    rw (action-used (a .w) (now (a .body)) (a .count) (a .i) (d .if1 .left), c .before .before .match .keys2, ne-eqb (suc (a .i)) (a .count) (λ e. c .before .if3 .left (add-one (a .i) ∙ e)))
     (c .pattern-good2 .ensures ∙ sym (and-true _))
 
+returns-6 : tie.Need-returns-6
+unfolding actionKind
+returns-6 c =
+    let d = c .before .before in
+    let a = d .before .before .before .before .before .args in
+    rw (action-used (a .w) (now (a .body)) (a .count) (a .i) (d .if1 .left), c .before .match .keys3) (c .no-pattern2 .ensures)
+
 returns-7 : tie.Need-returns-7
+unfolding actionKind
 returns-7 c =
     let d = c .before in
     let a = d .before .before .before .before .before .args in
-    rw (action-used (a .w) (now (a .body)) (a .count) (a .i) (d .if1 .left), c .match .keys3)
+    rw (action-used (a .w) (now (a .body)) (a .count) (a .i) (d .if1 .left), c .match .keys4)
 
 returns-8 : tie.Need-returns-8
 returns-8 c =
     let d = c .before in
     let a = d .before .before .before .before .before .args in
-    rw (action-used (a .w) (now (a .body)) (a .count) (a .i) (d .if1 .left), ne-eqb _ 1 (c .match .rest .0 .0 .1), ne-eqb _ 2 (c .match .rest .0 .1))
+    rw (action-used (a .w) (now (a .body)) (a .count) (a .i) (d .if1 .left), no-action _ (c .match .rest .0 .0 .0 .1) (c .match .rest .0 .0 .1) (c .match .rest .0 .1))
 
 pub action-good-spec : {M : Type 1} → statement M
 action-good-spec =
@@ -81,12 +87,14 @@ action-good-spec =
     (λ c. search needs)
     (λ c. search needs)
     returns
+    (λ c κs. search needs)
     returns-2
-    returns-3
     pattern-good-requires
     (λ c. search needs)
-    returns-4
+    returns-3
     pattern-good-requires-2
+    (λ c κs. search needs)
+    returns-4
     returns-5
     returns-6
     returns-7
