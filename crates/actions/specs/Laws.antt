@@ -1,6 +1,7 @@
 -- Laws that are cited, and need not be read to believe a promise.
 pub mod AddedBits
 pub mod Bodies
+pub mod Bounce
 pub mod Chosen
 pub mod CopiesInOrder
 pub mod GoodActions

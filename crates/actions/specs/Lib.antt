@@ -1,6 +1,7 @@
 -- The choice of a rule, and what its actions send.
 pub mod Chosen
 pub mod Actions
+pub mod Computing
 pub mod ByPlace
 pub mod Wards
 pub mod Adds

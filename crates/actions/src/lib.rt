@@ -11,19 +11,38 @@ ghost use lib.ListN.{length};
 ghost use Rattle.records.specs.Lists.{from};
 ghost use Rattle.records.specs.Fields.{actionsGood};
 ghost use Rattle.records.specs.Pattern.{patternGood};
-ghost use Rattle.actions.specs.Actions.{reached, sent};
+ghost use Rattle.actions.specs.Actions.{except, reached, departing, sent};
 ghost use Rattle.actions.specs.ByPlace.{arrival, ofBody};
 ghost use Rattle.actions.specs.Adds.{lineBytes, Added};
-ghost use Rattle.actions.specs.Sent.{Sends, departing, flooded, UsedAction, Acted};
+ghost use Rattle.actions.specs.Sent.{Sends, flooded, UsedAction, Acted};
 
 pub mod choice;
 pub mod state;
 
-// Sends a copy to port q, if OUTPUT with stars reaches it.
-fn offer(work: &mut [u8], line: usize, w: Widths, sw: u8, value: u8, care: u8, h: u8, q: u8)
+// Sends a copy to port q.
+fn send(work: &mut [u8], line: usize, w: Widths, sw: u8, h: u8, q: u8)
+    requires { ⌜ Sends w line sw h (now work) × (q < 2 ^ w .p) ⌝ }
+    ensures { λ _. ⌜ Added (departing w sw h (q ∷ [])) line (lineBytes w) (now (work .entry)) (now (work .exit)) ⌝ }
+{
+    planes::set_at(work, line, number(w, 1, sw, q, h));
+}
+
+// Sends a copy to port q, unless it is the arrival port p.
+fn send_on(work: &mut [u8], line: usize, w: Widths, sw: u8, p: u8, h: u8, q: u8)
+    requires { ⌜ Sends w line sw h (now work) × (q < 2 ^ w .p) ⌝ }
+    ensures { λ _. ⌜ Added (departing w sw h (except p (q ∷ []))) line (lineBytes w) (now (work .entry)) (now (work .exit)) ⌝ }
+{
+    if q == p {
+        return;
+    }
+    send(work, line, w, sw, h, q);
+}
+
+// Sends a copy to port q, if OUTPUT with stars reaches it from the arrival port p.
+fn offer(work: &mut [u8], line: usize, w: Widths, sw: u8, p: u8, value: u8, care: u8, h: u8, q: u8)
     requires { ⌜ Sends w line sw h (now work) ⌝ }
     requires { ⌜ (patternGood (w .p) value care ≡ true) × (q < 2 ^ w .p) ⌝ }
-    ensures { λ _. ⌜ Added (departing w sw h (flooded w value care (q ∷ []))) line (lineBytes w) (now (work .entry)) (now (work .exit)) ⌝ }
+    ensures { λ _. ⌜ Added (departing w sw h (flooded w p value care (q ∷ []))) line (lineBytes w) (now (work .entry)) (now (work .exit)) ⌝ }
 {
     if !is_ordinary(w, q) {
         return;
@@ -31,56 +50,64 @@ fn offer(work: &mut [u8], line: usize, w: Widths, sw: u8, value: u8, care: u8, h
     if q & care != value {
         return;
     }
-    planes::set_at(work, line, number(w, 1, sw, q, h));
+    send_on(work, line, w, sw, p, h, q);
 }
 
-// Sends a copy to each port that OUTPUT with stars reaches.
-fn flood(work: &mut [u8], line: usize, w: Widths, sw: u8, value: u8, care: u8, h: u8)
+// Sends a copy to each port that OUTPUT with stars reaches from the arrival port p.
+fn flood(work: &mut [u8], line: usize, w: Widths, sw: u8, p: u8, value: u8, care: u8, h: u8)
     requires { ⌜ Sends w line sw h (now work) ⌝ }
     requires { ⌜ patternGood (w .p) value care ≡ true ⌝ }
-    ensures { λ _. ⌜ Added (departing w sw h (flooded w value care (from 0 (2 ^ w .p)))) line (lineBytes w) (now (work .entry)) (now (work .exit)) ⌝ }
+    ensures { λ _. ⌜ Added (departing w sw h (flooded w p value care (from 0 (2 ^ w .p)))) line (lineBytes w) (now (work .entry)) (now (work .exit)) ⌝ }
 {
     let end = values(w.p);
     let mut q: u8 = 0;
     while q < end {
-        offer(work, line, w, sw, value, care, h, q);
+        offer(work, line, w, sw, p, value, care, h, q);
         q += 1;
     }
 }
 
-// Sends a copy to each port that OUTPUT reaches.
-fn output(work: &mut [u8], line: usize, w: Widths, sw: u8, value: u8, care: u8, h: u8)
+// Sends a copy to each port that OUTPUT reaches from the arrival port p.
+fn output(work: &mut [u8], line: usize, w: Widths, sw: u8, p: u8, value: u8, care: u8, h: u8)
     requires { ⌜ Sends w line sw h (now work) ⌝ }
     requires { ⌜ patternGood (w .p) value care ≡ true ⌝ }
-    ensures { λ _. ⌜ Added (departing w sw h (reached w value care)) line (lineBytes w) (now (work .entry)) (now (work .exit)) ⌝ }
+    ensures { λ _. ⌜ Added (departing w sw h (reached w p value care)) line (lineBytes w) (now (work .entry)) (now (work .exit)) ⌝ }
 {
     let all = values(w.p) - 1;
     if care == all {
-        planes::set_at(work, line, number(w, 1, sw, value, h));
+        send_on(work, line, w, sw, p, h, value);
     } else {
-        flood(work, line, w, sw, value, care, h);
+        flood(work, line, w, sw, p, value, care, h);
     }
 }
 
-// Runs action i of a record by its body, with the header of that moment; the header after it.
-fn act(work: &mut [u8], line: usize, w: Widths, sw: u8, body: &[u8], h: u8, i: usize) -> u8
-    requires { ⌜ Sends w line sw h (now work) ⌝ }
+// Runs action i of a record by its body, p being the arrival port and h the header of that moment; the header after it.
+fn act(work: &mut [u8], line: usize, w: Widths, sw: u8, p: u8, body: &[u8], h: u8, i: usize) -> u8
+    requires { ⌜ Sends w line sw h (now work) × (p < 2 ^ w .p) ⌝ }
     requires { ⌜ (length (now body) ≡ 20) × UsedAction w (ofBody (now body)) i ⌝ }
-    ensures { λ r. ⌜ Acted w sw (ofBody (now (body .entry))) h i line (now (work .entry)) (now (work .exit)) r ⌝ }
+    ensures { λ r. ⌜ Acted w sw p (ofBody (now (body .entry))) h i line (now (work .entry)) (now (work .exit)) r ⌝ }
 {
     let k = 8 + 3 * i;
+    let kind = body[k];
     let value = body[k + 1];
     let care = body[k + 2];
-    if body[k] == 2 {
-        return (h & !care) | value;
+    match kind {
+        1 => {
+            output(work, line, w, sw, p, value, care, h);
+            h
+        }
+        2 => (h & !care) | value,
+        3 => {
+            send(work, line, w, sw, h, p);
+            h
+        }
+        0 | 4..=255 => h,
     }
-    output(work, line, w, sw, value, care, h);
-    h
 }
 
 // Runs the actions of a record by its body, in order.
 pub fn run(work: &mut [u8], line: usize, w: Widths, sw: u8, p: u8, body: &[u8], h: u8)
-    requires { ⌜ Sends w line sw h (now work) ⌝ }
+    requires { ⌜ Sends w line sw h (now work) × (p < 2 ^ w .p) ⌝ }
     requires { ⌜ (length (now body) ≡ 20) × (actionsGood w (ofBody (now body)) ≡ true) ⌝ }
     ensures { λ _. ⌜ Added (sent w (arrival sw p h) (ofBody (now (body .entry)))) line (lineBytes w) (now (work .entry)) (now (work .exit)) ⌝ }
 {
@@ -89,7 +116,7 @@ pub fn run(work: &mut [u8], line: usize, w: Widths, sw: u8, p: u8, body: &[u8], 
     let mut header = h;
     while 0 < left {
         let i = count - left;
-        header = act(work, line, w, sw, body, header, i);
+        header = act(work, line, w, sw, p, body, header, i);
         left -= 1;
     }
 }

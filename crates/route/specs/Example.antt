@@ -7,19 +7,16 @@ use Prim.Native.Nat.{ℕ, _+_, _%_}
 use native.Mathlib.Decide.{decLt}
 use lib.Dec.{eqb}
 use lib.ListN.{getD}
-use Rattle.planes.specs.Bit.{bitOf}
 use Rattle.planes.specs.Tabulated.{gridTest, tab}
 use Rattle.closure.specs.Walk.{Walk}
-use Rattle.records.specs.Lists.{keep, any, member, from}
-use Rattle.records.specs.Record.{ofKind, priority, endsAt, linked}
+use Rattle.records.specs.Lists.{member}
+use Rattle.records.specs.Record.{endsAt, linked}
 use Rattle.records.specs.Widths.{states, widthsOf}
-use Rattle.records.specs.State.{state, headerOf, portOf, switchOf, directionOf, ordinary}
-use Rattle.records.specs.Pattern.{ternary, matches, putBits}
+use Rattle.records.specs.State.{headerOf, portOf, switchOf, directionOf}
 use Rattle.records.specs.NetK.{record24, node, A, B, policy0, K}
 use Rattle.rows.specs.Rows.{row1}
 use Rattle.rows.specs.Refusal.{argumentsRow, checkRefusal}
-use Rattle.actions.specs.Chosen.{ruleMatches, outranked, best, orMiss, chosen}
-use Rattle.actions.specs.Actions.{reached, copies, sent}
+use Rattle.actions.specs.Computing.{sending}
 use Rattle.steps.specs.Step.{across, next, Step, external}
 use Rattle.truth.specs.Computed.{anyBelow}
 use Rattle.verdict.specs.Computed.{tableOf, firstFrom}
@@ -29,7 +26,7 @@ use Rattle.route.specs.InNet.{RouteIn, IsIn, routedFrom, routed, route, 
 
 -- all that the examples compute with
 unfoldable computing : Unit {0}
-unfolding flatMap bitOf gridTest tab keep any member from ofKind priority endsAt linked states widthsOf state headerOf portOf switchOf directionOf ordinary ternary matches putBits record24 node A B policy0 K ruleMatches outranked best orMiss chosen reached copies sent across next external tableOf anyBelow firstFrom isAway isOnward fartherAt distances nextState onward routeBy routeOf tabledRoute routedFrom routed route decLt
+unfolding flatMap gridTest tab member endsAt linked states headerOf portOf switchOf directionOf record24 node A B policy0 K sending across next external tableOf anyBelow firstFrom isAway isOnward fartherAt distances nextState onward routeBy routeOf tabledRoute routedFrom routed route decLt
 computing = tt
 
 -- from 2 to 28 by way of 20 and 10; from 28 to 2 there is none

@@ -7,22 +7,20 @@ use mathlib.Core.Logic.{_↔_}
 use Prim.Native.Nat.{ℕ, zero, suc, _<_}
 use lib.Dec.{lit<}
 use lib.ListN.{getD}
-use Rattle.planes.specs.Bit.{bitOf}
 use Rattle.planes.specs.Laws.Tests.{not-both}
 use Rattle.closure.specs.Walk.{Walk}
 use Rattle.planes.specs.Tabulated.{gridTest, tab, grid}
 use Rattle.closure.specs.Computed.{orLine, addLine, round, rounds, closed}
-use Rattle.records.specs.Lists.{keep, any, all, member, sameNumbers, from}
-use Rattle.records.specs.Record.{Net, recordKind, commandKind, records, flat, ofKind, priority, sameRule, present, endsAt, linked}
+use Rattle.records.specs.Lists.{all, member, sameNumbers}
+use Rattle.records.specs.Record.{Net, recordKind, commandKind, records, flat, sameRule, present, endsAt, linked}
 use Rattle.records.specs.Widths.{states, planeBytes, withinLimits, widthsOf}
-use Rattle.records.specs.State.{state, headerOf, portOf, switchOf, directionOf, ordinary}
-use Rattle.records.specs.Pattern.{ternary, matches, putBits, patternGood}
+use Rattle.records.specs.State.{headerOf, portOf, switchOf, directionOf}
+use Rattle.records.specs.Pattern.{patternGood}
 use Rattle.records.specs.Policy.{X, Y, R, TC, nodeKind, nodeSays, firstNodes, formula, nodesOf, policyCount, forbidden, longestOf, longest, free}
 use Rattle.rows.specs.Rows.{row1, row2, row3, row4, row5, row6, row7, row8, row9, row10, row11, row12, row13, missesIncomplete, operandsGood, endsPolicy, freeAt, workNeeded}
 use Rattle.records.specs.Fields.{zeros, pointGood, actionBytesGood, actionGood, actionsGood, matchGood, nodeGood, fieldsGood, commandGood}
 use Rattle.rows.specs.Refusal.{recordRow, fileRow, argumentsRow, networkRow, checkRefusal, commandRow, commandRefusal}
-use Rattle.actions.specs.Chosen.{ruleMatches, outranked, best, orMiss, chosen}
-use Rattle.actions.specs.Actions.{reached, copies, sent}
+use Rattle.actions.specs.Computing.{sending}
 use Rattle.steps.specs.Step.{across, next, Step, external}
 use Rattle.truth.specs.Truth.{Truth}
 use Rattle.verdict.specs.Verdict.{Verdict, holds, violated, Holds, Lowest, Is}
@@ -39,7 +37,7 @@ use Rattle.verdict.specs.Laws.Tabled.{truth-iff}
 
 -- all that a starred case computes with
 unfoldable pub computing : Unit {0}
-unfolding flatMap bitOf gridTest orLine addLine round rounds tab grid closed keep any all member sameNumbers from recordKind commandKind records flat ofKind priority sameRule present endsAt linked states planeBytes withinLimits widthsOf state headerOf portOf switchOf directionOf ordinary ternary matches putBits patternGood nodeKind nodeSays firstNodes formula nodesOf policyCount forbidden longestOf longest free row1 row2 row3 row4 row5 row6 row7 row8 row9 row10 row11 row12 row13 zeros pointGood actionBytesGood actionGood actionsGood matchGood nodeGood fieldsGood missesIncomplete operandsGood endsPolicy freeAt workNeeded commandGood recordRow fileRow argumentsRow networkRow checkRefusal commandRow commandRefusal ruleMatches outranked best orMiss chosen reached copies sent across next external tableOf anyBelow allBelow truth firstFrom lowestState verdictFrom judgement verdict asRule withActions changed inserted removed added applied checkAnswer outcomeOf judged stored record24 node A B policy0 K inStore addAny addZero addSet addDrop deleteAbsent addD deleteD
+unfolding flatMap gridTest orLine addLine round rounds tab grid closed all member sameNumbers recordKind commandKind records flat sameRule present endsAt linked states planeBytes withinLimits headerOf portOf switchOf directionOf patternGood nodeKind nodeSays firstNodes formula nodesOf policyCount forbidden longestOf longest free row1 row2 row3 row4 row5 row6 row7 row8 row9 row10 row11 row12 row13 zeros pointGood actionBytesGood actionGood actionsGood matchGood nodeGood fieldsGood missesIncomplete operandsGood endsPolicy freeAt workNeeded commandGood recordRow fileRow argumentsRow networkRow checkRefusal commandRow commandRefusal sending across next external tableOf anyBelow allBelow truth firstFrom lowestState verdictFrom judgement verdict asRule withActions changed inserted removed added applied checkAnswer outcomeOf judged stored record24 node A B policy0 K inStore addAny addZero addSet addDrop deleteAbsent addD deleteD
 computing = tt
 
 -- the network with the first add's rule and D in the file

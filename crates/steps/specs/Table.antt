@@ -1,25 +1,23 @@
--- The whole step table of a small network, by computation: what each state steps to, written by hand from document 01, "One step".
+-- The whole step table of a small network, by computation: what each state steps to, written by hand from document 01, "One step", and from request 2 of document 02.
 use mathlib.Core.Path.{_≡_, refl}
 use mathlib.Core.List.{[], _∷_, map, flatMap}
 use mathlib.Core.Option.{none}
-use Rattle.planes.specs.Bit.{bitOf}
-use Rattle.records.specs.Lists.{keep, any, all, member, sameNumbers, from}
-use Rattle.records.specs.Record.{recordKind, ofKind, priority, sameRule, present, endsAt, linked}
-use Rattle.records.specs.Widths.{withinLimits, widthsOf}
-use Rattle.records.specs.State.{state, headerOf, portOf, switchOf, directionOf, ordinary}
-use Rattle.records.specs.Pattern.{ternary, matches, putBits, patternGood}
+use Rattle.records.specs.Lists.{keep, all, member, sameNumbers, from}
+use Rattle.records.specs.Record.{recordKind, sameRule, present, endsAt, linked}
+use Rattle.records.specs.Widths.{withinLimits}
+use Rattle.records.specs.State.{headerOf, portOf, switchOf, directionOf}
+use Rattle.records.specs.Pattern.{patternGood}
 use Rattle.rows.specs.Rows.{row3, row4, row5, row6, row7, row8, row9, row10, missesIncomplete}
 use Rattle.records.specs.Fields.{zeros, pointGood, actionBytesGood, actionGood, actionsGood, matchGood, fieldsGood}
 use Rattle.rows.specs.Refusal.{recordRow, fileRow}
 use Rattle.records.specs.NetK.{record24}
-use Rattle.actions.specs.Chosen.{ruleMatches, outranked, best, orMiss, chosen}
-use Rattle.actions.specs.Actions.{reached, copies, sent}
-use Rattle.actions.specs.Wards.{flood, shadowed, mirror, equal, rewrite, back, wards}
+use Rattle.actions.specs.Computing.{sending}
+use Rattle.actions.specs.Wards.{flood, shadowed, mirror, equal, rewrite, back, answer, wards}
 use Rattle.steps.specs.Step.{across, next, external}
 
 -- all that its steps compute with
 unfoldable stepping : Unit {0}
-unfolding flatMap bitOf recordKind keep any all member sameNumbers from ofKind priority sameRule present endsAt linked withinLimits widthsOf state headerOf portOf switchOf directionOf ordinary ternary matches putBits patternGood row3 row4 row5 row6 row7 row8 row9 row10 zeros pointGood actionBytesGood actionGood actionsGood matchGood fieldsGood missesIncomplete recordRow fileRow ruleMatches outranked best orMiss chosen reached copies sent across next external record24 flood shadowed mirror equal rewrite back wards
+unfolding flatMap recordKind all member sameNumbers sameRule present endsAt linked withinLimits headerOf portOf switchOf directionOf patternGood row3 row4 row5 row6 row7 row8 row9 row10 zeros pointGood actionBytesGood actionGood actionsGood matchGood fieldsGood missesIncomplete recordRow fileRow sending across next external record24 flood shadowed mirror equal rewrite back answer wards
 stepping = tt
 
 -- no row refuses the network
@@ -32,14 +30,14 @@ table :
     map (next wards) (from 0 64)
     -- arriving at switch 0: ports 0, 1, 2 and 3
     ≡ [] ∷ [] ∷ [] ∷ []
-    ∷ (36 ∷ 40 ∷ []) ∷ (37 ∷ 41 ∷ []) ∷ (38 ∷ 42 ∷ []) ∷ (39 ∷ 43 ∷ [])
-    ∷ (36 ∷ 45 ∷ []) ∷ (37 ∷ 45 ∷ []) ∷ (42 ∷ []) ∷ (35 ∷ [])
+    ∷ (40 ∷ []) ∷ (41 ∷ []) ∷ (42 ∷ []) ∷ (43 ∷ [])
+    ∷ (36 ∷ 45 ∷ []) ∷ (37 ∷ 45 ∷ []) ∷ [] ∷ (35 ∷ [])
     ∷ (40 ∷ []) ∷ (33 ∷ []) ∷ (42 ∷ []) ∷ (35 ∷ [])
     -- arriving at switch 1
     ∷ [] ∷ [] ∷ [] ∷ []
     ∷ (56 ∷ 54 ∷ []) ∷ (57 ∷ 54 ∷ []) ∷ (54 ∷ []) ∷ (55 ∷ [])
     ∷ (60 ∷ []) ∷ (61 ∷ []) ∷ (62 ∷ []) ∷ (63 ∷ [])
-    ∷ (60 ∷ []) ∷ (61 ∷ []) ∷ (62 ∷ []) ∷ (63 ∷ [])
+    ∷ (60 ∷ []) ∷ (61 ∷ []) ∷ [] ∷ []
     -- departing from switch 0: port 2 is linked
     ∷ [] ∷ [] ∷ [] ∷ []
     ∷ [] ∷ [] ∷ [] ∷ []

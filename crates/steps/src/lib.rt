@@ -11,7 +11,7 @@ use records::fields::is_ordinary;
 use scan::Layout;
 ghost use mathlib.Core.Path.{_≡_};
 ghost use mathlib.Core.Bool.{true};
-ghost use Prim.Native.Nat.{_+_, _≤_};
+ghost use Prim.Native.Nat.{_+_, _^_, _<_, _≤_};
 ghost use lib.ListN.{length};
 ghost use Rattle.planes.specs.Plane.{planeSize};
 ghost use Rattle.planes.specs.Lines.{Made};
@@ -31,7 +31,7 @@ pub mod links;
 
 // Adds what an arrival steps to.
 fn relay(work: &mut [u8], line: usize, store: &[u8], n: usize, l: Layout, sw: u8, p: u8, h: u8)
-    requires { ⌜ Sends (l .widths) line sw h (now work) ⌝ }
+    requires { ⌜ Sends (l .widths) line sw h (now work) × (p < 2 ^ l .widths .p) ⌝ }
     requires { ⌜ Stored n l (now store) ⌝ }
     ensures { λ _. ⌜ Added (relayed (records n (now (store .entry))) (l .widths) (arrival sw p h)) line (lineBytes (l .widths)) (now (work .entry)) (now (work .exit)) ⌝ }
 {

@@ -5,8 +5,9 @@ use native.Mathlib.Omega.{arith}
 use lib.ListN.{length}
 use Rattle.records.specs.Lists.{keep, from}
 use Rattle.records.specs.Laws.Limits.{limits}
+use Rattle.actions.specs.Actions.{except, departing}
 use Rattle.actions.specs.Adds.{lineBytes, Added}
-use Rattle.actions.specs.Sent.{departing, flooded}
+use Rattle.actions.specs.Sent.{flooded}
 use Rattle.actions.specs.Laws.AddedBits.{TowardList, list-more, added-none}
 use Rattle.actions.specs.Laws.SentCopies.{sends-on, ports-left}
 use Rattle.actions.proofs.flood.Statement.{statement}
@@ -14,18 +15,18 @@ use Rattle.actions.proofs.flood.Tie as tie
 
 -- the ports from q on are left
 abbrev Inv-loop : tie.InvT-loop
-Inv-loop work₀ line w sw value care h end q₀ work q =
+Inv-loop work₀ line w sw p value care h end q₀ work q =
     (end ≡ 2 ^ w .p) × (q ≤ end) × (length work ≡ length work₀)
-    × TowardList line (lineBytes w) (departing w sw h (flooded w value care (from 0 (2 ^ w .p)))) (departing w sw h (flooded w value care (from q (end - q)))) work₀ work
+    × TowardList line (lineBytes w) (departing w sw h (flooded w p value care (from 0 (2 ^ w .p)))) (departing w sw h (flooded w p value care (from q (end - q)))) work₀ work
 
 abbrev μ-loop : tie.MeasureT-loop
-μ-loop work₀ line w sw value care h end q₀ work q = end - q
+μ-loop work₀ line w sw p value care h end q₀ work q = end - q
 
 loop-holds : tie.Need-loop-holds Inv-loop μ-loop
 loop-holds c =
     let a = c .before .before .args in
     let e : c .values .result - 0 ≡ 2 ^ a .w .p = omega (arith, c .values .ensures) in
-    (c .values .ensures, omega arith, refl, λ d R. subst (λ (k : ℕ). Added (departing (a .w) (a .sw) (a .h) (flooded (a .w) (a .value) (a .care) (from 0 k))) (a .line) (lineBytes (a .w)) (now (a .work)) d) e R)
+    (c .values .ensures, omega arith, refl, λ d R. subst (λ (k : ℕ). Added (departing (a .w) (a .sw) (a .h) (flooded (a .w) (a .p) (a .value) (a .care) (from 0 k))) (a .line) (lineBytes (a .w)) (now (a .work)) d) e R)
 
 values-requires : tie.Need-values-requires Inv-loop μ-loop
 values-requires c κs = omega (arith, limits (c .before .args .w) (c .before .pre .0 .ready .limits) .high-p)
@@ -49,14 +50,14 @@ loop-again c =
       omega arith,
       A .len ∙ o .inv .2,
       list-more (a .line) (lineBytes (a .w)) _ _ _ _ _ _ _
-          (ports-left (a .w) (a .sw) (a .value) (a .care) (a .h) (o .q) e (c .before .before .before .before .loop-test .taken)) (o .inv .3) A,
+          (ports-left (a .w) (a .p) (a .value) (a .care) (a .sw) (a .h) (o .q) e (c .before .before .before .before .loop-test .taken)) (o .inv .3) A,
     )
 
 same-length : tie.Need-same-length Inv-loop μ-loop
 same-length c = c .before .loop .inv .2
 
 returns : tie.Need-returns Inv-loop μ-loop
-unfolding departing flooded from keep
+unfolding departing flooded except from keep
 returns c =
     let o = c .before .loop in
     let e : c .before .before .values .result - o .q ≡ 0 = omega arith in

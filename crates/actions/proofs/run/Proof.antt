@@ -5,10 +5,9 @@ use mathlib.Core.List.{_++_}
 use Prim.Native.Nat.{ℕ, _-_, _^_, _≤_, _<_}
 use native.Mathlib.Omega.{arith}
 use lib.ListN.{length, getD}
-use Rattle.actions.specs.Actions.{sent, copies}
+use Rattle.actions.specs.Actions.{sentBy, sent, copies}
 use Rattle.actions.specs.ByPlace.{arrival, ofBody}
 use Rattle.actions.specs.Adds.{lineBytes, Added}
-use Rattle.actions.specs.Sent.{sentBy}
 use Rattle.actions.specs.Laws.CopiesInOrder.{copies-left, header-after-lt}
 use Rattle.actions.specs.Laws.AddedBits.{TowardList, list-more, added-none}
 use Rattle.actions.specs.Laws.GoodActions.{used-action}
@@ -37,7 +36,7 @@ loop-holds c =
     let n = getD b 7 0 in
     let e : n - n ≡ 0 = omega arith in (
       omega arith,
-      s .pre .0 .ready .header,
+      s .pre .0 .0 .ready .header,
       refl,
       λ d R. subst (λ (k : ℕ). Added (copies (a .w) (arrival (a .sw) (a .p) (a .h)) (ofBody b) (a .h) k n) (a .line) (lineBytes (a .w)) (now (a .work)) d) e R,
     )
@@ -47,7 +46,7 @@ act-requires c κs =
     let s = c .before .before .before .before .before .before in
     let a = s .args in
     let o = c .before .before .loop in (
-      sends-on (a .w) (a .line) (a .sw) (a .h) (o .header) (now (a .work)) (o .work) (o .inv .2) (o .inv .1) (s .pre .0),
+      (sends-on (a .w) (a .line) (a .sw) (a .h) (o .header) (now (a .work)) (o .work) (o .inv .2) (o .inv .1) (s .pre .0 .0), s .pre .0 .1),
       (s .pre .1 .0, used-action (a .w) (ofBody (now (a .body))) (s .pre .1 .1) _ (omega arith)),
     )
 
@@ -61,11 +60,11 @@ loop-again c =
     let n = getD (now (a .body)) 7 0 in
     let i = n - o .left in (
       omega arith,
-      subst⁻¹ (λ (k : ℕ). k < 2 ^ a .w .h) (A .header) (header-after-lt (a .w) (a .sw) r (o .header) _ (o .inv .1)),
+      subst⁻¹ (λ (k : ℕ). k < 2 ^ a .w .h) (A .header) (header-after-lt (a .w) r (o .header) _ (o .inv .1)),
       A .copies .len ∙ o .inv .2,
       list-more (a .line) (lineBytes (a .w)) _ _ _ _ _ _ _
           (copies-left (a .w) v r (o .header) n (o .left) (omega arith) (omega arith)
-          ∙ ap (λ (k : ℕ). sentBy (a .w) (a .sw) r (o .header) i ++ copies (a .w) v r k (n - (o .left - 1)) (o .left - 1)) (sym (A .header)))
+          ∙ ap (λ (k : ℕ). sentBy (a .w) (a .sw) (a .p) r (o .header) i ++ copies (a .w) v r k (n - (o .left - 1)) (o .left - 1)) (sym (A .header)))
           (o .inv .3) (A .copies),
     )
 

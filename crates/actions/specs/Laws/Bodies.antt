@@ -10,9 +10,8 @@ use Rattle.records.specs.Record.{Rec, at, priority, records}
 use Rattle.records.specs.declared.Widths.{Widths}
 use Rattle.records.specs.Laws.Records.{record-at, byte-of}
 use Rattle.actions.specs.Chosen.{Arrival, ruleMatches}
-use Rattle.actions.specs.Actions.{copies, sent}
+use Rattle.actions.specs.Actions.{sentBy, headerAfter, copies, sent}
 use Rattle.actions.specs.ByPlace.{ofBody, rankOf}
-use Rattle.actions.specs.Sent.{sentBy, headerAfter}
 use Rattle.actions.specs.Laws.CopiesInOrder.{copies-cons}
 
 -- n bytes of a store from the second byte of record i
@@ -66,9 +65,9 @@ module _ (w : Widths) (r q : Rec) (same : SameTo 20 r q) where
       )
 
   module _ (h i : ℕ) (few : i < 4) where
-    sent-by-same : (sw : ℕ) → sentBy w sw r h i ≡ sentBy w sw q h i
+    sent-by-same : (sw p : ℕ) → sentBy w sw p r h i ≡ sentBy w sw p q h i
     unfolding sentBy
-    sent-by-same sw = rw (same (9 + 3 * i) (omega arith) (omega arith), same (10 + 3 * i) (omega arith) (omega arith), same (11 + 3 * i) (omega arith) (omega arith))
+    sent-by-same sw p = rw (same (9 + 3 * i) (omega arith) (omega arith), same (10 + 3 * i) (omega arith) (omega arith), same (11 + 3 * i) (omega arith) (omega arith))
 
     header-after-same : headerAfter w r h i ≡ headerAfter w q h i
     unfolding headerAfter
@@ -80,7 +79,7 @@ module _ (w : Widths) (r q : Rec) (same : SameTo 20 r q) where
   copies-same a h i (suc k) l =
       let few : i < 4 = omega arith in
       copies-cons w a r h i k
-      ∙ ap₂ {C = List ℕ} _++_ (sent-by-same h i few (a .switch))
+      ∙ ap₂ {C = List ℕ} _++_ (sent-by-same h i few (a .switch) (a .port))
       (ap (λ (m : ℕ). copies w a r m (suc i) k) (header-after-same h i few) ∙ copies-same a (headerAfter w q h i) (suc i) k (omega arith))
       ∙ sym (copies-cons w a q h i k)
 

@@ -1,16 +1,15 @@
 -- What good fields of a record say.
-use borrow.Author.Tests.{lt-ltb, eqb-true, leb-true}
+use borrow.Author.Tests.{lt-ltb, leb-true}
 use mathlib.Core.Path.{_≡_, sym, ap, ap₂, _∙_}
-use mathlib.Core.Bool.{Bool, true, false, not, _&&_, _||_}
-use mathlib.Core.Logic.{⊎-elim}
+use mathlib.Core.Bool.{Bool, true, false, not, _&&_}
 use Prim.Native.Nat.{ℕ, zero, suc, _+_, _*_, _^_, _<_, _≤_}
 use native.Mathlib.Omega.{arith}
 use lib.Bits.{bitAnd, and-le-r}
 use lib.Dec.{eqb, leb, ltb}
-use Rattle.planes.specs.Laws.Tests.{and-left, and-right, or-cases}
-use Rattle.records.specs.Record.{Rec, at}
+use Rattle.planes.specs.Laws.Tests.{and-left, and-right}
+use Rattle.records.specs.Record.{Rec, at, ActionKind, kOutput, kSet, actionKind}
 use Rattle.records.specs.Pattern.{patternGood}
-use Rattle.records.specs.Fields.{matchGood, actionBytesGood, actionGood, actionsGood}
+use Rattle.records.specs.Fields.{matchGood, usedFields, usedGood, unusedGood, actionBytesGood, actionGood, actionsGood}
 use Rattle.records.specs.Laws.Patterns.{matches-mask, care-lt, value-within}
 use Rattle.records.specs.declared.Widths.{Widths}
 use Rattle.actions.specs.Chosen.{Arrival, ruleMatches}
@@ -40,39 +39,31 @@ module _ (w : Widths) (r : Rec) (good : matchGood w r ≡ true) where
 pub pattern-value-lt : (k value care : ℕ) → patternGood k value care ≡ true → value < 2 ^ k
 pattern-value-lt k value care good = omega (arith, value-within k value care good, and-le-r value care, care-lt k value care good)
 
--- a used action is OUTPUT with a port pattern or SET with a header pattern
+-- an action that is used, by its kind
 module _ (w : Widths) (r : Rec) (i : ℕ) (U : UsedAction w r i) where
   abbrev kindOf : ℕ
   kindOf = at r (9 + 3 * i)
 
-  abbrev asOutput : Bool
-  asOutput = patternGood (w .p) (at r (10 + 3 * i)) (at r (11 + 3 * i))
+  abbrev value : ℕ
+  value = at r (10 + 3 * i)
 
-  abbrev asSet : Bool
-  asSet = patternGood (w .h) (at r (10 + 3 * i)) (at r (11 + 3 * i))
+  abbrev care : ℕ
+  care = at r (11 + 3 * i)
 
-  either : ((eqb kindOf 1 && asOutput) || (eqb kindOf 2 && asSet && not (eqb (suc i) (at r 8)))) ≡ true
+  used-good : usedGood w kindOf value care (eqb (suc i) (at r 8)) ≡ true
   unfolding actionGood actionBytesGood
-  either =
-      sym (ap (λ (t : Bool). elim t as (λ x. Bool) [
-        | true ↦ (eqb kindOf 1 && asOutput) || (eqb kindOf 2 && asSet && not (eqb (suc i) (at r 8)))
-        | false ↦ eqb kindOf 0 && eqb (at r (10 + 3 * i)) 0 && eqb (at r (11 + 3 * i)) 0
-      ]) (lt-ltb i (at r 8) (U .used)))
+  used-good =
+      sym (ap (λ (t : Bool). elim t as (λ x. Bool) [ true ↦ usedGood w kindOf value care (eqb (suc i) (at r 8)) | false ↦ unusedGood kindOf value care ]) (lt-ltb i (at r 8) (U .used)))
       ∙ U .good
 
-  pub set-pattern : at r (9 + 3 * i) ≡ 2 → patternGood (w .h) (at r (10 + 3 * i)) (at r (11 + 3 * i)) ≡ true
-  set-pattern e =
-      ⊎-elim
-      (λ o. absurd (omega (arith, e, eqb-true kindOf 1 (and-left (eqb kindOf 1) asOutput o))))
-      (λ o. and-right (eqb kindOf 2) asSet (and-left (eqb kindOf 2 && asSet) (not (eqb (suc i) (at r 8))) o))
-      (or-cases (eqb kindOf 1 && asOutput) (eqb kindOf 2 && asSet && not (eqb (suc i) (at r 8))) either)
+  used-as : (k : ActionKind) → actionKind kindOf ≡ k → usedFields k w value care (eqb (suc i) (at r 8)) ≡ true
+  used-as k e = sym (ap (λ (x : ActionKind). usedFields x w value care (eqb (suc i) (at r 8))) e) ∙ used-good
 
-  pub output-pattern : (at r (9 + 3 * i) ≡ 2 → ⊥) → patternGood (w .p) (at r (10 + 3 * i)) (at r (11 + 3 * i)) ≡ true
-  output-pattern n =
-      ⊎-elim
-      (λ o. and-right (eqb kindOf 1) asOutput o)
-      (λ o. absurd (n (eqb-true kindOf 2 (and-left (eqb kindOf 2) asSet (and-left (eqb kindOf 2 && asSet) (not (eqb (suc i) (at r 8))) o)))))
-      (or-cases (eqb kindOf 1 && asOutput) (eqb kindOf 2 && asSet && not (eqb (suc i) (at r 8))) either)
+  pub set-pattern : actionKind (at r (9 + 3 * i)) ≡ kSet → patternGood (w .h) (at r (10 + 3 * i)) (at r (11 + 3 * i)) ≡ true
+  set-pattern e = and-left (patternGood (w .h) value care) (not (eqb (suc i) (at r 8))) (used-as kSet e)
+
+  pub output-pattern : actionKind (at r (9 + 3 * i)) ≡ kOutput → patternGood (w .p) (at r (10 + 3 * i)) (at r (11 + 3 * i)) ≡ true
+  output-pattern e = used-as kOutput e
 
 -- the used actions of a record with good actions
 module _ (w : Widths) (r : Rec) (good : actionsGood w r ≡ true) where

@@ -3,7 +3,7 @@ use denote.Ref.{now}
 use mathlib.Core.Path.{sym, subst⁻¹, _∙_}
 use Prim.Native.Nat.{ℕ, _^_, _<_}
 use Rattle.records.specs.Record.{records}
-use Rattle.records.specs.Laws.States.{header-lt, switch-lt}
+use Rattle.records.specs.Laws.States.{header-lt, port-lt, switch-lt}
 use Rattle.actions.specs.Laws.AddedBits.{added-none}
 use Rattle.steps.proofs.NextStates.{relays-arriving, relays-departing}
 use Rattle.steps.proofs.relay_state.Statement.{statement}
@@ -21,14 +21,17 @@ relay-requires c κs =
     let s = c .before .before .before .before .before .before .before .before .before in
     let a = s .args in
     let w = a .l .widths in (
-      record {
-        ready = record {
-          limits = s .pre .1 .laid .limits;
-          room = s .pre .0;
-          header = subst⁻¹ (λ (n : ℕ). n < 2 ^ w .h) (c .header .ensures) (header-lt w (a .s));
-        };
-        switch = subst⁻¹ (λ (n : ℕ). n < 2 ^ w .w) (c .before .before .switch .ensures) (switch-lt w (a .s));
-      },
+      (
+        record {
+          ready = record {
+            limits = s .pre .1 .laid .limits;
+            room = s .pre .0;
+            header = subst⁻¹ (λ (n : ℕ). n < 2 ^ w .h) (c .header .ensures) (header-lt w (a .s));
+          };
+          switch = subst⁻¹ (λ (n : ℕ). n < 2 ^ w .w) (c .before .before .switch .ensures) (switch-lt w (a .s));
+        },
+        subst⁻¹ (λ (n : ℕ). n < 2 ^ w .p) (c .before .port .ensures) (port-lt w (a .s)),
+      ),
       s .pre .1,
     )
 

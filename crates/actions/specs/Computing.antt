@@ -1,0 +1,14 @@
+-- What theorems by computation open to choose a rule and to run its actions.
+use Rattle.planes.specs.Bit.{bitOf}
+use Rattle.records.specs.Lists.{keep, any, from}
+use Rattle.records.specs.Record.{ofKind, priority, actionKind}
+use Rattle.records.specs.Widths.{widthsOf}
+use Rattle.records.specs.State.{state, ordinary}
+use Rattle.records.specs.Pattern.{ternary, matches, putBits}
+use Rattle.actions.specs.Chosen.{ruleMatches, outranked, best, orMiss, chosen}
+use Rattle.actions.specs.Actions.{named, except, reached, departing, sentBy, headerAfter, copies, sent}
+
+-- all that is sent computes with
+unfoldable pub sending : Unit {0}
+unfolding bitOf keep any from ofKind priority actionKind widthsOf state ordinary ternary matches putBits ruleMatches outranked best orMiss chosen named except reached departing sentBy headerAfter copies sent
+sending = tt

@@ -1,0 +1,167 @@
+-- A frame goes back to the arrival port by IN_PORT, and by nothing else.
+use borrow.Author.Tests.{eq-eqb, eqb-true, ne-eqb}
+use mathlib.Core.Path.{_≡_, refl, sym, ap, subst, subst⁻¹, _∙_}
+use mathlib.Core.Bool.{Bool, true, false, cond, not, false≢true}
+use mathlib.Core.List.{List, [], _∷_, _++_, map}
+use mathlib.Core.Logic.{_↔_, ⊎-elim}
+use Prim.Native.Nat.{ℕ, zero, suc, _+_, _-_, _*_, _^_, _<_, _≤_}
+use native.Mathlib.Decide.{ℕ-discrete}
+use native.Mathlib.Omega.{arith}
+use lib.Dec.{eqb}
+use Rattle.planes.specs.Laws.Tests.{or-left, or-right, or-cases}
+use Rattle.records.specs.Lists.{keep, any, member, from}
+use Rattle.records.specs.Record.{Rec, at, ActionKind, kOutput, kSet, kInPort, kNoAction, actionKind}
+use Rattle.records.specs.Fields.{actionsGood}
+use Rattle.records.specs.Pattern.{patternGood}
+use Rattle.records.specs.State.{state, portOf}
+use Rattle.records.specs.Laws.States.{port-of}
+use Rattle.records.specs.declared.Widths.{Widths}
+use Rattle.actions.specs.Chosen.{Arrival}
+use Rattle.actions.specs.Actions.{named, except, reached, departing, sentBy, headerAfter, copies, sent}
+use Rattle.actions.specs.Sent.{UsedAction}
+use Rattle.actions.specs.Laws.AddedBits.{member-append}
+use Rattle.actions.specs.Laws.CopiesInOrder.{named-one, named-starred, sent-as, header-after-lt, copies-cons}
+use Rattle.actions.specs.Laws.GoodActions.{pattern-value-lt, output-pattern, used-action}
+
+-- every number of a list is so
+abbrev Every : (ℕ → Type 0) → List ℕ → Type 0
+Every P l = (t : ℕ) → member t l ≡ true → P t
+
+module _ (P : ℕ → Type 0) where
+  every-none : Every P []
+  unfolding member any
+  every-none t m = absurd (false≢true m)
+
+  every-cons : (x : ℕ) (l : List ℕ) → P x → Every P l → Every P (x ∷ l)
+  unfolding member any
+  every-cons x l h e t m = ⊎-elim (λ q. subst⁻¹ P (eqb-true t x q) h) (e t) (or-cases (eqb t x) (member t l) m)
+
+  every-first : (x : ℕ) (l : List ℕ) → Every P (x ∷ l) → P x
+  unfolding member any
+  every-first x l e = e x (or-left (eqb x x) (member x l) (eq-eqb x x refl))
+
+  every-rest : (x : ℕ) (l : List ℕ) → Every P (x ∷ l) → Every P l
+  unfolding member any
+  every-rest x l e t m = e t (or-right (eqb t x) (member t l) m)
+
+  every-keep : (f : ℕ → Bool) (l : List ℕ) → Every P l → Every P (keep f l)
+  unfolding keep
+  every-keep f [] e = e
+  every-keep f (x ∷ l) e = step (f x) (every-keep f l (every-rest x l e))
+    where
+      step : (b : Bool) → Every P (keep f l) → Every P (cond b (x ∷ keep f l) (keep f l))
+      step true k = every-cons x (keep f l) (every-first x l e) k
+      step false k = k
+
+-- the k numbers from i on are below i + k
+every-from : (i k : ℕ) → Every (λ q. q < i + k) (from i k)
+unfolding from
+every-from i zero = every-none (λ q. q < i + zero)
+every-from i (suc k) = every-cons (λ q. q < i + suc k) i (from (suc i) k) (omega arith) (λ t m. omega (arith, every-from (suc i) k t m))
+
+-- OUTPUT names ports within their width
+named-lt : (w : Widths) (value care : ℕ) → patternGood (w .p) value care ≡ true → Every (λ q. q < 2 ^ w .p) (named w value care)
+named-lt w value care good = go (ℕ-discrete care (2 ^ w .p - 1))
+  where
+    Within : ℕ → Type 0
+    Within q = q < 2 ^ w .p
+
+    go : Dec (care ≡ 2 ^ w .p - 1) → Every Within (named w value care)
+    go (yes e) = subst⁻¹ (Every Within) (named-one w value care e) (every-cons Within value [] (pattern-value-lt (w .p) value care good) (every-none Within))
+    go (no n) = subst⁻¹ (Every Within) (named-starred w value care n) (every-keep Within _ (from 0 (2 ^ w .p)) (λ t m. omega (arith, every-from 0 (2 ^ w .p) t m)))
+
+-- what departs from some ports without p, departs elsewhere
+module _ (w : Widths) (sw p h : ℕ) (hs : sw < 2 ^ w .w) (hh : h < 2 ^ w .h) where
+  abbrev Elsewhere : ℕ → Type 0
+  Elsewhere s = portOf w s ≡ p → ⊥
+
+  elsewhere : (l : List ℕ) → Every (λ q. q < 2 ^ w .p) l → Every Elsewhere (departing w sw h (except p l))
+  unfolding departing except keep
+  elsewhere [] b = every-none Elsewhere
+  elsewhere (q ∷ l) b = step (ℕ-discrete q p) (elsewhere l (every-rest (λ q. q < 2 ^ w .p) q l b))
+    where
+      here : q < 2 ^ w .p
+      here = every-first (λ q. q < 2 ^ w .p) q l b
+
+      Left : Bool → Type 0
+      Left t = Every Elsewhere (map (λ x. state w 1 sw x h) (cond (not t) (q ∷ except p l) (except p l)))
+
+      step : Dec (q ≡ p) → Every Elsewhere (departing w sw h (except p l)) → Left (eqb q p)
+      step (yes e) rest = subst⁻¹ Left (eq-eqb q p e) rest
+      step (no n) rest =
+          subst⁻¹ Left (ne-eqb q p n) (every-cons Elsewhere (state w 1 sw q h) (departing w sw h (except p l)) (λ e. n (sym (port-of w 1 sw q h hs here hh) ∙ e)) rest)
+
+-- an arrival at a switch, and a record with good actions
+module _ (w : Widths) (a : Arrival) (hs : a .switch < 2 ^ w .w) (r : Rec) (good : actionsGood w r ≡ true) where
+  -- action i of the record is IN_PORT
+  abbrev IsInPort : ℕ → Type 0
+  IsInPort i = actionKind (at r (9 + 3 * i)) ≡ kInPort
+
+  -- a copy that departs at the arrival port was sent by IN_PORT
+  by-in-port : (h i : ℕ) → h < 2 ^ w .h → UsedAction w r i → (s : ℕ) → member s (sentBy w (a .switch) (a .port) r h i) ≡ true → portOf w s ≡ a .port → IsInPort i
+  unfolding departing reached
+  by-in-port h i hh U s m q = go (actionKind (at r (9 + 3 * i))) refl
+    where
+      go : (k : ActionKind) → actionKind (at r (9 + 3 * i)) ≡ k → IsInPort i
+      go kOutput e =
+          absurd (elsewhere w (a .switch) (a .port) h hs hh (named w (at r (10 + 3 * i)) (at r (11 + 3 * i))) (named-lt w _ _ (output-pattern w r i U e)) s
+          (ap (member s) (sym (sent-as w r h i (a .switch) (a .port) kOutput e)) ∙ m) q)
+      go kSet e = absurd (every-none (λ t. ⊥) s (ap (member s) (sym (sent-as w r h i (a .switch) (a .port) kSet e)) ∙ m))
+      go kInPort e = e
+      go kNoAction e = absurd (every-none (λ t. ⊥) s (ap (member s) (sym (sent-as w r h i (a .switch) (a .port) kNoAction e)) ∙ m))
+
+  from-action : (k i h : ℕ) → h < 2 ^ w .h → i + k ≡ at r 8 → (s : ℕ) → member s (copies w a r h i k) ≡ true → portOf w s ≡ a .port → (j : ℕ) × (j < at r 8) × IsInPort j
+  unfolding copies
+  from-action zero i h hh n s m q = absurd (every-none (λ t. ⊥) s m)
+  from-action (suc k) i h hh n s m q =
+      ⊎-elim
+      (λ f. (i, omega arith, by-in-port h i hh (used-action w r good i (omega arith)) s f q))
+      (λ f. from-action k (suc i) (headerAfter w r h i) (header-after-lt w r h i hh) (omega arith) s f q)
+      (or-cases (member s (sentBy w (a .switch) (a .port) r h i)) (member s (copies w a r (headerAfter w r h i) (suc i) k))
+      (sym (member-append s (sentBy w (a .switch) (a .port) r h i) (copies w a r (headerAfter w r h i) (suc i) k)) ∙ m))
+
+  -- IN_PORT sends a copy there
+  module _ (hp : a .port < 2 ^ w .p) where
+    abbrev GoesBack : List ℕ → Type 0
+    GoesBack l = (s : ℕ) × (member s l ≡ true) × (portOf w s ≡ a .port)
+
+    in-port-sends : (h i : ℕ) → h < 2 ^ w .h → IsInPort i → GoesBack (sentBy w (a .switch) (a .port) r h i)
+    unfolding departing member any
+    in-port-sends h i hh e =
+        let s = state w 1 (a .switch) (a .port) h in (
+          s,
+          ap (member s) (sent-as w r h i (a .switch) (a .port) kInPort e) ∙ or-left (eqb s s) false (eq-eqb s s refl),
+          port-of w 1 (a .switch) (a .port) h hs hp hh,
+        )
+
+    by-action : (k i h : ℕ) → h < 2 ^ w .h → i + k ≡ at r 8 → (j : ℕ) → i ≤ j → j < at r 8 → IsInPort j → GoesBack (copies w a r h i k)
+    unfolding copies
+    by-action zero i h hh n j l u e = absurd (omega arith)
+    by-action (suc k) i h hh n j l u e = go (ℕ-discrete i j) (by-action k (suc i) (headerAfter w r h i) (header-after-lt w r h i hh) (omega arith) j)
+      where
+        xs : List ℕ
+        xs = sentBy w (a .switch) (a .port) r h i
+
+        ys : List ℕ
+        ys = copies w a r (headerAfter w r h i) (suc i) k
+
+        go : Dec (i ≡ j) → (suc i ≤ j → j < at r 8 → IsInPort j → GoesBack ys) → GoesBack (xs ++ ys)
+        go (yes q) later =
+            let f = in-port-sends h i hh (subst⁻¹ IsInPort q e) in
+            (f .0, member-append (f .0) xs ys ∙ or-left (member (f .0) xs) (member (f .0) ys) (f .1), f .2)
+        go (no q) later =
+            let f = later (omega (arith, q)) u e in
+            (f .0, member-append (f .0) xs ys ∙ or-right (member (f .0) xs) (member (f .0) ys) (f .1), f .2)
+
+    -- a copy departs at the arrival port exactly if IN_PORT is among the record's actions
+    pub bounces-iff : a .header < 2 ^ w .h → ((s : ℕ) × (member s (sent w a r) ≡ true) × (portOf w s ≡ a .port)) ↔ ((i : ℕ) × (i < at r 8) × (actionKind (at r (9 + 3 * i)) ≡ kInPort))
+    unfolding sent
+    bounces-iff hh = (
+      λ b. from-action (at r 8) 0 (a .header) hh (omega arith) (b .0) (b .1) (b .2),
+      λ f. by-action (at r 8) 0 (a .header) hh (omega arith) (f .0) (omega arith) (f .1) (f .2),
+    )
+
+  -- so no copy of a record without IN_PORT departs at the arrival port
+  pub no-bounce : a .header < 2 ^ w .h → ((i : ℕ) → i < at r 8 → actionKind (at r (9 + 3 * i)) ≡ kInPort → ⊥) → (s : ℕ) → member s (sent w a r) ≡ true → portOf w s ≡ a .port → ⊥
+  unfolding sent
+  no-bounce hh none s m q = let f = from-action (at r 8) 0 (a .header) hh (omega arith) s m q in none (f .0) (f .1) (f .2)
