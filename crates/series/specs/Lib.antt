@@ -5,5 +5,6 @@ pub mod Exactly
 pub mod Existence
 pub mod Sound
 pub mod Starred
+pub mod NoBounce
 pub mod Stores
 pub mod Laws

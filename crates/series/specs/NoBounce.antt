@@ -1,0 +1,78 @@
+-- Request 2 of document 02 on network K, with rule B's actions replaced: one theorem by computation, and what it means.
+use borrow.Author.Tests.{eq-eqb, eqb-true}
+use mathlib.Core.Path.{_≡_, refl, sym, _∙_}
+use mathlib.Core.Bool.{true, or-false}
+use mathlib.Core.List.{List, [], _∷_, _++_, map}
+use mathlib.Core.Logic.{_↔_}
+use Prim.Native.Nat.{ℕ}
+use lib.Dec.{eqb}
+use Rattle.records.specs.Lists.{any, member}
+use Rattle.records.specs.Record.{Rec}
+use Rattle.records.specs.Policy.{X, Y, R, TC}
+use Rattle.records.specs.NetK.{record24, K}
+use Rattle.steps.specs.Step.{next, Step}
+use Rattle.truth.specs.Computed.{truth}
+use Rattle.verdict.specs.Computed.{tableOf}
+use Rattle.commands.specs.Apply.{applied}
+use Rattle.calls.specs.Answer.{forwarded, refused}
+use Rattle.calls.specs.Reference.{installedAtStart, outcomeOf}
+use Rattle.series.specs.Starred.{computing, those, Case, commanded, listed}
+
+-- modify of rule B (switch 1, port 1, any header): an action count and actions
+unfoldable modifyB : List ℕ → Rec
+modifyB actions = record24 ((7 ∷ 1 ∷ 10 ∷ 0 ∷ 1 ∷ 3 ∷ 0 ∷ 0 ∷ []) ++ actions)
+
+-- OUTPUT with stars
+unfoldable flooding : Rec
+flooding = modifyB (1 ∷ 1 ∷ 0 ∷ 0 ∷ [])
+
+-- IN_PORT
+unfoldable returning : Rec
+returning = modifyB (1 ∷ 3 ∷ 0 ∷ 0 ∷ [])
+
+-- what the states that arrive at (switch 1, port 1) step to, and what state 2 reaches: with stars no copy goes back to port 1, with IN_PORT it does, and over the link;
+-- then IN_PORT with a value, with a care, before another, and before a SET, which must not be the last
+bounce :
+    commanded (outcomeOf (installedAtStart K) flooding 2048 .answer)
+    ∷ listed (next (applied flooding K) 10)
+    ∷ listed (next (applied flooding K) 11)
+    ∷ listed (let reaches = truth (tableOf (applied flooding K)) (TC (R X Y) X Y) in those 32 0 (λ t. reaches 2 t))
+    ∷ commanded (outcomeOf (installedAtStart K) returning 2048 .answer)
+    ∷ listed (next (applied returning K) 10)
+    ∷ listed (next (applied returning K) 11)
+    ∷ listed (let reaches = truth (tableOf (applied returning K)) (TC (R X Y) X Y) in those 32 0 (λ t. reaches 2 t))
+    ∷ commanded (outcomeOf (installedAtStart K) (modifyB (1 ∷ 3 ∷ 1 ∷ 0 ∷ [])) 2048 .answer)
+    ∷ commanded (outcomeOf (installedAtStart K) (modifyB (1 ∷ 3 ∷ 0 ∷ 1 ∷ [])) 2048 .answer)
+    ∷ commanded (outcomeOf (installedAtStart K) (modifyB (2 ∷ 3 ∷ 0 ∷ 0 ∷ 3 ∷ 0 ∷ 0 ∷ [])) 2048 .answer)
+    ∷ commanded (outcomeOf (installedAtStart K) (modifyB (2 ∷ 3 ∷ 0 ∷ 0 ∷ 2 ∷ 0 ∷ 1 ∷ [])) 2048 .answer)
+    ∷ []
+    ≡ commanded (forwarded 20)
+    ∷ listed (28 ∷ [])
+    ∷ listed (29 ∷ [])
+    ∷ listed (10 ∷ 20 ∷ 28 ∷ [])
+    ∷ commanded (forwarded 20)
+    ∷ listed (26 ∷ [])
+    ∷ listed (27 ∷ [])
+    ∷ listed (4 ∷ 10 ∷ 16 ∷ 20 ∷ 26 ∷ [])
+    ∷ commanded (refused 12 0)
+    ∷ commanded (refused 12 0)
+    ∷ commanded (forwarded 20)
+    ∷ commanded (refused 12 0)
+    ∷ []
+unfolding computing those modifyB flooding returning
+bounce = refl
+
+-- a list of one number
+only : (t n : ℕ) → member t (n ∷ []) ≡ true ↔ t ≡ n
+unfolding member any
+only t n = (λ m. eqb-true t n (sym (or-false (eqb t n)) ∙ m), λ e. or-false (eqb t n) ∙ eq-eqb t n e)
+
+-- with stars state 10, which arrives at (switch 1, port 1), steps to 28 alone, which departs at port 2
+flooded-steps : (t : ℕ) → Step (applied flooding K) 10 t ↔ t ≡ 28
+unfolding Step computing modifyB flooding
+flooded-steps t = only t 28
+
+-- with IN_PORT it steps to 26 alone, which departs at port 1
+returned-steps : (t : ℕ) → Step (applied returning K) 10 t ↔ t ≡ 26
+unfolding Step computing modifyB returning
+returned-steps t = only t 26
