@@ -1,5 +1,6 @@
 -- Laws that are cited, and need not be read to believe a promise.
 pub mod AddedBits
+pub mod AmongChosen
 pub mod Bodies
 pub mod Bounce
 pub mod Chosen

@@ -1,4 +1,5 @@
 -- Laws that are cited, and need not be read to believe a promise.
+pub mod Every
 pub mod Fields
 pub mod Kinds
 pub mod Limits

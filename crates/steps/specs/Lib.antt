@@ -1,5 +1,6 @@
 -- One step of a packet state.
 pub mod Step
+pub mod NoBounce
 pub mod StepsOfK
 pub mod Table
 pub mod Relayed

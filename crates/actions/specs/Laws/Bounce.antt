@@ -14,6 +14,7 @@ use Rattle.records.specs.Record.{Rec, at, ActionKind, kOutput, kSet, kInPort, k
 use Rattle.records.specs.Fields.{actionsGood}
 use Rattle.records.specs.Pattern.{patternGood}
 use Rattle.records.specs.State.{state, portOf}
+use Rattle.records.specs.Laws.Every.{Every, every-member, every-from, every-keep}
 use Rattle.records.specs.Laws.States.{port-of}
 use Rattle.records.specs.declared.Widths.{Widths}
 use Rattle.actions.specs.Chosen.{Arrival}
@@ -23,41 +24,9 @@ use Rattle.actions.specs.Laws.AddedBits.{member-append}
 use Rattle.actions.specs.Laws.CopiesInOrder.{named-one, named-starred, sent-as, header-after-lt, copies-cons}
 use Rattle.actions.specs.Laws.GoodActions.{pattern-value-lt, output-pattern, used-action}
 
--- every number of a list is so
-abbrev Every : (ℕ → Type 0) → List ℕ → Type 0
-Every P l = (t : ℕ) → member t l ≡ true → P t
-
-module _ (P : ℕ → Type 0) where
-  every-none : Every P []
-  unfolding member any
-  every-none t m = absurd (false≢true m)
-
-  every-cons : (x : ℕ) (l : List ℕ) → P x → Every P l → Every P (x ∷ l)
-  unfolding member any
-  every-cons x l h e t m = ⊎-elim (λ q. subst⁻¹ P (eqb-true t x q) h) (e t) (or-cases (eqb t x) (member t l) m)
-
-  every-first : (x : ℕ) (l : List ℕ) → Every P (x ∷ l) → P x
-  unfolding member any
-  every-first x l e = e x (or-left (eqb x x) (member x l) (eq-eqb x x refl))
-
-  every-rest : (x : ℕ) (l : List ℕ) → Every P (x ∷ l) → Every P l
-  unfolding member any
-  every-rest x l e t m = e t (or-right (eqb t x) (member t l) m)
-
-  every-keep : (f : ℕ → Bool) (l : List ℕ) → Every P l → Every P (keep f l)
-  unfolding keep
-  every-keep f [] e = e
-  every-keep f (x ∷ l) e = step (f x) (every-keep f l (every-rest x l e))
-    where
-      step : (b : Bool) → Every P (keep f l) → Every P (cond b (x ∷ keep f l) (keep f l))
-      step true k = every-cons x (keep f l) (every-first x l e) k
-      step false k = k
-
--- the k numbers from i on are below i + k
-every-from : (i k : ℕ) → Every (λ q. q < i + k) (from i k)
-unfolding from
-every-from i zero = every-none (λ q. q < i + zero)
-every-from i (suc k) = every-cons (λ q. q < i + suc k) i (from (suc i) k) (omega arith) (λ t m. omega (arith, every-from (suc i) k t m))
+-- IN_PORT is not among the actions of a record
+abbrev pub NoInPort : Rec → Type 0
+NoInPort r = (i : ℕ) → i < at r 8 → actionKind (at r (9 + 3 * i)) ≡ kInPort → ⊥
 
 -- OUTPUT names ports within their width
 named-lt : (w : Widths) (value care : ℕ) → patternGood (w .p) value care ≡ true → Every (λ q. q < 2 ^ w .p) (named w value care)
@@ -67,8 +36,10 @@ named-lt w value care good = go (ℕ-discrete care (2 ^ w .p - 1))
     Within q = q < 2 ^ w .p
 
     go : Dec (care ≡ 2 ^ w .p - 1) → Every Within (named w value care)
-    go (yes e) = subst⁻¹ (Every Within) (named-one w value care e) (every-cons Within value [] (pattern-value-lt (w .p) value care good) (every-none Within))
-    go (no n) = subst⁻¹ (Every Within) (named-starred w value care n) (every-keep Within _ (from 0 (2 ^ w .p)) (λ t m. omega (arith, every-from 0 (2 ^ w .p) t m)))
+    go (yes e) = subst⁻¹ (Every Within) (named-one w value care e) (pattern-value-lt (w .p) value care good, tt)
+    go (no n) =
+        subst⁻¹ (Every Within) (named-starred w value care n)
+        (every-keep Within _ (from 0 (2 ^ w .p)) (every-from (2 ^ w .p) 0 (2 ^ w .p) (omega arith)))
 
 -- what departs from some ports without p, departs elsewhere
 module _ (w : Widths) (sw p h : ℕ) (hs : sw < 2 ^ w .w) (hh : h < 2 ^ w .h) where
@@ -77,19 +48,15 @@ module _ (w : Widths) (sw p h : ℕ) (hs : sw < 2 ^ w .w) (hh : h < 2 ^ w .h) wh
 
   elsewhere : (l : List ℕ) → Every (λ q. q < 2 ^ w .p) l → Every Elsewhere (departing w sw h (except p l))
   unfolding departing except keep
-  elsewhere [] b = every-none Elsewhere
-  elsewhere (q ∷ l) b = step (ℕ-discrete q p) (elsewhere l (every-rest (λ q. q < 2 ^ w .p) q l b))
+  elsewhere [] b = tt
+  elsewhere (q ∷ l) b = step (ℕ-discrete q p) (elsewhere l (b .1))
     where
-      here : q < 2 ^ w .p
-      here = every-first (λ q. q < 2 ^ w .p) q l b
-
       Left : Bool → Type 0
       Left t = Every Elsewhere (map (λ x. state w 1 sw x h) (cond (not t) (q ∷ except p l) (except p l)))
 
       step : Dec (q ≡ p) → Every Elsewhere (departing w sw h (except p l)) → Left (eqb q p)
       step (yes e) rest = subst⁻¹ Left (eq-eqb q p e) rest
-      step (no n) rest =
-          subst⁻¹ Left (ne-eqb q p n) (every-cons Elsewhere (state w 1 sw q h) (departing w sw h (except p l)) (λ e. n (sym (port-of w 1 sw q h hs here hh) ∙ e)) rest)
+      step (no n) rest = subst⁻¹ Left (ne-eqb q p n) (λ e. n (sym (port-of w 1 sw q h hs (b .0) hh) ∙ e), rest)
 
 -- an arrival at a switch, and a record with good actions
 module _ (w : Widths) (a : Arrival) (hs : a .switch < 2 ^ w .w) (r : Rec) (good : actionsGood w r ≡ true) where
@@ -104,15 +71,15 @@ module _ (w : Widths) (a : Arrival) (hs : a .switch < 2 ^ w .w) (r : Rec) (good 
     where
       go : (k : ActionKind) → actionKind (at r (9 + 3 * i)) ≡ k → IsInPort i
       go kOutput e =
-          absurd (elsewhere w (a .switch) (a .port) h hs hh (named w (at r (10 + 3 * i)) (at r (11 + 3 * i))) (named-lt w _ _ (output-pattern w r i U e)) s
+          absurd (every-member _ _ (elsewhere w (a .switch) (a .port) h hs hh (named w (at r (10 + 3 * i)) (at r (11 + 3 * i))) (named-lt w _ _ (output-pattern w r i U e))) s
           (ap (member s) (sym (sent-as w r h i (a .switch) (a .port) kOutput e)) ∙ m) q)
-      go kSet e = absurd (every-none (λ t. ⊥) s (ap (member s) (sym (sent-as w r h i (a .switch) (a .port) kSet e)) ∙ m))
+      go kSet e = absurd (every-member (λ t. ⊥) [] tt s (ap (member s) (sym (sent-as w r h i (a .switch) (a .port) kSet e)) ∙ m))
       go kInPort e = e
-      go kNoAction e = absurd (every-none (λ t. ⊥) s (ap (member s) (sym (sent-as w r h i (a .switch) (a .port) kNoAction e)) ∙ m))
+      go kNoAction e = absurd (every-member (λ t. ⊥) [] tt s (ap (member s) (sym (sent-as w r h i (a .switch) (a .port) kNoAction e)) ∙ m))
 
   from-action : (k i h : ℕ) → h < 2 ^ w .h → i + k ≡ at r 8 → (s : ℕ) → member s (copies w a r h i k) ≡ true → portOf w s ≡ a .port → (j : ℕ) × (j < at r 8) × IsInPort j
   unfolding copies
-  from-action zero i h hh n s m q = absurd (every-none (λ t. ⊥) s m)
+  from-action zero i h hh n s m q = absurd (every-member (λ t. ⊥) [] tt s m)
   from-action (suc k) i h hh n s m q =
       ⊎-elim
       (λ f. (i, omega arith, by-in-port h i hh (used-action w r good i (omega arith)) s f q))
@@ -162,6 +129,6 @@ module _ (w : Widths) (a : Arrival) (hs : a .switch < 2 ^ w .w) (r : Rec) (good 
     )
 
   -- so no copy of a record without IN_PORT departs at the arrival port
-  pub no-bounce : a .header < 2 ^ w .h → ((i : ℕ) → i < at r 8 → actionKind (at r (9 + 3 * i)) ≡ kInPort → ⊥) → (s : ℕ) → member s (sent w a r) ≡ true → portOf w s ≡ a .port → ⊥
+  pub no-bounce : a .header < 2 ^ w .h → NoInPort r → (s : ℕ) → member s (sent w a r) ≡ true → portOf w s ≡ a .port → ⊥
   unfolding sent
   no-bounce hh none s m q = let f = from-action (at r 8) 0 (a .header) hh (omega arith) s m q in none (f .0) (f .1) (f .2)

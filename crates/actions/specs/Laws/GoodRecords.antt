@@ -9,11 +9,12 @@ use lib.Dec.{ltb}
 use lib.ListN.{getD}
 use Rattle.planes.specs.Laws.Tests.{and-left, and-right, both}
 use Rattle.records.specs.Record.{Net, at, records}
-use Rattle.records.specs.Fields.{zeros, pointGood, actionsGood, matchGood}
-use Rattle.records.specs.Laws.Fields.{link-fields, miss-fields, rule-fields}
+use Rattle.records.specs.Fields.{zeros, pointGood, actionsGood, matchGood, fieldsGood}
+use Rattle.records.specs.Laws.Fields.{link-fields, rule-fields, miss-actions, rule-actions}
 use Rattle.records.specs.Laws.Records.{length-records}
 use Rattle.records.specs.Laws.Parts.{kind-at}
 use Rattle.scan.specs.declared.Layout.{Layout}
+use Rattle.scan.specs.Layout.{LayoutOf}
 use Rattle.scan.specs.Stored.{Stored}
 
 module _ (n : ℕ) (l : Layout) (s : List ℕ) (st : Stored n l s) where
@@ -34,29 +35,24 @@ module _ (n : ℕ) (l : Layout) (s : List ℕ) (st : Stored n l s) where
       both (pointGood (l .widths) (at r 1) (at r 2)) (pointGood (l .widths) (at r 3) (at r 4))
       (and-left (pointGood (l .widths) (at r 1) (at r 2) && pointGood (l .widths) (at r 3) (at r 4)) (zeros 5 23 r) g)
 
-  rule-good : (i : ℕ) → l .rules ≤ i → i < l .nodes → (matchGood (l .widths) (getD net i []) && actionsGood (l .widths) (getD net i [])) ≡ true
-  rule-good i a b =
+  pub match-good : (i : ℕ) → l .rules ≤ i → i < l .nodes → matchGood (l .widths) (getD (records n s) i []) ≡ true
+  match-good i a b =
       let r = getD net i [] in
       let q = st .laid in
       let k = kind-at 4 net (l .rules) (l .nodes) i (q .rules) (q .within) a b in
-      and-left (matchGood (l .widths) r && actionsGood (l .widths) r) (zeros 21 23 r)
-      (sym (rule-fields (l .widths) r k) ∙ st .fields i (omega (arith, q .some-widths, q .switches)) b)
-
-  pub match-good : (i : ℕ) → l .rules ≤ i → i < l .nodes → matchGood (l .widths) (getD (records n s) i []) ≡ true
-  match-good i a b = and-left (matchGood (l .widths) (getD net i [])) (actionsGood (l .widths) (getD net i [])) (rule-good i a b)
-
-  miss-good : (i : ℕ) → l .misses ≤ i → i < l .rules → actionsGood (l .widths) (getD net i []) ≡ true
-  miss-good i a b =
-      let r = getD net i [] in
-      let q = st .laid in
-      let k = kind-at 3 net (l .misses) (l .rules) i (q .misses) (omega (arith, q .few-rules, q .within)) a b in
-      let g = sym (miss-fields (l .widths) r k) ∙ st .fields i (omega (arith, q .some-widths)) (omega (arith, q .few-rules)) in
-      and-right (ltb (at r 1) (2 ^ l .widths .w) && zeros 2 7 r) (actionsGood (l .widths) r)
-      (and-left (ltb (at r 1) (2 ^ l .widths .w) && zeros 2 7 r && actionsGood (l .widths) r) (zeros 21 23 r) g)
+      and-left (matchGood (l .widths) r) (actionsGood (l .widths) r)
+      (and-left (matchGood (l .widths) r && actionsGood (l .widths) r) (zeros 21 23 r)
+      (sym (rule-fields (l .widths) r k) ∙ st .fields i (omega (arith, q .some-widths, q .switches)) b))
 
   pub actions-good : (i : ℕ) → l .misses ≤ i → i < l .nodes → actionsGood (l .widths) (getD (records n s) i []) ≡ true
   actions-good i a b = go (decLt i (l .rules))
     where
+      q : LayoutOf (records n s) l
+      q = st .laid
+
+      good : fieldsGood (l .widths) (getD net i []) ≡ true
+      good = st .fields i (omega (arith, q .some-widths)) b
+
       go : Dec (i < l .rules) → actionsGood (l .widths) (getD net i []) ≡ true
-      go (yes h) = miss-good i a h
-      go (no h) = and-right (matchGood (l .widths) (getD net i [])) (actionsGood (l .widths) (getD net i [])) (rule-good i (omega arith) b)
+      go (yes h) = miss-actions (l .widths) (getD net i []) (kind-at 3 net (l .misses) (l .rules) i (q .misses) (omega (arith, q .few-rules, q .within)) a h) good
+      go (no h) = rule-actions (l .widths) (getD net i []) (kind-at 4 net (l .rules) (l .nodes) i (q .rules) (q .within) (omega arith) b) good

@@ -1,5 +1,5 @@
 -- Fields of a record: read from a rule's body, bytes 1 to 20; by the record's kind; action by action; and zero bytes one at a time.
-use mathlib.Core.Path.{_≡_, refl, ap, _∙_}
+use mathlib.Core.Path.{_≡_, refl, sym, ap, _∙_}
 use mathlib.Core.Bool.{Bool, true, false, _&&_, and-false}
 use mathlib.Core.List.{List, _∷_}
 use mathlib.Core.Logic.{_⊎_, inl, inr}
@@ -10,6 +10,7 @@ use borrow.Author.Tests.{lt-ltb, le-ltb, le-leb, lt-leb}
 use lib.Dec.{eqb, leb, ltb, lit<, lit≤}
 use lib.ListN.{length, getD, take, drop, length-drop}
 use lib.Seq.{length-take-le, getD-take, getD-drop, slice-cons, slice-empty}
+use Rattle.planes.specs.Laws.Tests.{and-left, and-right}
 use Rattle.records.specs.Lists.{all}
 use Rattle.records.specs.Record.{Rec, mostPolicies, at, kind, recordKind, commandKind, kNoAction, actionKind}
 use Rattle.records.specs.Policy.{nodeKind}
@@ -129,6 +130,15 @@ module _ (w : Widths) (r : Rec) where
   pub rule-fields : kind r ≡ 4 → fieldsGood w r ≡ (matchGood w r && actionsGood w r && zeros 21 23 r)
   unfolding fieldsGood recordKind
   rule-fields e = rw e
+
+  -- the actions of a miss and of a rule
+  pub miss-actions : kind r ≡ 3 → fieldsGood w r ≡ true → actionsGood w r ≡ true
+  miss-actions e g =
+      and-right (ltb (at r 1) (2 ^ w .w) && zeros 2 7 r) (actionsGood w r)
+      (and-left (ltb (at r 1) (2 ^ w .w) && zeros 2 7 r && actionsGood w r) (zeros 21 23 r) (sym (miss-fields e) ∙ g))
+
+  pub rule-actions : kind r ≡ 4 → fieldsGood w r ≡ true → actionsGood w r ≡ true
+  rule-actions e g = and-right (matchGood w r) (actionsGood w r) (and-left (matchGood w r && actionsGood w r) (zeros 21 23 r) (sym (rule-fields e) ∙ g))
 
   pub node-fields : kind r ≡ 5 → fieldsGood w r ≡ (leb (at r 1) mostPolicies && nodeGood w (at r 2) (at r 3) (at r 4) && zeros 5 23 r)
   unfolding fieldsGood recordKind

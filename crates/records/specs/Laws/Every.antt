@@ -1,0 +1,58 @@
+-- What is so of every element of a list.
+use borrow.Author.Tests.{eqb-true}
+use mathlib.Core.Path.{_≡_, refl, subst⁻¹}
+use mathlib.Core.Bool.{Bool, true, false, cond, false≢true}
+use mathlib.Core.List.{List, [], _∷_, _++_, map}
+use mathlib.Core.Logic.{⊎-elim}
+use Prim.Native.Nat.{ℕ, zero, suc, _+_, _<_}
+use native.Mathlib.Omega.{arith}
+use lib.Dec.{eqb}
+use lib.ListN.{length, getD}
+use Rattle.planes.specs.Laws.Tests.{or-cases}
+use Rattle.records.specs.Lists.{keep, any, member, from}
+
+-- every element is so
+abbrev pub Every : {A : Type 0} → (A → Type 0) → List A → Type 0
+Every P [] = Unit {0}
+Every P (x ∷ xs) = P x × Every P xs
+
+-- one of the numbers
+pub every-member : (P : ℕ → Type 0) (l : List ℕ) → Every P l → (t : ℕ) → member t l ≡ true → P t
+unfolding member any
+every-member P [] e t m = absurd (false≢true m)
+every-member P (x ∷ l) e t m = ⊎-elim (λ q. subst⁻¹ P (eqb-true t x q) (e .0)) (every-member P l (e .1) t) (or-cases (eqb t x) (member t l) m)
+
+-- the k numbers from i on are below i + k
+pub every-from : (n i k : ℕ) → i + k ≡ n → Every (λ q. q < n) (from i k)
+unfolding from
+every-from n i zero e = tt
+every-from n i (suc k) e = (omega arith, every-from n (suc i) k (omega arith))
+
+-- one thing follows from another
+pub every-more : {A : Type 0} (P Q : A → Type 0) (l : List A) → ((x : A) → P x → Q x) → Every P l → Every Q l
+every-more P Q [] f e = tt
+every-more P Q (x ∷ l) f e = (f x (e .0), every-more P Q l f (e .1))
+
+module _ {A : Type 0} (P : A → Type 0) where
+  -- those that pass a test, if each is so or does not pass
+  pub every-kept : (f : A → Bool) (l : List A) → Every (λ x. f x ≡ true → P x) l → Every P (keep f l)
+  unfolding keep
+  every-kept f [] e = tt
+  every-kept f (x ∷ l) e = step (f x) refl (every-kept f l (e .1))
+    where
+      step : (b : Bool) → f x ≡ b → Every P (keep f l) → Every P (cond b (x ∷ keep f l) (keep f l))
+      step true q rest = (e .0 q, rest)
+      step false q rest = rest
+
+  pub every-keep : (f : A → Bool) (l : List A) → Every P l → Every P (keep f l)
+  every-keep f l e = every-kept f l (every-more P (λ x. f x ≡ true → P x) l (λ x p q. p) e)
+
+  -- an element by its place, and every one by its place
+  pub every-at : (d : A) (l : List A) (i : ℕ) → P d → Every P l → P (getD l i d)
+  every-at d [] i h e = h
+  every-at d (x ∷ l) zero h e = e .0
+  every-at d (x ∷ l) (suc i) h e = every-at d l i h (e .1)
+
+  pub at-every : (d : A) (l : List A) → ((i : ℕ) → i < length l → P (getD l i d)) → Every P l
+  at-every d [] h = tt
+  at-every d (x ∷ l) h = (h 0 (omega arith), at-every d l (λ i t. h (suc i) (omega arith)))

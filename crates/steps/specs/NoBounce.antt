@@ -1,0 +1,80 @@
+-- In a network without IN_PORT no frame steps back to the port where it arrived.
+use borrow.Author.Tests.{eq-eqb}
+use mathlib.Core.Path.{_≡_, refl, sym, _∙_}
+use mathlib.Core.Bool.{Bool, true, false, false≢true}
+use mathlib.Core.List.{List, [], _∷_, flatMap}
+use mathlib.Core.Logic.{_⊎_, ⊎-elim}
+use mathlib.Core.Option.{none}
+use Prim.Native.Nat.{ℕ, zero, suc, _<_}
+use native.Mathlib.Omega.{arith}
+use lib.Dec.{eqb}
+use lib.ListN.{length, getD}
+use Rattle.planes.specs.Laws.Tests.{or-cases}
+use Rattle.records.specs.Lists.{member}
+use Rattle.records.specs.Record.{Rec, Net, kind}
+use Rattle.records.specs.Fields.{actionsGood}
+use Rattle.records.specs.Widths.{widthsOf}
+use Rattle.records.specs.State.{headerOf, portOf, switchOf, directionOf}
+use Rattle.records.specs.Laws.Every.{Every, every-member, at-every}
+use Rattle.records.specs.Laws.Fields.{miss-actions, rule-actions}
+use Rattle.records.specs.Laws.States.{header-lt, switch-lt}
+use Rattle.records.specs.declared.Widths.{Widths}
+use Rattle.rows.specs.Refusal.{fileRow}
+use Rattle.rows.specs.Laws.Good.{clean-good}
+use Rattle.rows.specs.Laws.Passing.{clean-at, ordered}
+use Rattle.actions.specs.Chosen.{Arrival, chosen}
+use Rattle.actions.specs.Actions.{copies, sent}
+use Rattle.actions.specs.ByPlace.{arrival}
+use Rattle.actions.specs.Laws.AddedBits.{member-append}
+use Rattle.actions.specs.Laws.AmongChosen.{every-chosen}
+use Rattle.actions.specs.Laws.Bounce.{NoInPort, no-bounce}
+use Rattle.steps.specs.Step.{next, Step}
+
+-- no miss and no rule of a network has IN_PORT among its actions
+abbrev pub WithoutInPort : Net → Type 0
+WithoutInPort net = (k : ℕ) → k < length net → (kind (getD net k []) ≡ 3) ⊎ (kind (getD net k []) ≡ 4) → NoInPort (getD net k [])
+
+-- a number that no list has, is not in the lists joined
+in-none : (t : ℕ) (f : Rec → List ℕ) (l : Net) → Every (λ r. member t (f r) ≡ true → ⊥) l → member t (flatMap f l) ≡ true → ⊥
+unfolding flatMap
+in-none t f [] e m = every-member (λ x. ⊥) [] tt t m
+in-none t f (r ∷ l) e m = ⊎-elim (e .0) (in-none t f l (e .1)) (or-cases (member t (f r)) (member t (flatMap f l)) (sym (member-append t (f r) (flatMap f l)) ∙ m))
+
+module _ (net : Net) (clean : fileRow [] net ≡ none) where
+  abbrev w : Widths
+  w = widthsOf net
+
+  -- the actions of every miss and every rule are good
+  good : (k : ℕ) → k < length net → (kind (getD net k []) ≡ 3) ⊎ (kind (getD net k []) ≡ 4) → actionsGood (widthsOf net) (getD net k []) ≡ true
+  good zero h e =
+      let one : kind (getD net 0 []) ≡ 1 = ordered _ _ (clean-at net 0 clean h .not3) .first refl in
+      absurd (⊎-elim (λ q. omega (arith, q, one)) (λ q. omega (arith, q, one)) e)
+  good (suc k) h e =
+      let g = clean-good net clean (suc k) (omega arith) h in
+      ⊎-elim (λ q. miss-actions w (getD net (suc k) []) q g) (λ q. rule-actions w (getD net (suc k) []) q g) e
+
+  module _ (without : WithoutInPort net) (s t : ℕ) (q : portOf (widthsOf net) t ≡ portOf (widthsOf net) s) where
+    abbrev a : Arrival
+    a = arrival (switchOf w s) (portOf w s) (headerOf w s)
+
+    -- no record that acts on the frame sends it there
+    unsent : Every (λ r. member t (sent w a r) ≡ true → ⊥) (chosen net a)
+    unfolding sent copies
+    unsent =
+        every-chosen (λ r. member t (sent w a r) ≡ true → ⊥) (every-member (λ x. ⊥) [] tt t) net
+        (at-every _ [] net (λ k h e m. no-bounce w a (switch-lt w s) (getD net k []) (good k h e) (header-lt w s) (without k h e) t m q)) a
+
+    -- what an arriving state steps to
+    pick : (b c : Bool) (xs ys : List ℕ) → b ≡ true → member t (elim b as (λ x. List ℕ) [ true ↦ elim c as (λ x. List ℕ) [ true ↦ [] | false ↦ xs ] | false ↦ ys ]) ≡ true → member t xs ≡ true
+    pick true true xs ys e m = absurd (every-member (λ x. ⊥) [] tt t m)
+    pick true false xs ys e m = m
+    pick false c xs ys e m = absurd (false≢true e)
+
+    steps-elsewhere : directionOf (widthsOf net) s ≡ 0 → Step net s t → ⊥
+    unfolding Step next
+    steps-elsewhere d m = in-none t (sent w a) (chosen net a) unsent (pick (eqb (directionOf w s) 0) (eqb (portOf w s) 0) (flatMap (sent w a) (chosen net a)) _ (eq-eqb _ _ d) m)
+
+-- a frame that arrives departs at another port
+pub no-step-back : (net : Net) → fileRow [] net ≡ none → WithoutInPort net
+    → (s t : ℕ) → directionOf (widthsOf net) s ≡ 0 → Step net s t → portOf (widthsOf net) t ≡ portOf (widthsOf net) s → ⊥
+no-step-back net clean without s t d m q = steps-elsewhere net clean without s t q d m
