@@ -72,6 +72,7 @@ class Judge {
 
     // The lowest broken policy and the lowest state that breaks it.
     std::optional<Broken> verdict() {
+        back = same(header, port, 0, 0);
         steps = arriving_steps() | link_steps();
         external_x = ordinary(X) - linked(X);
         std::vector<bdd> nodes;
@@ -94,6 +95,8 @@ class Judge {
     const Network &records;
     const Names &names;
     const int header, port, switches, bits;
+    // Y is at the port at which X arrived.
+    bdd back;
     bdd steps, external_x;
 
     int at(int variable, int bit) const { return level(variable, bit, bits); }
@@ -127,13 +130,19 @@ class Judge {
         return bdd_not(is_port(variable, 0) | is_port(variable, (1 << port) - 1));
     }
 
-    // X and Y have the same low bits, except that Y has the value where it is cared for.
-    bdd same(int width, int value, int care) const {
-        bdd so = fixed(Y, 0, width, value, care);
-        for (int bit = 0; bit < width; bit++)
-            if (!(care >> bit & 1))
-                so &= bdd_biimp(bdd_ithvar(at(X, bit)), bdd_ithvar(at(Y, bit)));
+    // X and Y have the same bits from the first on, except that Y has the value where cared for.
+    bdd same(int first, int width, int value, int care) const {
+        bdd so = fixed(Y, first, width, value, care);
+        for (int i = 0; i < width; i++)
+            if (!(care >> i & 1))
+                so &= bdd_biimp(bdd_ithvar(at(X, first + i)), bdd_ithvar(at(Y, first + i)));
         return so;
+    }
+
+    // Y is at a port that the pattern of an OUTPUT reaches, that of arrival or another.
+    bdd reached(int value, int care) const {
+        bdd ports = fixed(Y, header, port, value, care);
+        return care == (1 << port) - 1 ? ports : ports & ordinary(Y);
     }
 
     // The departing states Y that the actions of a rule or miss make of an arriving state X.
@@ -142,15 +151,17 @@ class Judge {
         bdd sent = bddfalse;
         for (int place = 9; place < 9 + 3 * record[8]; place += 3) {
             int its_value = record[place + 1], its_care = record[place + 2];
-            if (record[place] == 2) {
+            switch (record[place]) {
+            case 1:
+                sent |= same(0, header, value, care) & (reached(its_value, its_care) - back);
+                break;
+            case 2:
                 value = (value & ~its_care) | its_value;
                 care |= its_care;
-                continue;
+                break;
+            default:
+                sent |= same(0, header, value, care) & back;
             }
-            bdd reached = fixed(Y, header, port, its_value, its_care);
-            if (its_care != (1 << port) - 1)
-                reached &= ordinary(Y);
-            sent |= same(header, value, care) & reached;
         }
         return sent & is_switch(Y, record[1]) & departing(Y);
     }
@@ -197,7 +208,7 @@ class Judge {
             over |= point(X, link[1], link[2]) & point(Y, link[3], link[4]);
             over |= point(X, link[3], link[4]) & point(Y, link[1], link[2]);
         }
-        return same(header, 0, 0) & over & departing(X) & arriving(Y);
+        return same(0, header, 0, 0) & over & departing(X) & arriving(Y);
     }
 
     bdd linked(int variable) const {
@@ -212,7 +223,7 @@ class Judge {
     bdd taken(const bdd &relation, int from, int to) const {
         if (from != to)
             return from == X ? relation : bdd_replace(relation, names.swap);
-        return bdd_exist(relation & same(bits, 0, 0), names.all[from == X ? Y : X]);
+        return bdd_exist(relation & same(0, bits, 0, 0), names.all[from == X ? Y : X]);
     }
 
     // The closure of a relation of X to Y, one step more in each round.

@@ -69,13 +69,18 @@ fn actions_met(network: &Network, point: Point, header: u8) -> &[Action] {
     best
 }
 
+fn depart(network: &Network, row: &mut [u64], point: Point, header: u8) {
+    let state = State { direction: Direction::Departing, point, header };
+    set_bit(row, state.number(network.widths));
+}
+
+/// Sends to the ports of a pattern but that of arrival.
 fn send(network: &Network, row: &mut [u64], point: Point, header: u8, ports: Pattern) {
     let widths = network.widths;
     let starred = ports.has_stars(widths.port);
-    for port in 0..widths.ports() {
+    for port in (0..widths.ports()).filter(|port| *port != point.port) {
         if ports.matches(port) && (!starred || widths.is_ordinary(port)) {
-            let point = Point { port, ..point };
-            set_bit(row, State { direction: Direction::Departing, point, header }.number(widths));
+            depart(network, row, Point { port, ..point }, header);
         }
     }
 }
@@ -93,6 +98,7 @@ fn fill_arriving(network: &Network, plane: &mut [u64]) {
             match action {
                 Action::Set(pattern) => header = pattern.put_into(header),
                 Action::Output(ports) => send(network, row, point, header, *ports),
+                Action::InPort => depart(network, row, point, header),
             }
         }
     }

@@ -11,6 +11,9 @@ pub type Pattern = [u8; 2];
 /// The pattern that fixes nothing.
 pub const ANY: Pattern = [0, 0];
 
+/// The action that sends back to the port of arrival.
+pub const IN_PORT: Action = [3, 0, 0];
+
 /// A record from its first bytes; the others are zero.
 pub fn record(bytes: &[u8]) -> Record {
     let mut record = [0; RECORD];

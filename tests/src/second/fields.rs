@@ -54,7 +54,7 @@ fn pattern(width: u8, value: u8, care: u8) -> Option<Pattern> {
     sound.then_some(Pattern { value, care })
 }
 
-/// The used actions, the last of them OUTPUT; unused ones are zero.
+/// The used actions, the last of them one that sends; unused ones are zero.
 fn actions(widths: Widths, count: u8, bytes: &[u8]) -> Option<Vec<Action>> {
     if !(1..=4).contains(&count) {
         return None;
@@ -62,15 +62,16 @@ fn actions(widths: Widths, count: u8, bytes: &[u8]) -> Option<Vec<Action>> {
     let (used, unused) = bytes.split_at(3 * usize::from(count));
     let actions =
         used.chunks(3).map(|bytes| action(widths, bytes)).collect::<Option<Vec<Action>>>()?;
-    let sound = matches!(actions.last(), Some(Action::Output(_))) && are_zero(unused);
-    sound.then_some(actions)
+    let sends = matches!(actions.last(), Some(Action::Output(_) | Action::InPort));
+    (sends && are_zero(unused)).then_some(actions)
 }
 
 /// One action: kind, value, care.
 fn action(widths: Widths, bytes: &[u8]) -> Option<Action> {
-    match bytes[0] {
-        1 => pattern(widths.port, bytes[1], bytes[2]).map(Action::Output),
-        2 => pattern(widths.header, bytes[1], bytes[2]).map(Action::Set),
+    match *bytes {
+        [1, value, care] => pattern(widths.port, value, care).map(Action::Output),
+        [2, value, care] => pattern(widths.header, value, care).map(Action::Set),
+        [3, 0, 0] => Some(Action::InPort),
         _ => None,
     }
 }

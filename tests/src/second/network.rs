@@ -32,6 +32,7 @@ impl Pattern {
 pub enum Action {
     Output(Pattern),
     Set(Pattern),
+    InPort,
 }
 
 /// What makes two rules the same rule.
@@ -230,11 +231,16 @@ fn rule_record(rule: &Rule) -> Record {
 fn write_actions(record: &mut Record, actions: &[Action]) {
     record[8] = actions.len() as u8;
     for (action, bytes) in actions.iter().zip(record[9..21].chunks_mut(3)) {
-        let (kind, pattern) = match action {
-            Action::Output(pattern) => (1, pattern),
-            Action::Set(pattern) => (2, pattern),
-        };
-        bytes.copy_from_slice(&[kind, pattern.value, pattern.care]);
+        bytes.copy_from_slice(&action_bytes(*action));
+    }
+}
+
+/// Kind, value and care.
+fn action_bytes(action: Action) -> [u8; 3] {
+    match action {
+        Action::Output(Pattern { value, care }) => [1, value, care],
+        Action::Set(Pattern { value, care }) => [2, value, care],
+        Action::InPort => [3, 0, 0],
     }
 }
 

@@ -33,6 +33,10 @@ fn arrive(point: Point, header: u8) -> State {
     State { direction: Direction::Arriving, point, header }
 }
 
+fn depart(point: Point, header: u8) -> State {
+    State { direction: Direction::Departing, point, header }
+}
+
 /// The copies sent by the actions that an arriving packet meets.
 fn copies(network: &Network, point: Point, header: u8) -> Vec<State> {
     let mut header = header;
@@ -41,14 +45,11 @@ fn copies(network: &Network, point: Point, header: u8) -> Vec<State> {
         match action {
             Action::Set(pattern) => header = pattern.put_into(header),
             Action::Output(pattern) => {
-                for port in ports_reached(network, *pattern) {
-                    copies.push(State {
-                        direction: Direction::Departing,
-                        point: Point { port, ..point },
-                        header,
-                    });
+                for port in ports_reached(network, *pattern, point.port) {
+                    copies.push(depart(Point { port, ..point }, header));
                 }
             }
+            Action::InPort => copies.push(depart(point, header)),
         }
     }
     copies
@@ -70,11 +71,13 @@ fn matches(rule: &Rule, point: Point, header: u8) -> bool {
         && matching.header.matches(header)
 }
 
-/// The ports that an OUTPUT reaches: any one port by its full name, by stars ordinary ones only.
-fn ports_reached(network: &Network, pattern: Pattern) -> Vec<u8> {
+/// The ports that an OUTPUT reaches: any one port by its full name, by stars ordinary ones only,
+/// and never the port of arrival.
+fn ports_reached(network: &Network, pattern: Pattern, arrival: u8) -> Vec<u8> {
     let widths = network.widths;
     let starred = pattern.has_stars(widths.port);
     (0..widths.ports())
         .filter(|port| pattern.matches(*port) && (!starred || widths.is_ordinary(*port)))
+        .filter(|port| *port != arrival)
         .collect()
 }

@@ -140,9 +140,10 @@ fn is_step(records: &[Record], from: usize, to: usize) -> bool {
     } else if direction == 1 {
         to_header == header && ends(records).contains(&[switch, port, to_switch, to_port])
     } else {
+        let record = deciding(records, switch, port, header);
         port != 0
             && switch == to_switch
-            && sends(records, deciding(records, switch, port, header), header, to_port, to_header)
+            && sends(records, record, [port, header], [to_port, to_header])
     }
 }
 
@@ -163,18 +164,26 @@ fn deciding(records: &[Record], switch: usize, port: usize, header: usize) -> Re
     best
 }
 
-/// Whether the actions of a record send a copy with a header to a port.
-fn sends(records: &[Record], record: Record, header: usize, port: usize, sent: usize) -> bool {
+/// Whether the actions of a record send a copy to a port with a header, of what arrived at a port
+/// with a header.
+fn sends(
+    records: &[Record],
+    record: Record,
+    [arrival, header]: [usize; 2],
+    [port, sent]: [usize; 2],
+) -> bool {
     let full = (1 << records[0][2]) - 1;
     let mut header = header;
     let mut found = false;
     for action in record[9..21].chunks(3).take(usize::from(record[8])) {
         let (value, care) = (usize::from(action[1]), usize::from(action[2]));
-        if action[0] == 2 {
-            header = header - (header & care) + value;
-        } else {
-            let allowed = care == full || (port != 0 && port != full);
-            found |= header == sent && port & care == value && allowed;
+        match action[0] {
+            1 => {
+                let allowed = port != arrival && (care == full || (port != 0 && port != full));
+                found |= header == sent && port & care == value && allowed;
+            }
+            2 => header = header - (header & care) + value,
+            _ => found |= header == sent && port == arrival,
         }
     }
     found
