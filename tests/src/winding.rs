@@ -4,7 +4,9 @@
 //! header up by one and goes round again, so that it meets every state at a linked point.
 
 use crate::networks::Widths;
-use crate::records::{link, miss, output, rule, set, widths, Action, Pattern, Record, ANY};
+use crate::records::{
+    link, miss, output, rule, set, widths, Action, Pattern, Record, ANY, IN_PORT,
+};
 
 /// A network and the one route from its first state to its last.
 #[derive(Clone, Debug)]
@@ -29,7 +31,7 @@ pub fn winding(of: Widths) -> Winding {
 
 /// After the last round the header is 0 again: a loop through every state at a linked point.
 pub fn looping(of: Widths) -> Winding {
-    let actions = [set(0, ones(of)), output(2, controller(of))];
+    let actions = [set(0, ones(of)), IN_PORT];
     let mut route = route(of);
     route.pop();
     route[0] = route[route.len() - 1];
@@ -94,12 +96,20 @@ fn records(of: Widths, at_last: &[Action]) -> Vec<Record> {
     records.extend((0..=last_switch(of)).map(|switch| miss(switch, &[output(0, full)])));
     let round = round(of);
     for turn in &round[..round.len() - 1] {
-        records.push(going(of, turn.switch, turn.port, ANY, &[output(turn.out, full)]));
+        records.push(going(of, turn.switch, turn.port, ANY, &[sending(of, turn)]));
     }
     records.extend((0..of.h).map(|bit| counting(of, bit)));
     records.push(going(of, 0, 2, [ones(of); 2], at_last));
     records.push(going(of, 0, full, ANY, &[output(2, full)]));
     records
+}
+
+/// The action of a turn: on to another port, or back to that of arrival.
+fn sending(of: Widths, turn: &Turn) -> Action {
+    match turn.out == turn.port {
+        true => IN_PORT,
+        false => output(turn.out, controller(of)),
+    }
 }
 
 /// A rule for one point.
@@ -110,7 +120,7 @@ fn going(of: Widths, switch: u8, port: u8, header: Pattern, actions: &[Action]) 
 /// The rule at the end of a round for headers whose lowest 0 is this bit: it becomes 1, lower ones 0.
 fn counting(of: Widths, bit: u8) -> Record {
     let (top, care) = (1 << bit, (2 << bit) - 1);
-    going(of, 0, 2, [top - 1, care], &[set(top, care), output(2, controller(of))])
+    going(of, 0, 2, [top - 1, care], &[set(top, care), IN_PORT])
 }
 
 fn route(of: Widths) -> Vec<usize> {

@@ -7,7 +7,9 @@ use super::{bare, lend, CommandCase, BARE_WORK, PLENTY, SPARE};
 use crate::formulas::{bit, policy, X};
 use crate::gate::{Commanded, STORE};
 use crate::k::{dropping_add, first_add, k, k_with_d, rule_d, second_add, setting_add};
-use crate::records::{add, delete, modify, output, record, rule, set, with, Record, ANY};
+use crate::records::{
+    add, delete, modify, output, record, rule, set, with, Action, Record, ANY, IN_PORT,
+};
 
 pub fn cases() -> Vec<CommandCase> {
     [
@@ -15,6 +17,7 @@ pub fn cases() -> Vec<CommandCase> {
         modifies(),
         deletes(),
         verdicts(),
+        returns(),
         largest(),
         lengths_and_kinds(),
         field_faults(),
@@ -141,7 +144,7 @@ fn adds() -> Vec<CommandCase> {
 
 fn modifies() -> Vec<CommandCase> {
     let dropping = with(dropping_add(), 0, 4);
-    let longer = rule(0, 10, [1, 3], [0, 1], &[set(0, 0), set(0, 1), output(1, 1), output(2, 3)]);
+    let longer = rule(0, 10, [1, 3], [0, 1], &[set(0, 0), set(0, 1), IN_PORT, output(2, 3)]);
     let absent = rule(0, 10, [1, 3], [1, 1], &[output(2, 3)]);
     let to_controller = with(rule_d(), 10, 3);
     let case = |name: &str, before: &[Record], rule: Record, after: &[Record]| {
@@ -207,6 +210,29 @@ fn verdicts() -> Vec<CommandCase> {
 /// A's match with SET 1, OUTPUT 2.
 fn setting_a() -> Record {
     rule(0, 10, [1, 3], [0, 1], &[set(1, 1), output(2, 3)])
+}
+
+/// K with a rule for what arrives at port 2 of switch 1, where no link ends: header 1 leaves there
+/// if it is sent back, and is dropped if it goes on over the link.
+fn returns() -> Vec<CommandCase> {
+    let at_2 = |actions: &[Action]| rule(1, 5, [2, 3], ANY, actions);
+    let sound = |name: &str, actions: &[Action]| {
+        let rule = at_2(actions);
+        forwarded(name, &k(), add(rule), &k_with_rule(rule), K_WORK)
+    };
+    let broken = |name: &str, actions: &[Action], state| {
+        blocked(name, &k(), add(at_2(actions)), 0, state, K_WORK)
+    };
+    vec![
+        sound("OUTPUT to the arrival port", &[output(2, 3)]),
+        sound("flood", &[output(0, 0)]),
+        sound("IN_PORT with header 0", &[output(0, 0), set(0, 1), IN_PORT]),
+        sound("IN_PORT before SET", &[set(0, 1), IN_PORT, set(1, 1), output(1, 3)]),
+        broken("IN_PORT", &[IN_PORT], 13),
+        broken("flood and IN_PORT", &[output(0, 0), IN_PORT], 13),
+        broken("IN_PORT and flood", &[IN_PORT, output(0, 0)], 13),
+        broken("IN_PORT after SET", &[set(1, 1), IN_PORT, set(0, 1), output(1, 3)], 12),
+    ]
 }
 
 /// The largest network holds whatever its rules are. Its first rule is record 129.

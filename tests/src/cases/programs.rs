@@ -6,7 +6,9 @@ use crate::formulas::{policy, r, X};
 use crate::k::{
     delete_d, dropping_add, first_add, k, k_set, k_with_d, rule_d, second_add, setting_add,
 };
-use crate::records::{add, delete, miss, modify, output, record, widths, with, Record};
+use crate::records::{
+    add, delete, miss, modify, output, record, rule, widths, with, Record, ANY, IN_PORT,
+};
 
 pub fn cases() -> Vec<ProgramCase> {
     [starts(), series(), strange_commands(), cuts(), counts(), work()].concat()
@@ -73,6 +75,8 @@ fn series() -> Vec<ProgramCase> {
             first_add(),
         ],
     );
+    let flood = add(rule(1, 5, [2, 3], ANY, &[output(0, 0)]));
+    let flood_and_back = rule(1, 5, [2, 3], ANY, &[output(0, 0), IN_PORT]);
     vec![
         case(
             "K, two adds",
@@ -102,6 +106,11 @@ fn series() -> Vec<ProgramCase> {
             "K with D",
             &input(&k_with_d(), &[delete_d(), dropping_add(), delete_d()]),
             &["start holds", "1 blocked 0 3", "2 forwarded 22", "3 blocked 0 3"],
+        ),
+        case(
+            "K, a flood, the same and IN_PORT, IN_PORT with a value",
+            &input(&k(), &[flood, modify(flood_and_back), with(modify(flood_and_back), 13, 2)]),
+            &["start holds", "1 forwarded 21", "2 blocked 0 13", "3 refused 12 0"],
         ),
     ]
 }

@@ -5,7 +5,7 @@ use super::{bare, lend, RouteCase, SPARE};
 use crate::gate::Routed;
 use crate::k::{first_add, k};
 use crate::networks::{all_widths, work_needed, Widths};
-use crate::records::{link, miss, output, rule, set, widths, with, Action, Record, ANY};
+use crate::records::{link, miss, output, rule, set, widths, with, Action, Record, ANY, IN_PORT};
 use crate::winding::{looping, winding};
 
 /// What the entries of a list are before the call.
@@ -14,7 +14,7 @@ const BEFORE: u16 = 0xBEEF;
 const MORE: usize = 3;
 
 pub fn cases() -> Vec<RouteCase> {
-    [on_k(), loops(), choices(), longest(), states(), lists(), order()].concat()
+    [on_k(), loops(), returns(), choices(), longest(), states(), lists(), order()].concat()
 }
 
 /// The case of a route; with no states, of there being none.
@@ -85,12 +85,32 @@ fn loops() -> Vec<RouteCase> {
     vec![
         found("loop of two steps", &same, &[2, 12, 2]),
         found("loop of two steps, departing", &same, &[13, 3, 13]),
-        none("into a loop", &same, 4, 4),
+        none("into a loop", &same, 6, 6),
         found("loop of four steps", &changing, &[2, 13, 3, 12, 2]),
         found("once round and on", &changing, &[12, 2, 13, 3]),
         none("to its own header changed", &ending, 2, 2),
         none("dropped", &ending, 3, 3),
         none("port 0 arriving", &same, 0, 0),
+    ]
+}
+
+/// OUTPUT never leads back over the link of arrival, IN_PORT always.
+fn returns() -> Vec<RouteCase> {
+    let turning_by = |actions: &[Action]| turning(&[rule(0, 1, ANY, ANY, actions)]);
+    let back = turning_by(&[IN_PORT]);
+    let to_2 = turning_by(&[output(2, 3)]);
+    let flood = turning_by(&[output(0, 0)]);
+    let set_between = turning_by(&[output(0, 0), set(1, 1), IN_PORT]);
+    vec![
+        found("returned at both ends", &back, &[2, 10, 4, 12, 2]),
+        found("returned to the controller", &back, &[6, 14]),
+        none("returned, not on", &back, 2, 14),
+        none("OUTPUT to the arrival port", &to_2, 4, 12),
+        none("flood to the arrival port", &flood, 2, 10),
+        found("flood to the other port", &flood, &[2, 12, 2]),
+        none("flood without a turn", &flood, 2, 4),
+        found("returned with a header set", &set_between, &[2, 11, 5]),
+        none("returned with the header of arrival", &set_between, 2, 10),
     ]
 }
 

@@ -5,7 +5,7 @@ use crate::formulas::{
     all, and, bit, external, leads, not, or, policy, push, r, some, tc, Node, X, Y,
 };
 use crate::networks::planes;
-use crate::records::{link, miss, output, rule, set, widths, Record, ANY};
+use crate::records::{link, miss, output, rule, set, widths, Record, ANY, IN_PORT};
 
 pub fn cases() -> Vec<CheckCase> {
     [leaves(), quantifiers(), closures(), closure_tables(), long_paths(), lowest_policies()]
@@ -15,13 +15,19 @@ pub fn cases() -> Vec<CheckCase> {
 /// One switch, N of 4: a state is 8 (departing) + 2 port + header. What arrives leaves at port 1, so
 /// 2, 4 and 6 step to 10, and 3, 5 and 7 to 11. Ports 1 and 2 are external.
 fn unlinked() -> Vec<Record> {
-    vec![widths(1, 2, 0), miss(0, &[output(1, 3)])]
+    to_port_1(&[])
 }
 
 /// The same with ports 1 and 2 linked: 10 steps to 4, 11 to 5, 12 to 2 and 13 to 3. No port is
 /// external.
 fn looping() -> Vec<Record> {
-    vec![widths(1, 2, 0), link(0, 1, 0, 2), miss(0, &[output(1, 3)])]
+    to_port_1(&[link(0, 1, 0, 2)])
+}
+
+/// What arrives at port 1 is sent back, everything else to port 1.
+fn to_port_1(links: &[Record]) -> Vec<Record> {
+    let back = rule(0, 1, [1, 3], ANY, &[IN_PORT]);
+    [&[widths(1, 2, 0)], links, &[miss(0, &[output(1, 3)]), back]].concat()
 }
 
 /// The lowest state that breaks a policy, if any does.
@@ -146,8 +152,9 @@ fn closure_tables() -> Vec<CheckCase> {
     cases
 }
 
-/// One switch, ports 1 and 2 linked: each passage adds 1 to the header, up to the highest. The path
-/// from header 0 is far longer than the number of switches.
+/// One switch, ports 1 and 2 linked: what arrives at port 2 is sent to port 1 and so arrives at port
+/// 2 again. Each passage adds 1 to the header, up to the highest. The path from header 0 is far
+/// longer than the number of switches.
 fn long_paths() -> Vec<CheckCase> {
     let mut cases = vec![];
     for h in [3, 6] {
@@ -156,7 +163,7 @@ fn long_paths() -> Vec<CheckCase> {
         let zeroed = planes(formula.len() + 2, bits);
         let name = format!("header of {h} bits counted up");
         let whole = [counting(h, None), policy(0, &formula)].concat();
-        cases.push(violated(&name, &whole, 0, 1 << h, zeroed));
+        cases.push(violated(&name, &whole, 0, 2 << h, zeroed));
         let gap = [counting(h, Some(3)), policy(0, &formula)].concat();
         cases.push(holds(&format!("{name}, but not beyond 3"), &gap, zeroed));
     }
