@@ -3,7 +3,7 @@
 use crate::gate::RECORD;
 use crate::networks::{random_actions, random_new_rule, random_rule, Widths};
 use crate::random::Random;
-use crate::records::{add, delete, modify, output, set, with, Action, Record};
+use crate::records::{add, delete, modify, output, set, with, Action, Record, IN_PORT};
 
 /// What a random command is to be.
 #[derive(Clone, Copy, Debug, PartialEq, Eq)]
@@ -33,7 +33,9 @@ pub enum Fault {
     ActionKind,
     ActionValue,
     ActionCare,
-    LastNotOutput,
+    InPortValue,
+    InPortCare,
+    LastSets,
     UnusedAction,
     UnnamedByte,
     DeleteActions,
@@ -48,7 +50,7 @@ pub const SOUND: [Wish; 6] = [
     Wish::DeleteAbsent,
 ];
 
-pub const FAULTS: [Fault; 17] = [
+pub const FAULTS: [Fault; 19] = [
     Fault::Cut,
     Fault::Overlong,
     Fault::Kind,
@@ -62,7 +64,9 @@ pub const FAULTS: [Fault; 17] = [
     Fault::ActionKind,
     Fault::ActionValue,
     Fault::ActionCare,
-    Fault::LastNotOutput,
+    Fault::InPortValue,
+    Fault::InPortCare,
+    Fault::LastSets,
     Fault::UnusedAction,
     Fault::UnnamedByte,
     Fault::DeleteActions,
@@ -100,7 +104,7 @@ pub fn command(random: &mut Random, records: &[Record], wish: Wish) -> Vec<u8> {
 /// One of the rules with actions of its own.
 fn random_same_rule(random: &mut Random, of: Widths, rules: &[Record]) -> Record {
     let rule = random.pick(rules);
-    let actions = random_actions(random, of);
+    let actions = random_actions(random, of, [rule[4], rule[5]]);
     with_actions(rule, &actions)
 }
 
@@ -141,17 +145,27 @@ fn with_action_fault(random: &mut Random, of: Widths, rule: Record, fault: Fault
     let mut faulty = rule;
     let used = usize::from(rule[8]);
     let action = 9 + 3 * random.below(used);
-    let width = if rule[action] == 1 { of.p } else { of.h };
+    let patterned = with_pattern(rule, action);
+    let width = if patterned[action] == 1 { of.p } else { of.h };
     match fault {
         Fault::NoAction => faulty[8..21].fill(0),
         Fault::FiveActions => {
             faulty = with_actions(rule, &[output(0, 0); 4]);
             faulty[8] = 5 + random.below(251) as u8;
         }
-        Fault::ActionKind => faulty[action] = random.pick(&[0, 3, 4, 255]),
-        Fault::ActionValue => faulty = stray_value(random, rule, action + 1, width),
-        Fault::ActionCare => faulty = wide_care(random, rule, action + 2, width),
-        Fault::LastNotOutput => faulty = with_actions(rule, &[output(0, 0), set(0, 0)]),
+        Fault::ActionKind => faulty[action] = random.pick(&[0, 4, 5, 255]),
+        Fault::ActionValue => faulty = stray_value(random, patterned, action + 1, width),
+        Fault::ActionCare => faulty = wide_care(random, patterned, action + 2, width),
+        Fault::InPortValue => {
+            faulty[action..action + 3].copy_from_slice(&[3, nonzero(random), 0]);
+        }
+        Fault::InPortCare => {
+            faulty[action..action + 3].copy_from_slice(&[3, 0, nonzero(random)]);
+        }
+        Fault::LastSets => {
+            let earlier = random.pick(&[output(0, 0), IN_PORT]);
+            faulty = with_actions(rule, &[earlier, set(0, 0)]);
+        }
         Fault::UnusedAction => {
             faulty = with_actions(rule, &[output(0, 0)]);
             faulty[12 + random.below(9)] = nonzero(random);
@@ -159,6 +173,14 @@ fn with_action_fault(random: &mut Random, of: Widths, rule: Record, fault: Fault
         _ => unreachable!("not a fault of actions: {fault:?}"),
     }
     faulty
+}
+
+/// The rule, with OUTPUT in the place of an action that has no pattern.
+fn with_pattern(rule: Record, action: usize) -> Record {
+    match rule[action..action + 3] == IN_PORT {
+        true => with(rule, action, 1),
+        false => rule,
+    }
 }
 
 /// The record with a value bit outside its care, which stands behind it.

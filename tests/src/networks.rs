@@ -4,7 +4,9 @@ use crate::formulas::{
     policy, random_formula, random_guard, random_probe, random_sentence, Node, GUARD,
 };
 use crate::random::Random;
-use crate::records::{link, miss, output, rule, same_rule, set, widths, Action, Pattern, Record};
+use crate::records::{
+    link, miss, output, rule, same_rule, set, widths, Action, Pattern, Record, ANY, IN_PORT,
+};
 
 /// Header, port and switch widths.
 #[derive(Clone, Copy, Debug, PartialEq, Eq)]
@@ -152,7 +154,7 @@ fn random_links(random: &mut Random, of: Widths, count: usize) -> Vec<Record> {
 }
 
 fn random_misses(random: &mut Random, of: Widths) -> Vec<Record> {
-    (0..1 << of.w).map(|switch| miss(switch, &random_actions(random, of))).collect()
+    (0..1 << of.w).map(|switch| miss(switch, &random_actions(random, of, ANY))).collect()
 }
 
 fn random_rules(random: &mut Random, of: Widths, count: usize) -> Vec<Record> {
@@ -176,12 +178,13 @@ pub fn random_new_rule(random: &mut Random, of: Widths, records: &[Record]) -> R
 pub fn random_rule(random: &mut Random, of: Widths) -> Record {
     let any = random.word() as u16;
     let priority = random.pick(&[0, 1, 1, 2, 0x00FF, 0x0100, 0xFFFF, any]);
+    let port = random_pattern(random, of.p);
     rule(
         random.bits(of.w),
         priority,
-        random_pattern(random, of.p),
+        port,
         random_pattern(random, of.h),
-        &random_actions(random, of),
+        &random_actions(random, of, port),
     )
 }
 
@@ -193,23 +196,30 @@ fn random_pattern(random: &mut Random, width: u8) -> Pattern {
     [random.bits(width) & care, care]
 }
 
-/// One to four actions, the last OUTPUT.
-pub fn random_actions(random: &mut Random, of: Widths) -> Vec<Action> {
-    let earlier = random.pick(&[0, 0, 1, 1, 2, 3]);
+/// One to four actions for what arrives at ports of a pattern, the last not SET.
+pub fn random_actions(random: &mut Random, of: Widths, arrival: Pattern) -> Vec<Action> {
+    let earlier = random.pick(&[0, 0, 1, 2, 2, 3]);
     let mut actions: Vec<Action> = vec![];
     for _ in 0..earlier {
-        actions.push(match random.one_in(3) {
-            true => random_output(random, of),
+        actions.push(match random.one_in(2) {
+            true => random_sending(random, of, arrival),
             false => random_set(random, of),
         });
     }
-    actions.push(random_output(random, of));
+    actions.push(random_sending(random, of, arrival));
     actions
 }
 
-fn random_output(random: &mut Random, of: Widths) -> Action {
-    let [value, care] = random_pattern(random, of.p);
-    output(value, care)
+/// IN_PORT, or OUTPUT by any pattern, by that of the arrival ports or to one of them.
+fn random_sending(random: &mut Random, of: Widths, arrival: Pattern) -> Action {
+    let any = random_pattern(random, of.p);
+    let [value, care] = arrival;
+    let one = [value | random.bits(of.p) & !care, (1 << of.p) - 1];
+    let [value, care] = random.pick(&[any, any, any, arrival, one]);
+    match random.one_in(4) {
+        true => IN_PORT,
+        false => output(value, care),
+    }
 }
 
 fn random_set(random: &mut Random, of: Widths) -> Action {

@@ -88,7 +88,7 @@ fn random_inputs_of_the_program() {
 #[test]
 fn routes_of_every_width() {
     let linked = Sizes { links: 40, rules: 12, policies: 2, nodes: 6 };
-    let tally = routes::of_every_width(&Second, &Library, 51, 3, 12, linked).unwrap();
+    let tally = routes::of_every_width(&Second, &Library, 51, 4, 12, linked).unwrap();
     assert!(tally.found > 5_000 && tally.no_route > 10_000, "{tally:?}");
     for number in [11, 14, 15] {
         assert!(tally.refused[number] > 100, "{number}: {tally:?}");

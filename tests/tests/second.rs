@@ -3,6 +3,7 @@
 mod plain;
 mod worthless;
 
+use std::collections::BTreeSet;
 use wegbaro_tests::cases::{self, CheckCase, CommandCase, ProgramCase, RouteCase};
 use wegbaro_tests::commands::{command, Wish, FAULTS, SOUND};
 use wegbaro_tests::compare::{self, routes, Tally};
@@ -354,6 +355,21 @@ fn every_width_is_generated_and_sound() {
         assert!(!matches!(answer, Checked::Refused { .. }), "{answer:?}");
     }
     assert_eq!(kinds, [true; 9]);
+}
+
+/// Kinds of actions, each with whether it is the last of its record.
+#[test]
+fn every_action_is_generated() {
+    let mut random = Random::new(19);
+    let mut met = BTreeSet::new();
+    for of in all_widths() {
+        for record in random_network(&mut random, of, MODEST) {
+            let used = record[9..21].chunks(3).take(usize::from(record[8]));
+            met.extend(used.rev().enumerate().map(|(place, action)| (action[0], place == 0)));
+        }
+    }
+    let all = [(1, false), (1, true), (2, false), (3, false), (3, true)];
+    assert_eq!(met, BTreeSet::from(all));
 }
 
 #[test]
