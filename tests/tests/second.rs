@@ -20,6 +20,7 @@ use wegbaro_tests::records::{add, delete, link, miss, output, rule, set, widths,
 use wegbaro_tests::second::{program, Second};
 use wegbaro_tests::winding::{longest, looping, winding};
 use worthless::routes::{Astray, ROUTE_VICES};
+use worthless::steps::{Misled, STEP_VICES};
 use worthless::{Vice, Worthless, VICES};
 
 /// Fails with every error, one per line.
@@ -436,6 +437,17 @@ fn cases_notice_every_vice_of_routes() {
     }
 }
 
+/// A gate without such a vice passes, so that it is the vice that is noticed.
+#[test]
+fn cases_notice_every_vice_of_steps() {
+    let steps = cases::steps::cases();
+    let wrong = |gate: Misled| steps.iter().any(|case| case.run(&gate).is_err());
+    assert!(!wrong(Misled(None)));
+    for vice in STEP_VICES {
+        assert!(wrong(Misled(Some(vice))), "{vice:?}");
+    }
+}
+
 /// The first error of a gate in any comparison.
 fn comparisons_against(gate: &dyn Gate) -> Result<(), String> {
     compare::series(&Second, gate, 21, 40, 5, 16)?;
@@ -465,6 +477,21 @@ fn routes_against(gate: &dyn Gate) -> Result<(), String> {
 fn comparisons_notice_every_vice_of_routes() {
     for vice in ROUTE_VICES {
         assert!(routes_against(&Astray(vice)).is_err(), "{vice:?}");
+    }
+}
+
+/// The first error of a gate in checks and routes of many small networks.
+fn steps_against(gate: &dyn Gate) -> Result<(), String> {
+    compare::damaged_networks(&Second, gate, 33, 4_000, 5)?;
+    routes::of_every_width(&Second, gate, 34, 1, 2, SMALL)?;
+    Ok(())
+}
+
+#[test]
+fn comparisons_notice_every_vice_of_steps() {
+    assert_eq!(steps_against(&Misled(None)), Ok(()));
+    for vice in STEP_VICES {
+        assert!(steps_against(&Misled(Some(vice))).is_err(), "{vice:?}");
     }
 }
 

@@ -6,7 +6,7 @@ mod calls;
 mod commands;
 mod fields;
 pub mod file;
-mod judge;
+pub mod judge;
 pub mod network;
 mod program;
 pub mod routes;

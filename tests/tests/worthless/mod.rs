@@ -1,9 +1,11 @@
 //! Gates that are wrong in one way each, to see that cases and comparisons notice.
 
 pub mod routes;
+pub mod steps;
 
 use std::cell::Cell;
-use wegbaro_tests::gate::{Checked, Commanded, Gate, Routed, STORE};
+use wegbaro_tests::gate::{Checked, Commanded, Gate, Routed, RECORD, STORE};
+use wegbaro_tests::records::IN_PORT;
 use wegbaro_tests::second::Second;
 
 #[derive(Clone, Copy, Debug, PartialEq, Eq)]
@@ -21,9 +23,11 @@ pub enum Vice {
     KeepsBytesBehind,
     ZeroesTheWholeStore,
     MovesThePlace,
+    TakesStrayInPorts,
+    RefusesInPortsAtTheEnd,
 }
 
-pub const VICES: [Vice; 13] = [
+pub const VICES: [Vice; 15] = [
     Vice::BlocksSoundCommands,
     Vice::WavesOnAfterTheFirst,
     Vice::ForwardsEverything,
@@ -37,6 +41,8 @@ pub const VICES: [Vice; 13] = [
     Vice::KeepsBytesBehind,
     Vice::ZeroesTheWholeStore,
     Vice::MovesThePlace,
+    Vice::TakesStrayInPorts,
+    Vice::RefusesInPortsAtTheEnd,
 ];
 
 /// A gate with a vice, else as the second implementation.
@@ -48,6 +54,14 @@ pub struct Worthless {
 impl Worthless {
     pub fn new(vice: Vice) -> Worthless {
         Worthless { vice, commands: Cell::new(0) }
+    }
+
+    /// Records as they are read.
+    fn read(&self, records: &[u8]) -> Vec<u8> {
+        match self.vice {
+            Vice::TakesStrayInPorts => without_strays(records),
+            _ => records.to_vec(),
+        }
     }
 
     fn spoil_work(&self, before: &[u8], work: &mut [u8]) {
@@ -86,6 +100,24 @@ impl Worthless {
     }
 }
 
+/// Records with value and care of every IN_PORT zero.
+fn without_strays(records: &[u8]) -> Vec<u8> {
+    let mut read = records.to_vec();
+    let with_actions = |record: &&mut [u8]| matches!(record[0], 3 | 4 | 6 | 7);
+    for record in read.chunks_exact_mut(RECORD).filter(with_actions) {
+        for action in record[9..21].chunks_exact_mut(3).filter(|action| action[0] == 3) {
+            action[1..].fill(0);
+        }
+    }
+    read
+}
+
+/// Whether the last action of a command is IN_PORT.
+fn ends_in_port(given: &[u8]) -> bool {
+    let count = given.get(8).map_or(0, |count| usize::from(*count));
+    (1..=4).contains(&count) && given.get(6 + 3 * count..9 + 3 * count) == Some(&IN_PORT)
+}
+
 impl Gate for Worthless {
     fn check(&self, store: &[u8], n: usize, work: &mut [u8]) -> Checked {
         use Checked::{Holds, Refused, Violated};
@@ -93,7 +125,7 @@ impl Gate for Worthless {
             return Refused { number: 3, place: 0 };
         }
         let before = work.to_vec();
-        let answer = Second.check(store, n, work);
+        let answer = Second.check(&self.read(store), n, work);
         if let Holds | Violated { .. } = answer {
             self.spoil_work(&before, work);
         }
@@ -111,8 +143,11 @@ impl Gate for Worthless {
         if self.vice == Vice::SaysFullEarly && n > 200 {
             return Commanded::Refused { number: 13, place: 0 };
         }
+        if self.vice == Vice::RefusesInPortsAtTheEnd && ends_in_port(given) {
+            return Commanded::Refused { number: 12, place: 0 };
+        }
         let (store_before, work_before) = (store.to_vec(), work.to_vec());
-        let answer = Second.command(store, n, work, given);
+        let answer = Second.command(store, n, work, &self.read(given));
         if let Commanded::Forwarded { count } = answer {
             self.spoil_store(&store_before, store, count);
         }

@@ -174,7 +174,7 @@ impl Astray {
     }
 }
 
-fn write(list: &mut [u16], route: &[usize]) -> Routed {
+pub fn write(list: &mut [u16], route: &[usize]) -> Routed {
     for (entry, state) in list.iter_mut().zip(route) {
         *entry = *state as u16;
     }
