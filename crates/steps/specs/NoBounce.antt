@@ -15,7 +15,7 @@ use Rattle.records.specs.Record.{Rec, Net, kind}
 use Rattle.records.specs.Fields.{actionsGood}
 use Rattle.records.specs.Widths.{widthsOf}
 use Rattle.records.specs.State.{headerOf, portOf, switchOf, directionOf}
-use Rattle.records.specs.Laws.Every.{Every, every-member, at-every}
+use Rattle.records.specs.Laws.Every.{Every, in-empty, at-every}
 use Rattle.records.specs.Laws.Fields.{miss-actions, rule-actions}
 use Rattle.records.specs.Laws.States.{header-lt, switch-lt}
 use Rattle.records.specs.declared.Widths.{Widths}
@@ -37,7 +37,7 @@ WithoutInPort net = (k : ℕ) → k < length net → (kind (getD net k []) ≡ 3
 -- a number that no list has, is not in the lists joined
 in-none : (t : ℕ) (f : Rec → List ℕ) (l : Net) → Every (λ r. member t (f r) ≡ true → ⊥) l → member t (flatMap f l) ≡ true → ⊥
 unfolding flatMap
-in-none t f [] e m = every-member (λ x. ⊥) [] tt t m
+in-none t f [] e m = in-empty t m
 in-none t f (r ∷ l) e m = ⊎-elim (e .0) (in-none t f l (e .1)) (or-cases (member t (f r)) (member t (flatMap f l)) (sym (member-append t (f r) (flatMap f l)) ∙ m))
 
 module _ (net : Net) (clean : fileRow [] net ≡ none) where
@@ -61,12 +61,12 @@ module _ (net : Net) (clean : fileRow [] net ≡ none) where
     unsent : Every (λ r. member t (sent w a r) ≡ true → ⊥) (chosen net a)
     unfolding sent copies
     unsent =
-        every-chosen (λ r. member t (sent w a r) ≡ true → ⊥) (every-member (λ x. ⊥) [] tt t) net
+        every-chosen (λ r. member t (sent w a r) ≡ true → ⊥) (in-empty t) net
         (at-every _ [] net (λ k h e m. no-bounce w a (switch-lt w s) (getD net k []) (good k h e) (header-lt w s) (without k h e) t m q)) a
 
     -- what an arriving state steps to
     pick : (b c : Bool) (xs ys : List ℕ) → b ≡ true → member t (elim b as (λ x. List ℕ) [ true ↦ elim c as (λ x. List ℕ) [ true ↦ [] | false ↦ xs ] | false ↦ ys ]) ≡ true → member t xs ≡ true
-    pick true true xs ys e m = absurd (every-member (λ x. ⊥) [] tt t m)
+    pick true true xs ys e m = in-empty t m
     pick true false xs ys e m = m
     pick false c xs ys e m = absurd (false≢true e)
 

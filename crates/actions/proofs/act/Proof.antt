@@ -1,11 +1,10 @@
 use borrow.Author.Needs.{needs}
 use denote.Ref.{now}
-use mathlib.Core.Path.{_≡_, sym, ap, ap₂, subst₂, _∙_}
+use mathlib.Core.Path.{_≡_, refl, sym, ap, ap₂, subst₂, _∙_}
 use mathlib.Core.Bool.{true}
 use mathlib.Core.List.{List}
-use Prim.Native.Nat.{ℕ, _+_, _-_, _*_}
+use Prim.Native.Nat.{ℕ, _+_, _*_}
 use native.Mathlib.Omega.{arith}
-use lib.Bits.{bitAnd, bitOr}
 use lib.ListN.{getD}
 use Rattle.records.specs.Record.{at, ActionKind, kOutput, kSet, kInPort, kNoAction, actionKind}
 use Rattle.records.specs.Pattern.{patternGood}
@@ -14,7 +13,7 @@ use Rattle.records.specs.Laws.Limits.{limits}
 use Rattle.records.specs.Laws.Patterns.{put-mask}
 use Rattle.records.specs.declared.Widths.{Widths}
 use Rattle.actions.specs.ByPlace.{ofBody}
-use Rattle.actions.specs.Actions.{reached, departing}
+use Rattle.actions.specs.Actions.{departing, portsOf, headerBy}
 use Rattle.actions.specs.Adds.{lineBytes, Added}
 use Rattle.actions.specs.Sent.{Acted}
 use Rattle.actions.specs.Laws.CopiesInOrder.{sent-as, header-as}
@@ -34,41 +33,46 @@ value-is b i = body-byte b (8 + 3 * i + 1) (10 + 3 * i) (omega arith)
 care-is : (b : List ℕ) (i : ℕ) → at (ofBody b) (11 + 3 * i) ≡ getD b (8 + 3 * i + 2) 0
 care-is b i = body-byte b (8 + 3 * i + 2) (11 + 3 * i) (omega arith)
 
--- the kind of action i
-abbrev actionOf : (b : List ℕ) (i : ℕ) → ActionKind
-actionOf b i = actionKind (at (ofBody b) (9 + 3 * i))
+-- action i by the bytes of the body
+module _ (w : Widths) (sw p h i : ℕ) (b : List ℕ) (k : ActionKind) (e : actionKind (getD b (8 + 3 * i) 0) ≡ k) where
+  abbrev value : ℕ
+  value = getD b (8 + 3 * i + 1) 0
 
-kind-of : (b : List ℕ) (i k : ℕ) → getD b (8 + 3 * i) 0 ≡ k → actionOf b i ≡ actionKind k
-kind-of b i k e = ap actionKind (kind-is b i ∙ e)
+  abbrev care : ℕ
+  care = getD b (8 + 3 * i + 2) 0
+
+  is-kind : actionKind (at (ofBody b) (9 + 3 * i)) ≡ k
+  is-kind = ap actionKind (kind-is b i) ∙ e
+
+  -- it was run
+  acted : (line : ℕ) (before after : List ℕ) (result : ℕ) → Added (departing w sw h (portsOf k w p value care)) line (lineBytes w) before after
+      → result ≡ headerBy k w value care h → Acted w sw p (ofBody b) h i line before after result
+  acted line before after result A q = record {
+    copies =
+        rw (sent-as w (ofBody b) h i sw p k is-kind)
+        (subst₂ (λ (v x : ℕ). Added (departing w sw h (portsOf k w p v x)) line (lineBytes w) before after) (sym (value-is b i)) (sym (care-is b i)) A);
+    header = q ∙ ap₂ (λ (v x : ℕ). headerBy k w v x h) (sym (value-is b i)) (sym (care-is b i)) ∙ sym (header-as w (ofBody b) h i k is-kind);
+  }
+
+  -- its pattern is good
+  pattern-is : (n : ℕ) → (actionKind (at (ofBody b) (9 + 3 * i)) ≡ k → patternGood n (at (ofBody b) (10 + 3 * i)) (at (ofBody b) (11 + 3 * i)) ≡ true) → patternGood n value care ≡ true
+  pattern-is n g = subst₂ (λ (v x : ℕ). patternGood n v x ≡ true) (value-is b i) (care-is b i) (g is-kind)
 
 output-requires : tie.Need-output-requires
 unfolding actionKind
 output-requires c κs =
     let s = c .before .before .before .before .before .before .before in
     let a = s .args in
-    let b = now (a .body) in (
-      s .pre .0 .0,
-      subst₂ (λ (v x : ℕ). patternGood (a .w .p) v x ≡ true) (value-is b (a .i)) (care-is b (a .i))
-          (output-pattern (a .w) (ofBody b) (a .i) (s .pre .1 .1) (kind-of b (a .i) 1 (c .before .match .keys1))),
-    )
+    let b = now (a .body) in
+    (s .pre .0 .0, pattern-is (a .w) (a .sw) (a .p) (a .h) (a .i) b kOutput (ap actionKind (c .before .match .keys1)) (a .w .p) (output-pattern (a .w) (ofBody b) (a .i) (s .pre .1 .1)))
 
 returns : tie.Need-returns
 unfolding actionKind
 returns c =
     let o = c .before .before in
     let m = o .before .before in
-    let s = m .before .before .before .before .before .before in
-    let a = s .args in
-    let b = now (a .body) in
-    let r = ofBody b in
-    let k : actionOf b (a .i) ≡ kOutput = kind-of b (a .i) 1 (m .match .keys1) in
-    record {
-      copies =
-          rw (sent-as (a .w) r (a .h) (a .i) (a .sw) (a .p) kOutput k)
-          (subst₂ (λ (v x : ℕ). Added (departing (a .w) (a .sw) (a .h) (reached (a .w) (a .p) v x)) (a .line) (lineBytes (a .w)) (now (a .work)) (o .output .last .0))
-          (sym (value-is b (a .i))) (sym (care-is b (a .i))) (o .output .ensures));
-      header = sym (header-as (a .w) r (a .h) (a .i) kOutput k);
-    }
+    let a = m .before .before .before .before .before .before .args in
+    acted (a .w) (a .sw) (a .p) (a .h) (a .i) (now (a .body)) kOutput (ap actionKind (m .match .keys1)) (a .line) (now (a .work)) (o .output .last .0) (a .h) (o .output .ensures) refl
 
 returns-2 : tie.Need-returns-2
 unfolding actionKind departing
@@ -77,54 +81,31 @@ returns-2 c =
     let a = s .args in
     let S = s .pre .0 .0 in
     let b = now (a .body) in
-    let r = ofBody b in
-    let k : actionOf b (a .i) ≡ kSet = kind-of b (a .i) 2 (c .match .keys2) in
-    let g = set-pattern (a .w) r (a .i) (s .pre .1 .1) k in
-    record {
-      copies = rw (sent-as (a .w) r (a .h) (a .i) (a .sw) (a .p) kSet k) (added-none _ _ _);
-      header =
-          ap₂ (λ (x y : ℕ). bitOr (bitAnd (a .h) (255 - x)) y) (sym (care-is b (a .i))) (sym (value-is b (a .i)))
-          ∙ sym (put-mask (a .w .h) (at r (10 + 3 * a .i)) (at r (11 + 3 * a .i)) g 8 (a .h) (omega (arith, limits (a .w) (S .ready .limits))) (S .ready .header))
-          ∙ sym (header-as (a .w) r (a .h) (a .i) kSet k);
-    }
+    let k : actionKind (getD b (8 + 3 * a .i) 0) ≡ kSet = ap actionKind (c .match .keys2) in
+    let g = pattern-is (a .w) (a .sw) (a .p) (a .h) (a .i) b kSet k (a .w .h) (set-pattern (a .w) (ofBody b) (a .i) (s .pre .1 .1)) in
+    acted (a .w) (a .sw) (a .p) (a .h) (a .i) b kSet k (a .line) (now (a .work)) (now (a .work)) _ (added-none _ _ _)
+    (sym (put-mask (a .w .h) (getD b (8 + 3 * a .i + 1) 0) (getD b (8 + 3 * a .i + 2) 0) g 8 (a .h) (omega (arith, limits (a .w) (S .ready .limits))) (S .ready .header)))
 
 returns-3 : tie.Need-returns-3
 unfolding actionKind
 returns-3 c =
     let o = c .before .before in
     let m = o .before .before in
-    let s = m .before .before .before .before .before .before in
-    let a = s .args in
-    let b = now (a .body) in
-    let r = ofBody b in
-    let k : actionOf b (a .i) ≡ kInPort = kind-of b (a .i) 3 (m .match .keys3) in
-    record {
-      copies = rw (sent-as (a .w) r (a .h) (a .i) (a .sw) (a .p) kInPort k) (o .send .ensures);
-      header = sym (header-as (a .w) r (a .h) (a .i) kInPort k);
-    }
-
--- a kind that is none sends nothing
-nothing : (w : Widths) (sw p h i line : ℕ) (b work : List ℕ) → actionOf b i ≡ kNoAction → Acted w sw p (ofBody b) h i line work work h
-unfolding departing
-nothing w sw p h i line b work k = record {
-  copies = rw (sent-as w (ofBody b) h i sw p kNoAction k) (added-none _ _ _);
-  header = sym (header-as w (ofBody b) h i kNoAction k);
-}
+    let a = m .before .before .before .before .before .before .args in
+    acted (a .w) (a .sw) (a .p) (a .h) (a .i) (now (a .body)) kInPort (ap actionKind (m .match .keys3)) (a .line) (now (a .work)) (o .send .last .0) (a .h) (o .send .ensures) refl
 
 returns-4 : tie.Need-returns-4
-unfolding actionKind
+unfolding actionKind departing
 returns-4 c =
     let a = c .before .before .before .before .before .before .args in
-    let b = now (a .body) in
-    nothing (a .w) (a .sw) (a .p) (a .h) (a .i) (a .line) b (now (a .work)) (kind-of b (a .i) 0 (c .match .keys4))
+    acted (a .w) (a .sw) (a .p) (a .h) (a .i) (now (a .body)) kNoAction (ap actionKind (c .match .keys4)) (a .line) (now (a .work)) (now (a .work)) (a .h) (added-none _ _ _) refl
 
 returns-5 : tie.Need-returns-5
+unfolding departing
 returns-5 c =
     let a = c .before .before .before .before .before .before .args in
-    let b = now (a .body) in
     let n = c .match .rest in
-    nothing (a .w) (a .sw) (a .p) (a .h) (a .i) (a .line) b (now (a .work))
-    (ap actionKind (kind-is b (a .i)) ∙ no-action (getD b (8 + 3 * a .i) 0) (n .0 .0 .0 .1) (n .0 .0 .1) (n .0 .1))
+    acted (a .w) (a .sw) (a .p) (a .h) (a .i) (now (a .body)) kNoAction (no-action _ (n .0 .0 .0 .1) (n .0 .0 .1) (n .0 .1)) (a .line) (now (a .work)) (now (a .work)) (a .h) (added-none _ _ _) refl
 
 pub act-spec : {M : Type 1} → statement M
 act-spec =

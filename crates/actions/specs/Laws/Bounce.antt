@@ -14,7 +14,7 @@ use Rattle.records.specs.Record.{Rec, at, ActionKind, kOutput, kSet, kInPort, k
 use Rattle.records.specs.Fields.{actionsGood}
 use Rattle.records.specs.Pattern.{patternGood}
 use Rattle.records.specs.State.{state, portOf}
-use Rattle.records.specs.Laws.Every.{Every, every-member, every-from, every-keep}
+use Rattle.records.specs.Laws.Every.{Every, in-empty, every-member, every-from, every-keep}
 use Rattle.records.specs.Laws.States.{port-of}
 use Rattle.records.specs.declared.Widths.{Widths}
 use Rattle.actions.specs.Chosen.{Arrival}
@@ -73,13 +73,13 @@ module _ (w : Widths) (a : Arrival) (hs : a .switch < 2 ^ w .w) (r : Rec) (good 
       go kOutput e =
           absurd (every-member _ _ (elsewhere w (a .switch) (a .port) h hs hh (named w (at r (10 + 3 * i)) (at r (11 + 3 * i))) (named-lt w _ _ (output-pattern w r i U e))) s
           (ap (member s) (sym (sent-as w r h i (a .switch) (a .port) kOutput e)) ∙ m) q)
-      go kSet e = absurd (every-member (λ t. ⊥) [] tt s (ap (member s) (sym (sent-as w r h i (a .switch) (a .port) kSet e)) ∙ m))
+      go kSet e = in-empty s (ap (member s) (sym (sent-as w r h i (a .switch) (a .port) kSet e)) ∙ m)
       go kInPort e = e
-      go kNoAction e = absurd (every-member (λ t. ⊥) [] tt s (ap (member s) (sym (sent-as w r h i (a .switch) (a .port) kNoAction e)) ∙ m))
+      go kNoAction e = in-empty s (ap (member s) (sym (sent-as w r h i (a .switch) (a .port) kNoAction e)) ∙ m)
 
   from-action : (k i h : ℕ) → h < 2 ^ w .h → i + k ≡ at r 8 → (s : ℕ) → member s (copies w a r h i k) ≡ true → portOf w s ≡ a .port → (j : ℕ) × (j < at r 8) × IsInPort j
   unfolding copies
-  from-action zero i h hh n s m q = absurd (every-member (λ t. ⊥) [] tt s m)
+  from-action zero i h hh n s m q = in-empty s m
   from-action (suc k) i h hh n s m q =
       ⊎-elim
       (λ f. (i, omega arith, by-in-port h i hh (used-action w r good i (omega arith)) s f q))

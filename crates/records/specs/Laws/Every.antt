@@ -16,10 +16,15 @@ abbrev pub Every : {A : Type 0} → (A → Type 0) → List A → Type 0
 Every P [] = Unit {0}
 Every P (x ∷ xs) = P x × Every P xs
 
+-- no number is in an empty list
+pub in-empty : {A : Type 0} (t : ℕ) → member t [] ≡ true → A
+unfolding member any
+in-empty t m = absurd (false≢true m)
+
 -- one of the numbers
 pub every-member : (P : ℕ → Type 0) (l : List ℕ) → Every P l → (t : ℕ) → member t l ≡ true → P t
 unfolding member any
-every-member P [] e t m = absurd (false≢true m)
+every-member P [] e t m = in-empty t m
 every-member P (x ∷ l) e t m = ⊎-elim (λ q. subst⁻¹ P (eqb-true t x q) (e .0)) (every-member P l (e .1) t) (or-cases (eqb t x) (member t l) m)
 
 -- the k numbers from i on are below i + k
