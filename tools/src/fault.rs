@@ -32,6 +32,14 @@ impl Fault {
         Fault { hint: Some(hint.into()), ..self }
     }
 
+    /// The fault with the known word that is nearest to the one found, if one is near.
+    pub fn with_nearest<'a>(self, found: &str, known: impl IntoIterator<Item = &'a str>) -> Fault {
+        match nearest(found, known) {
+            Some(word) => self.hint(format!("did you mean `{word}`?")),
+            None => self,
+        }
+    }
+
     pub fn earlier(self, line: usize) -> Fault {
         Fault { earlier: Some(line), ..self }
     }

@@ -80,12 +80,21 @@ fn actions_fault(of: Widths, record: &Record) -> Option<String> {
         let what = format!("action {}", number + 1);
         match kind {
             1 => pattern_fault(&what, [value, care], of.p),
-            2 if number + 1 == count => Some(format!("{what}, the last one, is not an output")),
+            2 if number + 1 == count => {
+                Some(format!("{what}, the last one, is neither an output nor in_port"))
+            }
             2 => pattern_fault(&what, [value, care], of.h),
-            _ => Some(format!("{what} has kind {kind}, neither 1 (output) nor 2 (set)")),
+            3 => in_port_fault(&what, [value, care]),
+            _ => Some(format!("{what} has kind {kind}, not 1 (output), 2 (set) or 3 (in_port)")),
         }
     };
     (0..count).find_map(action_fault).or_else(|| unused(record, 9 + 3 * count, 24))
+}
+
+fn in_port_fault(what: &str, [value, care]: [u8; 2]) -> Option<String> {
+    let bytes = [("value", value), ("care", care)];
+    let (name, byte) = bytes.into_iter().find(|(_, byte)| *byte != 0)?;
+    Some(format!("{what} is in_port, and its {name} is {byte}, where it must be zero"))
 }
 
 fn node_fault(of: Widths, record: &Record) -> Option<String> {

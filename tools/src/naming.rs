@@ -1,6 +1,6 @@
 //! Reads names, and what they stand for: switches, ports, points, headers, states and wards.
 
-use crate::fault::{nearest, quoted, Fault};
+use crate::fault::{quoted, Fault};
 use crate::names::{Area, Named, Point};
 use crate::parse::{Reader, STATEMENTS};
 use crate::steps::State;
@@ -298,10 +298,7 @@ impl Reader {
 
     /// The fault at a word, with the name that is nearest.
     fn with_nearest(&self, statement: &Statement, fault: Fault) -> Fault {
-        match nearest(statement.peek().text, self.names.all()) {
-            Some(name) => fault.hint(format!("did you mean `{name}`?")),
-            None => fault,
-        }
+        fault.with_nearest(statement.peek().text, self.names.all())
     }
 }
 
@@ -324,6 +321,7 @@ const WORDS: &[&str] = &[
     "priority",
     "output",
     "set",
+    "in_port",
     "drop",
     "controller",
     "nodes",

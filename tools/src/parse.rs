@@ -5,7 +5,7 @@
 //! as a point linked twice, is left to the gate, which refuses it by a row.
 
 pub use crate::expand::expand;
-use crate::fault::{nearest, Fault};
+use crate::fault::Fault;
 use crate::formula::Formula;
 use crate::names::{Names, Point};
 use crate::policies::Split;
@@ -15,6 +15,8 @@ use crate::{record, Record, RECORD};
 
 /// The most actions of a rule.
 const MOST_ACTIONS: usize = 4;
+/// What starts an action.
+const ACTIONS: [&str; 3] = ["output", "set", "in_port"];
 /// The most faults that are told at once.
 pub const MOST_FAULTS: usize = 20;
 
@@ -190,11 +192,7 @@ impl Reader {
         let keyword = statement.peek();
         if !STATEMENTS.contains(&keyword.text) {
             let what = format!("a statement ({})", list(&STATEMENTS));
-            let fault = statement.expected(&what);
-            return Err(match nearest(keyword.text, STATEMENTS) {
-                Some(word) => fault.hint(format!("did you mean `{word}`?")).into(),
-                None => fault.into(),
-            });
+            return Err(statement.expected(&what).with_nearest(keyword.text, STATEMENTS).into());
         }
         self.in_place(keyword)?;
         statement.take();
@@ -354,7 +352,7 @@ impl Reader {
         }
     }
 
-    /// Action count and actions, from the colon on; the last is an output.
+    /// Action count and actions, from the colon on; the last is no `set`.
     fn actions(
         &mut self,
         of: Widths,
@@ -369,21 +367,38 @@ impl Reader {
                 return Err(action.fault(format!("there are more than {MOST_ACTIONS} actions")));
             }
             let (kind, [value, care]) = if statement.accept("output") {
-                (1, self.port_pattern(of, Some(switch), statement)?)
+                (1, self.output(of, switch, statement)?)
             } else if statement.accept("set") {
                 (2, self.header_pattern(of, statement)?)
+            } else if statement.accept("in_port") {
+                (3, in_port(statement)?)
             } else {
-                return Err(statement.expected("an action (`output` or `set`)"));
+                let fault = statement.expected("an action (`output`, `set` or `in_port`)");
+                return Err(fault.with_nearest(action.text, ACTIONS));
             };
             bytes[0] += 1;
             bytes.extend([kind, value, care]);
             if !statement.accept(",") {
                 return match kind {
-                    1 => Ok(bytes),
-                    _ => Err(action.fault("the last action must be `output`")),
+                    2 => Err(action.fault("the last action must be `output` or `in_port`")),
+                    _ => Ok(bytes),
                 };
             }
         }
+    }
+
+    /// Value and care of the ports behind `output`.
+    fn output(
+        &mut self,
+        of: Widths,
+        switch: u8,
+        statement: &mut Statement,
+    ) -> Result<[u8; 2], Fault> {
+        let ports = self.port_pattern(of, Some(switch), statement);
+        ports.map_err(|fault| match statement.peek().text {
+            "in_port" => fault.hint("`in_port` is an action of its own, without `output`"),
+            _ => fault,
+        })
     }
 
     /// One record, or a part of one, byte by byte.
@@ -410,6 +425,17 @@ impl Reader {
                 Err(keyword.fault(message).earlier(policy.line))
             }
             _ => Ok(bytes),
+        }
+    }
+}
+
+/// Value and care behind `in_port`, which has no port of its own.
+fn in_port(statement: &Statement) -> Result<[u8; 2], Fault> {
+    match statement.peek().text {
+        "" | "," => Ok([0, 0]),
+        _ => {
+            let fault = statement.expected("`,` or the end of the statement");
+            Err(fault.hint("`in_port` stands alone: it sends back to where the frame arrived"))
         }
     }
 }

@@ -116,6 +116,7 @@ fn print_actions(of: Widths, record: &Record) -> Option<String> {
     let action = |action: &[u8]| match action[0] {
         1 => Some(format!("output {}", pattern_word(action[1], action[2], of.p))),
         2 => Some(format!("set {}", pattern_word(action[1], action[2], of.h))),
+        3 => Some("in_port".to_string()),
         _ => None,
     };
     let actions: Option<Vec<String>> = used.map(action).collect();

@@ -6,7 +6,7 @@ use wegbaro_tools::parse::{expand, parse, Parsed, MOST_FAULTS};
 use wegbaro_tools::print::print;
 
 /// Words put in where they do not belong.
-const WORDS: [&str; 28] = [
+const WORDS: [&str; 30] = [
     "policy",
     "0",
     "1",
@@ -35,6 +35,8 @@ const WORDS: [&str; 28] = [
     "no loops",
     "\u{7}",
     "bytes 05 00",
+    "in_port",
+    ", in_port",
 ];
 
 /// The text with a piece taken out, put in, or said twice.

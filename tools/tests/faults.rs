@@ -42,7 +42,7 @@ fn statements() {
     );
     second_line(
         "miss 0:\n  # more\n  outpt 0",
-        "line 4, column 3: expected an action (`output` or `set`), found `outpt`",
+        "line 4, column 3: expected an action (`output`, `set` or `in_port`), found `outpt`",
     );
     second_line(
         "bytes 06 1",
@@ -91,7 +91,24 @@ fn rules_and_commands() {
     );
     second_line(
         "modify 0 priority 1: output 1, set 1*",
-        "line 2, column 32: the last action must be `output`",
+        "line 2, column 32: the last action must be `output` or `in_port`",
+    );
+    second_line(
+        "miss 0: in_port, set 1",
+        "line 2, column 18: the last action must be `output` or `in_port`",
+    );
+    second_line(
+        "miss 0: output 1, in_port 1",
+        "line 2, column 27: expected `,` or the end of the statement, found `1`",
+    );
+    second_line(
+        "miss 0: output in_port",
+        "line 2, column 16: expected a port pattern (0, 1 or *, 2 long) or a number \
+         to 3, found `in_port`",
+    );
+    second_line(
+        "miss 0: in_port, in_port, in_port, in_port, in_port",
+        "line 2, column 45: there are more than 4 actions",
     );
     second_line(
         "miss 0: output 1, output 1, output 1, output 1, output 1",
@@ -162,6 +179,14 @@ fn hinted(statement: &str, column: usize, hint: &str) {
 #[test]
 fn hints() {
     hinted("lnik 0:1 - 1:1", 1, "did you mean `link`?");
+    hinted("miss 0: outpt 1", 9, "did you mean `output`?");
+    hinted("miss 0: IN_PORT", 9, "did you mean `in_port`?");
+    hinted("miss 0: inport", 9, "did you mean `in_port`?");
+    let alone = "`in_port` stands alone: it sends back to where the frame arrived";
+    hinted("miss 0: in_port 1", 17, alone);
+    hinted("miss 0: in_port output 1", 17, alone);
+    let its_own = "`in_port` is an action of its own, without `output`";
+    hinted("miss 0: output in_port", 16, its_own);
     hinted("policy 0: E(X) && E(X)", 16, "write `&` or `and`");
     hinted("policy 0: E(X) || E(X)", 16, "write `|` or `or`");
     hinted("policy 0: (E(X) || E(X))", 17, "write `|` or `or`");

@@ -38,6 +38,7 @@ fn names_stand_for_numbers() {
         "rule core priority 7 port pump header urgent: set slow, output uplink",
         "rule 2 priority 7 port 3 header 1: set 1*, output 4",
     );
+    same("miss core: set urgent, in_port, output pump", "miss 2: set 1, in_port, output 3");
     same("delete edge priority 7 port server header slow", "delete 3 priority 7 port 2 header 1*");
     same(
         "policy 0: switch(X) = core & port(X) != uplink & header(X) = urgent",
@@ -96,6 +97,11 @@ fn names_that_do_not_fit() {
     fault(
         "name header 0 Exists",
         "column 15: `exists` is a word of the language and cannot be a name",
+        None,
+    );
+    fault(
+        "name port 1 In_Port",
+        "column 13: `in_port` is a word of the language and cannot be a name",
         None,
     );
     for name in ["1st", "a*", "\"a\""] {

@@ -8,7 +8,7 @@ use std::os::unix::process::CommandExt;
 use std::process::Stdio;
 use wegbaro_tests::formulas::{external, policy, r, tc, X, Y};
 use wegbaro_tests::inputs::random_input;
-use wegbaro_tests::k::{first_add, k, k_with_d, second_add};
+use wegbaro_tests::k::{first_add, k, k_set, k_with_d, second_add};
 use wegbaro_tests::library;
 use wegbaro_tests::random::Random;
 use wegbaro_tests::records::{add, link, miss, output, rule, widths, with, Record, ANY};
@@ -486,6 +486,10 @@ fn pictures() {
     let ran = wegbaro(&["picture", "--rules", "-"], &records);
     let label =
         "s0 [label=\"switch 0\\nmiss: output drop\\lrule priority 10 port 1 header 0: output 2\\l\"]";
+    assert!(ran.text().contains(label), "{}", ran.text());
+    let back = k_set(&[(4, 9, 3), (4, 10, 0), (4, 11, 0)]).concat();
+    let ran = wegbaro(&["picture", "--rules", "-"], &back);
+    let label = "\\lrule priority 10 port 1 header 0: in_port\\l\"]";
     assert!(ran.text().contains(label), "{}", ran.text());
     complains(&["picture", "-"], &records[..48], 1, "the network is refused");
     let named = b"widths H 1 P 2 W 1\nname switch 1 core\nname port 1:1 up\nlink 0:2 - 1:1\n\

@@ -7,7 +7,7 @@ use wegbaro::Refusal;
 use wegbaro_tests::formulas::{and, bit, external, not, policy, r, some, tc, Node, X, Y};
 use wegbaro_tests::k::{k, k_set};
 use wegbaro_tests::records::{add, link, miss, output, record, rule, set, widths, with, Record};
-use wegbaro_tests::records::{Action, ANY};
+use wegbaro_tests::records::{Action, ANY, IN_PORT};
 use wegbaro_tools::book::Book;
 use wegbaro_tools::source::Source;
 use wegbaro_tools::words::{Answer, Form, Teller};
@@ -117,11 +117,21 @@ fn row_5_in_actions_and_nodes() {
     let out = output(1, 3);
     actions(&[out], (8, 0), "the action count is 0, and must be 1 to 4");
     actions(&[out], (8, 5), "the action count is 5, and must be 1 to 4");
-    actions(&[out], (9, 7), "action 1 has kind 7, neither 1 (output) nor 2 (set)");
+    for kind in [0, 4, 7, 255] {
+        let words = format!("action 1 has kind {kind}, not 1 (output), 2 (set) or 3 (in_port)");
+        actions(&[out], (9, kind), &words);
+    }
     actions(&[out], (11, 4), "action 1 has care 4, which does not fit its width 2");
     actions(&[out], (10, 4), "action 1 has value 4, with a bit that care 3 leaves open");
     actions(&[out], (12, 1), "byte 12 is 1, and must be zero");
-    actions(&[out, set(1, 1)], (8, 2), "action 2, the last one, is not an output");
+    let last = "action 2, the last one, is neither an output nor in_port";
+    actions(&[out, set(1, 1)], (8, 2), last);
+    actions(&[IN_PORT, set(1, 1)], (8, 2), last);
+    let zero = "where it must be zero";
+    actions(&[IN_PORT], (10, 2), &format!("action 1 is in_port, and its value is 2, {zero}"));
+    actions(&[IN_PORT], (11, 1), &format!("action 1 is in_port, and its care is 1, {zero}"));
+    let second = format!("action 2 is in_port, and its value is 1, {zero}");
+    actions(&[out, [3, 1, 3], out], (8, 3), &second);
     actions(&[set(1, 3), out], (8, 2), "action 1 has care 3, which does not fit its width 1");
     let node = |node: Node, words: &str| {
         let words = format!("5, {words}, at record 2 (policy 0, node 0)");
@@ -264,6 +274,10 @@ fn row_12() {
     );
     refused_command(with(add, 1, 2), "there is no switch 2, the last is 1");
     refused_command(with(add, 8, 0), "the action count is 0, and must be 1 to 4");
+    refused_command(
+        with(add, 9, 3),
+        "action 1 is in_port, and its value is 1, where it must be zero",
+    );
     refused_command(with(add, 0, 8), "byte 8 is 1, and must be zero");
     refused_command(with(with(add, 0, 7), 23, 5), "byte 23 is 5, and must be zero");
 }

@@ -11,6 +11,7 @@ use wegbaro_tests::networks::{
     all_widths, crowded, guarded_network, largest, random_network, MODEST,
 };
 use wegbaro_tests::random::Random;
+use wegbaro_tests::records::{add, miss, modify, output, rule, set, widths, Action, ANY, IN_PORT};
 use wegbaro_tools::parse::parse;
 use wegbaro_tools::print::print;
 
@@ -112,6 +113,36 @@ policy 0 nodes: E X; BIT X 4; NOT 1; AND 0 2; R X Y; TC 4 X Y; E Y; BIT Y 4; BIT
     AND 9 8; AND 5 10; SOME 11 Y; AND 3 12
 ";
     assert_eq!(there_and_back(&k().concat()), text);
+}
+
+/// `in_port` stands at every place among the actions, alone and several times.
+#[test]
+fn in_port_at_every_place() {
+    for (count, places) in (1..=4).flat_map(|count| (1..1 << count).map(move |it| (count, it))) {
+        let action = |number: usize| match (places >> number & 1, number + 1 == count) {
+            (1, _) => (IN_PORT, "in_port"),
+            (_, true) => (output(0, 0), "output **"),
+            (_, false) => (set(1, 1), "set 1"),
+        };
+        let (actions, words): (Vec<Action>, Vec<&str>) = (0..count).map(action).unzip();
+        let words = words.join(", ");
+        let rule = rule(0, 9, ANY, ANY, &actions);
+        let matching = "0 priority 9 port ** header *";
+        for (record, statement) in [
+            (miss(0, &actions), "miss 0".to_string()),
+            (rule, format!("rule {matching}")),
+            (add(rule), format!("add {matching}")),
+            (modify(rule), format!("modify {matching}")),
+        ] {
+            let text = there_and_back(&[widths(1, 2, 0), record].concat());
+            assert!(text.ends_with(&format!("\n{statement}: {words}\n")), "{text}");
+        }
+    }
+    // With a value or a care it is no action of the text.
+    for stray in [[3, 1, 0], [3, 0, 1], [3, 1, 1]] {
+        let text = there_and_back(&[widths(1, 2, 0), miss(0, &[stray])].concat());
+        assert!(text.contains("\nbytes 03 00 "), "{text}");
+    }
 }
 
 #[test]
