@@ -112,22 +112,30 @@ impl<'a> Network<'a> {
     /// The copies that a record's actions send of an arriving state, each with its action's number
     /// from 1.
     fn copies(&self, record: &Record, state: State) -> Vec<(usize, State)> {
-        let [switch, _] = state.point;
+        let [switch, arrival] = state.point;
         let mut header = state.header;
         let mut copies = vec![];
         for (number, action) in (1..).zip(record[9..21].chunks(3)).take(record[8].into()) {
             let [kind, value, care] = [action[0], action[1], action[2]];
-            if kind == 2 {
-                header = header & !care | value;
-                continue;
-            }
-            let ports = (0..=self.widths.controller()).filter(|port| port & care == value);
-            let all = care == self.widths.controller();
-            for port in ports.filter(|port| all || self.is_ordinary(*port)) {
-                copies.push((number, State { departing: true, point: [switch, port], header }));
-            }
+            let ports = match kind {
+                1 => self.output_ports([value, care], arrival),
+                2 => {
+                    header = header & !care | value;
+                    continue;
+                }
+                _ => vec![arrival],
+            };
+            let copy = |port| (number, State { departing: true, point: [switch, port], header });
+            copies.extend(ports.into_iter().map(copy));
         }
         copies
+    }
+
+    /// The ports that an output reaches: never the port of arrival, and by stars ordinary ones only.
+    fn output_ports(&self, [value, care]: [u8; 2], arrival: u8) -> Vec<u8> {
+        let last = self.widths.controller();
+        let ports = (0..=last).filter(|port| port & care == value && *port != arrival);
+        ports.filter(|port| care == last || self.is_ordinary(*port)).collect()
     }
 
     /// What takes one state to the next: the place of the record, and for a rule or a miss with

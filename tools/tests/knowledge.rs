@@ -14,6 +14,8 @@ use wegbaro_tools::book::Book;
 use wegbaro_tools::causes::{command_cause, network_cause};
 use wegbaro_tools::formula::Node;
 use wegbaro_tools::parse::{parse, parse_command};
+use wegbaro_tools::print::whole_records;
+use wegbaro_tools::route::find;
 use wegbaro_tools::source::Source;
 use wegbaro_tools::steps::{Network, State};
 use wegbaro_tools::truth::Truth;
@@ -29,25 +31,75 @@ fn network(records: &[Record]) -> Network<'_> {
     Network::new(records).unwrap()
 }
 
+/// The states that a state steps to, once each.
+fn next(network: Network, number: usize) -> Vec<usize> {
+    let state = State::numbered(number, network.widths);
+    assert_eq!(state.number(network.widths), number);
+    let mut next: Vec<usize> =
+        network.next(state).iter().map(|state| state.number(network.widths)).collect();
+    next.sort();
+    next.dedup();
+    next
+}
+
+/// One switch, N of 4: a state is 8 (departing) + 2 port + header. An output skips the port of
+/// arrival, be it the controller's, and `in_port` goes there with the header of its moment.
+#[test]
+fn steps_to_the_port_of_arrival() {
+    // The steps from ports 0 to 3, with header 0 and header 1 each.
+    let steps = |actions: &str, expected: [&[usize]; 8]| {
+        let parsed = parse(&format!("widths H 1 P 2 W 0\nmiss 0: {actions}\n")).unwrap();
+        let (records, _) = whole_records(&parsed.bytes);
+        let found: Vec<_> = (0..8).map(|number| next(network(&records), number)).collect();
+        assert_eq!(found, expected, "{actions}");
+    };
+    steps("output **", [&[], &[], &[12], &[13], &[10], &[11], &[10, 12], &[11, 13]]);
+    steps("output 1", [&[], &[], &[], &[], &[10], &[11], &[10], &[11]]);
+    steps("output 0*", [&[], &[], &[], &[], &[10], &[11], &[10], &[11]]);
+    steps("output controller", [&[], &[], &[14], &[15], &[14], &[15], &[], &[]]);
+    steps("in_port", [&[], &[], &[10], &[11], &[12], &[13], &[14], &[15]]);
+    steps(
+        "output **, set 1, in_port",
+        [&[], &[], &[11, 12], &[11, 13], &[10, 13], &[11, 13], &[10, 12, 15], &[11, 13, 15]],
+    );
+}
+
 #[test]
 fn steps_are_those_of_the_second_implementation() {
     let mut random = Random::new(1);
+    let mut back = 0;
     for of in all_widths() {
         let records = random_network(&mut random, of, MODEST);
         let ours = network(&records);
         let Ok(theirs) = second::file::read(&records) else { panic!("refused") };
-        for (number, next) in second::steps::all_steps(&theirs).iter().enumerate() {
-            let state = State::numbered(number, ours.widths);
-            assert_eq!(state.number(ours.widths), number);
-            let mut steps: Vec<usize> =
-                ours.next(state).iter().map(|state| state.number(ours.widths)).collect();
-            steps.sort();
-            steps.dedup();
+        for (number, theirs) in second::steps::all_steps(&theirs).iter().enumerate() {
             let expected: Vec<usize> =
-                (0..ours.states()).filter(|state| next.contains(*state)).collect();
+                (0..ours.states()).filter(|state| theirs.contains(*state)).collect();
+            let steps = next(ours, number);
             assert_eq!(steps, expected, "{of:?}, state {number}");
+            let departing = number + ours.states() / 2;
+            back += usize::from(steps.iter().any(|to| to >> of.h == departing >> of.h));
         }
     }
+    assert!(back > 100, "{back} states step back to their port");
+}
+
+/// Two states make a route of the library just where the one steps to the other.
+#[test]
+fn steps_are_those_of_the_library() {
+    let mut random = Random::new(9);
+    let mut back = 0;
+    for _ in 0..20 {
+        let records = random_network(&mut random, SMALL, BARE);
+        let network = network(&records);
+        for from in 0..32 {
+            let is_step = |to: &usize| find(&records, [from, *to]) == Ok(Some(vec![from, *to]));
+            let steps: Vec<usize> = (0..32).filter(is_step).collect();
+            assert_eq!(next(network, from), steps, "state {from} of {records:?}");
+            back += usize::from(steps.iter().any(|to| to >> 1 == (from + 16) >> 1));
+        }
+    }
+    assert!(back > 20, "{back} states step back to their port");
 }
 
 /// The lowest state that breaks the one policy, by the second implementation.
@@ -276,6 +328,7 @@ fn every_refusal_has_a_cause() {
     for row in [3, 4, 5, 6, 7, 8, 9, 10, 12] {
         assert!(seen[row] > 0, "row {row}: {seen:?}");
     }
+    assert!(words[12].iter().any(|it| it.contains("is in_port")), "{:?}", words[12]);
     // Rows with several causes show more than one of them.
     for row in [3, 4, 5, 6, 7, 9, 12] {
         assert!(words[row].len() > 1, "row {row}: {:?}", words[row]);
