@@ -5,7 +5,7 @@
 //! as a point linked twice, is left to the gate, which refuses it by a row.
 
 pub use crate::expand::expand;
-use crate::fault::Fault;
+use crate::fault::{quoted, Fault};
 use crate::formula::Formula;
 use crate::names::{Names, Point};
 use crate::policies::Split;
@@ -341,7 +341,24 @@ impl Reader {
         if kind != 8 {
             bytes.extend(self.actions(of, switch, statement)?);
         }
-        Ok(record(&bytes).to_vec())
+        let rule = record(&bytes);
+        self.note_unsent(of, &rule, statement.line());
+        Ok(rule.to_vec())
+    }
+
+    /// Says of an output to the one port that its rule is for that it sends nothing; of every such
+    /// line, as each is to be looked at.
+    fn note_unsent(&mut self, of: Widths, rule: &Record, line: usize) {
+        let [switch, port, care] = [rule[1], rule[4], rule[5]];
+        let is_back = |action: &[u8]| care == of.controller() && action == [1, port, care];
+        if rule[9..21].chunks(3).any(is_back) {
+            let port = quoted(&self.names.port(switch, port));
+            self.notes.push(format!(
+                "line {line}: `output {port}` sends nothing here, as the rule is for frames that \
+                 arrive at this port, and an output never sends a frame back to where it came \
+                 from; `in_port` does"
+            ));
+        }
     }
 
     /// Says a thing once for all lines.

@@ -302,12 +302,44 @@ fn numbers_and_patterns() {
         parse(&format!("widths H 1 P {p} W 0\n{statement}\n")).unwrap().notes
     };
     assert_eq!(
-        notes("miss 0: output 10\nadd 0 priority 1 port 10: output 10", 2),
+        notes("miss 0: output 10\nadd 0 priority 1 port 10: output 1", 2),
         ["line 2: `10` is read as two bits, port 2; the number 2 is plainer, as `10` is a number in \
           a ward with more port bits"]
     );
     for (statement, p) in [("miss 0: output 2", 2), ("miss 0: output 10", 4)] {
         assert_eq!(notes(statement, p), Vec::<String>::new());
+    }
+}
+
+/// An output to the one port that its rule is for is told, in every line.
+#[test]
+fn outputs_that_send_nothing() {
+    let notes = |statements: &str| {
+        parse(&format!("widths H 1 P 3 W 1\nname port 1:4 pump\n{statements}\n")).unwrap().notes
+    };
+    let note = |line: usize, port: &str| {
+        format!(
+            "line {line}: `output {port}` sends nothing here, as the rule is for frames that \
+             arrive at this port, and an output never sends a frame back to where it came from; \
+             `in_port` does"
+        )
+    };
+    assert_eq!(notes("rule 0 priority 1 port 4: output 4"), [note(3, "4")]);
+    assert_eq!(notes("add 1 priority 1 port 4: set 1, output 100, in_port"), [note(3, "pump")]);
+    assert_eq!(
+        notes("rule 0 priority 1 port 7: output 7\nmodify 0 priority 1 port 7:\n  output 7"),
+        [note(3, "controller"), note(4, "controller")]
+    );
+    for fine in [
+        "rule 0 priority 1 port 4: in_port",
+        "rule 0 priority 1 port 4: output 5, output 10*, output ***",
+        "rule 0 priority 1 port 10*: output 4, output 10*",
+        "rule 0 priority 1: output 0",
+        "rule 0 priority 1 port 4: set 0, output 0",
+        "miss 0: output 4",
+        "delete 0 priority 1 port 4",
+    ] {
+        assert_eq!(notes(fine), Vec::<String>::new(), "{fine}");
     }
 }
 

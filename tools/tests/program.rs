@@ -123,6 +123,15 @@ fn a_loop_is_shown() {
     expect(&["check", "-"], &input, 1, words);
 }
 
+/// A note is said on standard error, and is no fault.
+#[test]
+fn an_output_that_sends_nothing() {
+    let ward = b"widths H 1 P 2 W 0\nmiss 0: output drop\nrule 0 priority 1 port 1: output 1\n";
+    let ran = wegbaro(&["check", "-"], ward);
+    assert_eq!(ran.status, Some(0));
+    assert!(ran.said.starts_with("note: line 3: `output 1` sends nothing here, "), "{}", ran.said);
+}
+
 #[test]
 fn answers_as_json() {
     let state = r#"{"number":3,"switch":0,"port":1,"direction":"arriving","header":1,"words":"switch 0, port 1, arriving, header 1"}"#;
