@@ -123,9 +123,10 @@ impl Teller<'_> {
                 true => header,
                 false => format!("{header} set to {header_out}"),
             };
+            let sent = if from.point == to.point { "back out" } else { "out" };
             hops.push(format!(
-                "switch {switch}: in at port {port}, out at port {out}, header {header} ({origin}: \
-                 {rule})"
+                "switch {switch}: in at port {port}, {sent} at port {out}, header {header} \
+                 ({origin}: {rule})"
             ));
         }
         let end = route.last().filter(|end| route.first() != Some(end));

@@ -11,7 +11,7 @@ use wegbaro_tests::inputs::random_input;
 use wegbaro_tests::k::{first_add, k, k_set, k_with_d, second_add};
 use wegbaro_tests::library;
 use wegbaro_tests::random::Random;
-use wegbaro_tests::records::{add, link, miss, output, rule, widths, with, Record, ANY};
+use wegbaro_tests::records::{add, link, miss, output, rule, widths, with, Record, ANY, IN_PORT};
 
 /// The words about K and its two adds, as a text.
 const K_WORDS: &str = "\
@@ -112,15 +112,39 @@ fn run_judges_the_commands_too() {
 
 #[test]
 fn a_loop_is_shown() {
-    let ring =
-        [widths(1, 2, 1), link(0, 1, 1, 1), miss(0, &[output(1, 3)]), miss(1, &[output(1, 3)])];
+    let ring = [widths(1, 2, 1), link(0, 1, 1, 1), miss(0, &[IN_PORT]), miss(1, &[IN_PORT])];
     let input = [ring.concat(), policy(0, &[[1, 0, 1], [8, 0, 0]]).concat()].concat();
     let words =
         "start: violated: policy 0 is broken by state 2 (switch 0, port 1, arriving, header 0)
     back to itself by this way:
-    - switch 0: in at port 1, out at port 1, header 0 (record 2: miss 0: output 1)
-    - switch 1: in at port 1, out at port 1, header 0 (record 3: miss 1: output 1)\n";
+    - switch 0: in at port 1, back out at port 1, header 0 (record 2: miss 0: in_port)
+    - switch 1: in at port 1, back out at port 1, header 0 (record 3: miss 1: in_port)\n";
     expect(&["check", "-"], &input, 1, words);
+}
+
+/// A flood goes back to nobody; with `in_port` it does. The rule of a command is told with it.
+#[test]
+fn a_flood_and_in_port() {
+    let ward =
+        "widths H 1 P 2 W 0\nmiss 0: output **\npolicy 0: what enters at 0:1 never reaches 0:1\n\
+                add 0 priority 1 header 1: output 1, output **, set 0, in_port\n";
+    let words = "\
+start: the network holds, no policy is broken
+command 1 (add 0 priority 1 port ** header 1: output 1, output **, set 0, in_port), line 4: \
+blocked: policy 0, line 3, is broken by state 3 (switch 0, port 1, arriving, header 1)
+    with Y = state 10 (switch 0, port 1, departing, header 0), by this way:
+    - switch 0: in at port 1, back out at port 1, header 1 set to 0 (line 4: rule 0 priority 1 port ** \
+header 1: output 1, output **, set 0, in_port)
+";
+    expect(&["run", "-"], ward.as_bytes(), 1, words);
+    expect(&["run", "--gate", "-"], ward.as_bytes(), 1, "start holds\n1 blocked 0 3\n");
+    let file = file("flood", ward.as_bytes());
+    expect(&["explain", &file], b"start holds\n1 blocked 0 3\n", 1, words);
+    let ran = wegbaro(&["run", "--json", &file], b"");
+    let command =
+        r#""command":"add 0 priority 1 port ** header 1: output 1, output **, set 0, in_port""#;
+    assert!(ran.text().contains(command), "{}", ran.text());
+    assert!(ran.text().ends_with("\"route\":[3,10]}\n"), "{}", ran.text());
 }
 
 /// A note is said on standard error, and is no fault.

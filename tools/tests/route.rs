@@ -121,6 +121,46 @@ route: found, 3 steps
     expect(&["check", "--gate", &named], b"", 1, "start violated 0 4\n");
 }
 
+/// What comes to switch 1 is sent back with header 1.
+const BACK: &str = "\
+widths H 1 P 2 W 1
+link 0:2 - 1:1
+miss 0: output 1, output 2
+miss 1: output 1, set 1, in_port
+";
+
+/// A frame goes back by `in_port` alone, and the number of that action is told.
+#[test]
+fn a_route_through_in_port() {
+    let words = "\
+route: found, 5 steps
+    state 2 (switch 0, port 1, arriving, header 0)
+    - line 3: miss 0: output 1, output 2 (action 2)
+    state 20 (switch 0, port 2, departing, header 0)
+    - line 2: link 0:2 - 1:1
+    state 10 (switch 1, port 1, arriving, header 0)
+    - line 4: miss 1: output 1, set 1, in_port (action 3)
+    state 27 (switch 1, port 1, departing, header 1)
+    - line 2: link 0:2 - 1:1
+    state 5 (switch 0, port 2, arriving, header 1)
+    - line 3: miss 0: output 1, output 2 (action 1)
+    state 19 (switch 0, port 1, departing, header 1)
+";
+    let back = BACK.as_bytes();
+    expect(&["route", "-", "0:1 in header 0", "0:1 out header 1"], back, 0, words);
+    let ran = wegbaro(&["route", "--json", "-", "10", "27"], back);
+    let by = r#""by":"miss 1: output 1, set 1, in_port (action 3)","by_record":3,"by_line":4"#;
+    assert!(ran.text().contains(by), "{}", ran.text());
+    let ran = wegbaro(&["route", "--dot", "-", "10", "27"], back);
+    let line = "step 1: miss: output 1, set 1, in_port (action 3)\\l";
+    assert!(ran.text().contains(line), "{}", ran.text());
+    // An output to the port of arrival sends nothing.
+    let none =
+        "route: none, no frame gets from state 10 (switch 1, port 1, arriving, header 0) to \
+                state 26 (switch 1, port 1, departing, header 0)\n";
+    expect(&["route", "-", "10", "26"], back, 1, none);
+}
+
 #[test]
 fn a_route_as_json() {
     let state = |number, switch, port, direction, by: &str| {
