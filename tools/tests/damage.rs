@@ -83,7 +83,7 @@ fn damaged_examples() {
     let mut random = Random::new(1);
     let folder = Path::new(env!("CARGO_MANIFEST_DIR")).join("../examples");
     let read = |example| std::fs::read_to_string(folder.join(example).join("network.txt")).unwrap();
-    let texts = ["chain", "k", "routes", "templates", "uplinks"].map(read);
+    let texts = ["chain", "flood", "k", "routes", "templates", "uplinks"].map(read);
     let [mut faulty, mut sound] = [0, 0];
     for _ in 0..1_500 {
         let mut text = texts[random.below(texts.len())].clone();

@@ -4,7 +4,7 @@ mod common;
 
 use common::parsed;
 use std::path::Path;
-use wegbaro_tools::parse::expand;
+use wegbaro_tools::parse::{expand, Parsed};
 
 const WARD: &str = "\
 widths H 1 P 2 W 1
@@ -56,7 +56,7 @@ fn behind_bytes() {
 fn the_same_records() {
     let folder = Path::new(env!("CARGO_MANIFEST_DIR")).join("../examples");
     let mut texts = vec![];
-    for example in ["chain", "k", "routes", "templates", "uplinks"] {
+    for example in ["chain", "flood", "k", "routes", "templates", "uplinks"] {
         texts.push(std::fs::read_to_string(folder.join(example).join("network.txt")).unwrap());
     }
     let misses: String = (0..8).map(|switch| format!("miss {switch}: output drop\n")).collect();
@@ -69,9 +69,9 @@ delete 0 priority 1
     for text in texts {
         let [first, again] = [parsed(&text), parsed(&expanded(&text))];
         assert_eq!(first.bytes, again.bytes, "{}", expanded(&text));
-        assert_eq!(
-            first.notes.len() + first.policies.len() > again.policies.len(),
-            text.contains("6:3")
-        );
+        let is_split =
+            |parsed: &Parsed| parsed.notes.iter().any(|note| note.contains("parts of it"));
+        assert_eq!(is_split(&first), text.contains("6:3"), "{:?}", first.notes);
+        assert!(!is_split(&again), "{:?}", again.notes);
     }
 }
