@@ -401,6 +401,10 @@ fn long_words() {
                  policy 0: exists Y. R(X,Y)\n"
         ),
         format!("widths H 1 P 2 W 0\nmiss 0: output 1\npolicy 0 \"{word}\": E(X)\n"),
+        format!(
+            "widths H 1 P 2 W 0\nname port 1 {word}\nmiss 0: output 2\n\
+                 rule 0 priority 1 port {word}: output {word}\n"
+        ),
     ];
     for text in texts {
         let ran = wegbaro(&["check", "-"], text.as_bytes());
