@@ -303,13 +303,17 @@ fn every_refusal_has_a_cause() {
             words.push(form);
         }
     };
-    for round in 0..6_000 {
+    for round in 0..20_000 {
         let mut records = match round % 40 {
             0 => crowded(&mut random, SMALL),
             1..=20 => guarded_network(&mut random, SMALL),
             _ => random_network(&mut random, Widths { h: 2, p: 2, w: 1 }, MODEST),
         };
-        damage(&mut random, &mut records);
+        // Damage seldom makes one node too many for a policy.
+        match round % 200 {
+            0 => records.push(records[records.len() - 1]),
+            _ => drop(damage(&mut random, &mut records)),
+        }
         let mut store = records.concat();
         store.resize(STORE_BYTES.max(store.len()), 0);
         let mut work = vec![0; work_bytes(&records)];
