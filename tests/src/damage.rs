@@ -6,12 +6,13 @@ use crate::records::Record;
 
 /// Damages the records in one way, and tells the first record that is another one now.
 pub fn damage(random: &mut Random, records: &mut Vec<Record>) -> usize {
-    match random.below(6) {
+    match random.below(7) {
         0 => set_byte(random, records),
         1 => flip_bit(random, records),
-        2 => swap(random, records),
-        3 => cut(random, records),
-        4 => remove(random, records),
+        2 => put_action(random, records),
+        3 => swap(random, records),
+        4 => cut(random, records),
+        5 => remove(random, records),
         _ => duplicate(random, records),
     }
 }
@@ -29,6 +30,20 @@ fn set_byte(random: &mut Random, records: &mut [Record]) -> usize {
 fn flip_bit(random: &mut Random, records: &mut [Record]) -> usize {
     let place = random.below(records.len());
     records[place][random.below(RECORD)] ^= 1 << random.below(8);
+    place
+}
+
+/// Puts an action of a kind from 0 to 4 into a miss or a rule, if there is one. Of its value and its
+/// care at most one is not zero, so that little is wrong with an IN_PORT.
+fn put_action(random: &mut Random, records: &mut [Record]) -> usize {
+    let any = random.below(records.len());
+    let acting: Vec<usize> =
+        (0..records.len()).filter(|place| matches!(records[*place][0], 3 | 4)).collect();
+    let place = if acting.is_empty() { any } else { random.pick(&acting) };
+    let (kind, stray) = (random.below(5) as u8, random.byte());
+    let [value, care] = random.pick(&[[0, 0], [stray, 0], [0, stray]]);
+    let first = 9 + 3 * random.below(4);
+    records[place][first..first + 3].copy_from_slice(&[kind, value, care]);
     place
 }
 
