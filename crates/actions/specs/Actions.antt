@@ -31,11 +31,11 @@ unfoldable pub departing : Widths → ℕ → ℕ → List ℕ → List ℕ
 departing w sw h ports = map (λ q. state w 1 sw q h) ports
 
 -- the ports to which an action of each kind sends a copy: OUTPUT to those that it reaches, IN_PORT back to the arrival port p
-abbrev pub portsOf : ActionKind → Widths → ℕ → ℕ → ℕ → List ℕ
-portsOf kOutput w p value care = reached w p value care
-portsOf kSet w p value care = []
-portsOf kInPort w p value care = p ∷ []
-portsOf kNoAction w p value care = []
+abbrev pub copiedTo : ActionKind → Widths → ℕ → ℕ → ℕ → List ℕ
+copiedTo kOutput w p value care = reached w p value care
+copiedTo kSet w p value care = []
+copiedTo kInPort w p value care = p ∷ []
+copiedTo kNoAction w p value care = []
 
 -- the header after an action of each kind: SET puts the cared bits into it
 abbrev pub headerBy : ActionKind → Widths → ℕ → ℕ → ℕ → ℕ
@@ -46,7 +46,7 @@ headerBy kNoAction w value care h = h
 
 -- the copies that action i of a record sends from a switch, p being the arrival port and h the header of that moment
 unfoldable pub sentBy : Widths → ℕ → ℕ → Rec → ℕ → ℕ → List ℕ
-sentBy w sw p r h i = departing w sw h (portsOf (actionKind (at r (9 + 3 * i))) w p (at r (10 + 3 * i)) (at r (11 + 3 * i)))
+sentBy w sw p r h i = departing w sw h (copiedTo (actionKind (at r (9 + 3 * i))) w p (at r (10 + 3 * i)) (at r (11 + 3 * i)))
 
 -- the header after action i of a record
 unfoldable pub headerAfter : Widths → Rec → ℕ → ℕ → ℕ

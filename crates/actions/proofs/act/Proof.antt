@@ -13,7 +13,7 @@ use Rattle.records.specs.Laws.Limits.{limits}
 use Rattle.records.specs.Laws.Patterns.{put-mask}
 use Rattle.records.specs.declared.Widths.{Widths}
 use Rattle.actions.specs.ByPlace.{ofBody}
-use Rattle.actions.specs.Actions.{departing, portsOf, headerBy}
+use Rattle.actions.specs.Actions.{departing, copiedTo, headerBy}
 use Rattle.actions.specs.Adds.{lineBytes, Added}
 use Rattle.actions.specs.Sent.{Acted}
 use Rattle.actions.specs.Laws.CopiesInOrder.{sent-as, header-as}
@@ -45,12 +45,12 @@ module _ (w : Widths) (sw p h i : ℕ) (b : List ℕ) (k : ActionKind) (e : acti
   is-kind = ap actionKind (kind-is b i) ∙ e
 
   -- it was run
-  acted : (line : ℕ) (before after : List ℕ) (result : ℕ) → Added (departing w sw h (portsOf k w p value care)) line (lineBytes w) before after
+  acted : (line : ℕ) (before after : List ℕ) (result : ℕ) → Added (departing w sw h (copiedTo k w p value care)) line (lineBytes w) before after
       → result ≡ headerBy k w value care h → Acted w sw p (ofBody b) h i line before after result
   acted line before after result A q = record {
     copies =
         rw (sent-as w (ofBody b) h i sw p k is-kind)
-        (subst₂ (λ (v x : ℕ). Added (departing w sw h (portsOf k w p v x)) line (lineBytes w) before after) (sym (value-is b i)) (sym (care-is b i)) A);
+        (subst₂ (λ (v x : ℕ). Added (departing w sw h (copiedTo k w p v x)) line (lineBytes w) before after) (sym (value-is b i)) (sym (care-is b i)) A);
     header = q ∙ ap₂ (λ (v x : ℕ). headerBy k w v x h) (sym (value-is b i)) (sym (care-is b i)) ∙ sym (header-as w (ofBody b) h i k is-kind);
   }
 

@@ -13,7 +13,7 @@ use Rattle.records.specs.Pattern.{matches}
 use Rattle.records.specs.Laws.Patterns.{put-lt}
 use Rattle.records.specs.declared.Widths.{Widths}
 use Rattle.actions.specs.Chosen.{Arrival}
-use Rattle.actions.specs.Actions.{named, except, reached, departing, portsOf, headerBy, sentBy, headerAfter, copies}
+use Rattle.actions.specs.Actions.{named, except, reached, departing, copiedTo, headerBy, sentBy, headerAfter, copies}
 use Rattle.actions.specs.Sent.{flooded}
 
 -- the ports of a pattern without stars, and with
@@ -42,9 +42,9 @@ module _ (w : Widths) (value care : ℕ) where
 
 -- what action i of a record does, by its kind
 module _ (w : Widths) (r : Rec) (h i : ℕ) where
-  pub sent-as : (sw p : ℕ) (k : ActionKind) → actionKind (at r (9 + 3 * i)) ≡ k → sentBy w sw p r h i ≡ departing w sw h (portsOf k w p (at r (10 + 3 * i)) (at r (11 + 3 * i)))
+  pub sent-as : (sw p : ℕ) (k : ActionKind) → actionKind (at r (9 + 3 * i)) ≡ k → sentBy w sw p r h i ≡ departing w sw h (copiedTo k w p (at r (10 + 3 * i)) (at r (11 + 3 * i)))
   unfolding sentBy
-  sent-as sw p k e = ap (λ (x : ActionKind). departing w sw h (portsOf x w p (at r (10 + 3 * i)) (at r (11 + 3 * i)))) e
+  sent-as sw p k e = ap (λ (x : ActionKind). departing w sw h (copiedTo x w p (at r (10 + 3 * i)) (at r (11 + 3 * i)))) e
 
   pub header-as : (k : ActionKind) → actionKind (at r (9 + 3 * i)) ≡ k → headerAfter w r h i ≡ headerBy k w (at r (10 + 3 * i)) (at r (11 + 3 * i)) h
   unfolding headerAfter
