@@ -2,7 +2,7 @@
 use borrow.Author.Tests.{eq-eqb, eqb-true}
 use mathlib.Core.Path.{_≡_, refl, sym, _∙_}
 use mathlib.Core.Bool.{true, or-false}
-use mathlib.Core.List.{List, [], _∷_, _++_, map}
+use mathlib.Core.List.{List, [], _∷_, _++_}
 use mathlib.Core.Logic.{_↔_}
 use Prim.Native.Nat.{ℕ}
 use lib.Dec.{eqb}
@@ -16,7 +16,7 @@ use Rattle.verdict.specs.Computed.{tableOf}
 use Rattle.commands.specs.Apply.{applied}
 use Rattle.calls.specs.Answer.{forwarded, refused}
 use Rattle.calls.specs.Reference.{installedAtStart, outcomeOf}
-use Rattle.series.specs.Starred.{computing, those, Case, commanded, listed}
+use Rattle.series.specs.Starred.{computing, those, commanded, listed}
 
 -- modify of rule B (switch 1, port 1, any header): an action count and actions
 unfoldable modifyB : List ℕ → Rec
@@ -30,8 +30,8 @@ flooding = modifyB (1 ∷ 1 ∷ 0 ∷ 0 ∷ [])
 unfoldable returning : Rec
 returning = modifyB (1 ∷ 3 ∷ 0 ∷ 0 ∷ [])
 
--- what the states that arrive at (switch 1, port 1) step to, and what state 2 reaches: with stars no copy goes back to port 1, with IN_PORT it does, and over the link;
--- then IN_PORT with a value, with a care, before another, and before a SET, which must not be the last
+-- for OUTPUT with stars and for IN_PORT: the command's answer, what the states 10 and 11 step to, which arrive at port 1 of switch 1, and what state 2 reaches; with stars no copy goes back to port 1,
+-- with IN_PORT it does, and over the link to state 4; then the answers to IN_PORT with a value, with a care, twice, and with a SET behind it as the last action
 bounce :
     commanded (outcomeOf (installedAtStart K) flooding 2048 .answer)
     ∷ listed (next (applied flooding K) 10)

@@ -1,7 +1,7 @@
 -- A frame goes back to the arrival port by IN_PORT, and by nothing else.
-use borrow.Author.Tests.{eq-eqb, eqb-true, ne-eqb}
-use mathlib.Core.Path.{_≡_, refl, sym, ap, subst, subst⁻¹, _∙_}
-use mathlib.Core.Bool.{Bool, true, false, cond, not, false≢true}
+use borrow.Author.Tests.{eq-eqb, ne-eqb}
+use mathlib.Core.Path.{_≡_, refl, sym, ap, subst⁻¹, _∙_}
+use mathlib.Core.Bool.{Bool, true, false, cond, not}
 use mathlib.Core.List.{List, [], _∷_, _++_, map}
 use mathlib.Core.Logic.{_↔_, ⊎-elim}
 use Prim.Native.Nat.{ℕ, zero, suc, _+_, _-_, _*_, _^_, _<_, _≤_}
@@ -21,7 +21,7 @@ use Rattle.actions.specs.Chosen.{Arrival}
 use Rattle.actions.specs.Actions.{named, except, reached, departing, sentBy, headerAfter, copies, sent}
 use Rattle.actions.specs.Sent.{UsedAction}
 use Rattle.actions.specs.Laws.AddedBits.{member-append}
-use Rattle.actions.specs.Laws.CopiesInOrder.{named-one, named-starred, sent-as, header-after-lt, copies-cons}
+use Rattle.actions.specs.Laws.CopiesInOrder.{named-one, named-starred, sent-as, header-after-lt}
 use Rattle.actions.specs.Laws.GoodActions.{pattern-value-lt, output-pattern, used-action}
 
 -- IN_PORT is not among the actions of a record

@@ -2,12 +2,11 @@
 use mathlib.Core.Path.{_≡_, sym, _∙_}
 use mathlib.Core.Bool.{true, _&&_}
 use mathlib.Core.List.{List, []}
-use Prim.Native.Nat.{ℕ, _-_, _^_, _<_, _≤_}
+use Prim.Native.Nat.{ℕ, _-_, _<_, _≤_}
 use native.Mathlib.Decide.{decLt}
 use native.Mathlib.Omega.{arith}
-use lib.Dec.{ltb}
 use lib.ListN.{getD}
-use Rattle.planes.specs.Laws.Tests.{and-left, and-right, both}
+use Rattle.planes.specs.Laws.Tests.{and-left, both}
 use Rattle.records.specs.Record.{Net, at, records}
 use Rattle.records.specs.Fields.{zeros, pointGood, actionsGood, matchGood, fieldsGood}
 use Rattle.records.specs.Laws.Fields.{link-fields, rule-fields, miss-actions, rule-actions}
