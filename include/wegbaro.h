@@ -77,7 +77,8 @@
  *    2       the store is under 15,384 bytes                                                0
  *    3       a kind is not 1 to 5 or below the one before, or kind 1 is not once and first  the record, from 0
  *    4       a width is outside its limits                                                  the record
- *    5       a field is outside its range or width, or an unnamed byte is not zero          the record
+ *    5       a field is outside its range or width, an action is bad, or an unnamed byte    the record
+ *            is not zero
  *    6       a link's end is not ordinary or already linked, or both ends are the same      the record
  *    7       a miss is not that of the next switch                                          the record
  *            the misses are incomplete                                                      the record behind them, or n

@@ -9,7 +9,7 @@ const ROWS: [&str; 15] = [
     "the store has fewer than 15,384 bytes",
     "a kind is not 1 to 5 or is below the one before, or kind 1 is not once and first",
     "a width is outside its limits",
-    "a field is outside its range or width, or an unnamed byte is not zero",
+    "a field is outside its range or width, an action is bad, or an unnamed byte is not zero",
     "a link ends at a port that is not ordinary or at a point already linked, or both ends are the \
      same point",
     "a miss is not that of the next switch, or a switch has no miss",

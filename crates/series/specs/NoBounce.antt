@@ -9,14 +9,15 @@ use lib.Dec.{eqb}
 use Rattle.records.specs.Lists.{any, member}
 use Rattle.records.specs.Record.{Rec}
 use Rattle.records.specs.Policy.{X, Y, R, TC}
-use Rattle.records.specs.NetK.{record24, K}
+use Rattle.records.specs.NetK.{record24, K, inStore}
 use Rattle.steps.specs.Step.{next, Step}
 use Rattle.truth.specs.Computed.{truth}
 use Rattle.verdict.specs.Computed.{tableOf}
 use Rattle.commands.specs.Apply.{applied}
-use Rattle.calls.specs.Answer.{forwarded, refused}
+use Rattle.calls.specs.Answer.{CheckAnswer, forwarded, refused}
+use Rattle.calls.specs.Check.{checkAnswer}
 use Rattle.calls.specs.Reference.{installedAtStart, outcomeOf}
-use Rattle.series.specs.Starred.{computing, those, commanded, listed}
+use Rattle.series.specs.Starred.{computing, those, checked, commanded, listed}
 
 -- modify of rule B (switch 1, port 1, any header): an action count and actions
 unfoldable modifyB : List ℕ → Rec
@@ -31,7 +32,7 @@ unfoldable returning : Rec
 returning = modifyB (1 ∷ 3 ∷ 0 ∷ 0 ∷ [])
 
 -- for OUTPUT with stars and for IN_PORT: the command's answer, what the states 10 and 11 step to, which arrive at port 1 of switch 1, and what state 2 reaches; with stars no copy goes back to port 1,
--- with IN_PORT it does, and over the link to state 4; then the answers to IN_PORT with a value, with a care, twice, and with a SET behind it as the last action
+-- with IN_PORT it does, and over the link to state 4; then IN_PORT with a value, with a care, twice, and with a SET behind it as the last action: in a command, and in a file, where rule B is record 5
 bounce :
     commanded (outcomeOf (installedAtStart K) flooding 2048 .answer)
     ∷ listed (next (applied flooding K) 10)
@@ -45,6 +46,10 @@ bounce :
     ∷ commanded (outcomeOf (installedAtStart K) (modifyB (1 ∷ 3 ∷ 0 ∷ 1 ∷ [])) 2048 .answer)
     ∷ commanded (outcomeOf (installedAtStart K) (modifyB (2 ∷ 3 ∷ 0 ∷ 0 ∷ 3 ∷ 0 ∷ 0 ∷ [])) 2048 .answer)
     ∷ commanded (outcomeOf (installedAtStart K) (modifyB (2 ∷ 3 ∷ 0 ∷ 0 ∷ 2 ∷ 0 ∷ 1 ∷ [])) 2048 .answer)
+    ∷ checked (checkAnswer (inStore (applied (modifyB (1 ∷ 3 ∷ 1 ∷ 0 ∷ [])) K)) 20 2048)
+    ∷ checked (checkAnswer (inStore (applied (modifyB (1 ∷ 3 ∷ 0 ∷ 1 ∷ [])) K)) 20 2048)
+    ∷ checked (checkAnswer (inStore (applied (modifyB (2 ∷ 3 ∷ 0 ∷ 0 ∷ 3 ∷ 0 ∷ 0 ∷ [])) K)) 20 2048)
+    ∷ checked (checkAnswer (inStore (applied (modifyB (2 ∷ 3 ∷ 0 ∷ 0 ∷ 2 ∷ 0 ∷ 1 ∷ [])) K)) 20 2048)
     ∷ []
     ≡ commanded (forwarded 20)
     ∷ listed (28 ∷ [])
@@ -58,6 +63,10 @@ bounce :
     ∷ commanded (refused 12 0)
     ∷ commanded (forwarded 20)
     ∷ commanded (refused 12 0)
+    ∷ checked (CheckAnswer.refused 5 5)
+    ∷ checked (CheckAnswer.refused 5 5)
+    ∷ checked CheckAnswer.holds
+    ∷ checked (CheckAnswer.refused 5 5)
     ∷ []
 unfolding computing those modifyB flooding returning
 bounce = refl

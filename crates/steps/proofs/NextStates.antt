@@ -1,11 +1,10 @@
--- The states that a state steps to, by its direction.
+-- The states that a state steps to: relayed, or over a link.
 use borrow.Author.Tests.{eq-eqb, ne-eqb}
-use mathlib.Core.Path.{_≡_, refl, sym, ap, _∙_}
-use mathlib.Core.Bool.{Bool, true, false, cond, _||_, or-false}
-use mathlib.Core.List.{List, [], _∷_, map, flatMap, append-nil}
+use mathlib.Core.Path.{_≡_, sym, ap, _∙_}
+use mathlib.Core.Bool.{Bool, cond, _||_, or-false}
+use mathlib.Core.List.{[], _∷_, flatMap, append-nil}
 use Prim.Native.Nat.{ℕ}
 use native.Mathlib.Decide.{ℕ-discrete}
-use lib.Dec.{eqb}
 use Rattle.records.specs.Lists.{any, member}
 use Rattle.records.specs.Record.{Rec, Net, ofKind}
 use Rattle.records.specs.Widths.{widthsOf}
@@ -16,37 +15,10 @@ use Rattle.actions.specs.Actions.{sent}
 use Rattle.steps.specs.Step.{across, next}
 use Rattle.actions.specs.ByPlace.{arrival}
 use Rattle.steps.specs.Relayed.{relayed, relays}
-use Rattle.steps.specs.Carried.{arriving, crosses}
+use Rattle.steps.specs.Carried.{crosses}
+use Rattle.steps.specs.Laws.ByDirection.{next-arriving, next-departing}
 
 module _ (net : Net) (w : Widths) (widths : w ≡ widthsOf net) (s : ℕ) where
-  abbrev arrives : Widths → List ℕ
-  arrives v = let a = arrival (switchOf v s) (portOf v s) (headerOf v s) in
-      elim (eqb (portOf v s) 0) as (λ x. List ℕ) [ true ↦ [] | false ↦ flatMap (sent v a) (chosen net a) ]
-
-  abbrev departs : Widths → List ℕ
-  departs v = map (λ (e : ℕ × ℕ). state v 0 (e .0) (e .1) (headerOf v s)) (across (switchOf v s) (portOf v s) (ofKind 2 net))
-
-  by-widths : next net s ≡ (elim (eqb (directionOf w s) 0) as (λ x. List ℕ) [ true ↦ arrives w | false ↦ departs w ])
-  unfolding next
-  by-widths = ap (λ (v : Widths). elim (eqb (directionOf v s) 0) as (λ x. List ℕ) [ true ↦ arrives v | false ↦ departs v ]) (sym widths)
-
-  pub next-arriving : directionOf w s ≡ 0 → next net s ≡ relayed net w (arrival (switchOf w s) (portOf w s) (headerOf w s))
-  unfolding relayed
-  next-arriving e =
-      by-widths
-      ∙ ap (λ (t : Bool). elim t as (λ x. List ℕ) [ true ↦ arrives w | false ↦ departs w ]) (eq-eqb (directionOf w s) 0 e)
-      ∙ go (eqb (portOf w s) 0)
-    where
-      go : (t : Bool) → let a = arrival (switchOf w s) (portOf w s) (headerOf w s) in
-          (elim t as (λ x. List ℕ) [ true ↦ [] | false ↦ flatMap (sent w a) (chosen net a) ]) ≡ cond t [] (flatMap (sent w a) (chosen net a))
-      go true = refl
-      go false = refl
-
-  pub next-departing : (directionOf w s ≡ 0 → ⊥) → next net s ≡ arriving w (headerOf w s) (across (switchOf w s) (portOf w s) (ofKind 2 net))
-  unfolding arriving
-  next-departing n =
-      by-widths ∙ ap (λ (t : Bool). elim t as (λ x. List ℕ) [ true ↦ arrives w | false ↦ departs w ]) (ne-eqb (directionOf w s) 0 n)
-
   pub relays-arriving : directionOf w s ≡ 0 → relays net w s ≡ relayed net w (arrival (switchOf w s) (portOf w s) (headerOf w s))
   unfolding relays
   relays-arriving e = ap (λ (t : Bool). cond t (relayed net w (arrival (switchOf w s) (portOf w s) (headerOf w s))) []) (eq-eqb (directionOf w s) 0 e)
@@ -61,8 +33,8 @@ module _ (net : Net) (w : Widths) (widths : w ≡ widthsOf net) (s : ℕ) where
   either-step t = go (ℕ-discrete (directionOf w s) 0)
     where
       go : Dec (directionOf w s ≡ 0) → (crosses w (λ sw p. across sw p (ofKind 2 net)) s t || member t (relays net w s)) ≡ member t (next net s)
-      go (yes e) = rw (eq-eqb (directionOf w s) 0 e) (ap (member t) (sym (next-arriving e)))
-      go (no n) = rw (ne-eqb (directionOf w s) 0 n) (or-false _ ∙ ap (member t) (sym (next-departing n)))
+      go (yes e) = rw (eq-eqb (directionOf w s) 0 e) (ap (member t) (sym (next-arriving net w widths s e)))
+      go (no n) = rw (ne-eqb (directionOf w s) 0 n) (or-false _ ∙ ap (member t) (sym (next-departing net w widths s n)))
 
 module _ (net : Net) (w : Widths) (a : Arrival) where
   pub dropped : a .port ≡ 0 → relayed net w a ≡ []

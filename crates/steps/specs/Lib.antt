@@ -6,3 +6,4 @@ pub mod Table
 pub mod Relayed
 pub mod Carried
 pub mod Filled
+pub mod Laws

@@ -1,7 +1,6 @@
 -- In a network without IN_PORT no frame steps back to the port where it arrived.
-use borrow.Author.Tests.{eq-eqb}
-use mathlib.Core.Path.{_≡_, refl, sym, _∙_}
-use mathlib.Core.Bool.{Bool, true, false, false≢true}
+use mathlib.Core.Path.{_≡_, refl, sym, ap, _∙_}
+use mathlib.Core.Bool.{Bool, true, false, cond}
 use mathlib.Core.List.{List, [], _∷_, flatMap}
 use mathlib.Core.Logic.{_⊎_, ⊎-elim}
 use mathlib.Core.Option.{none}
@@ -28,7 +27,9 @@ use Rattle.actions.specs.ByPlace.{arrival}
 use Rattle.actions.specs.Laws.AddedBits.{member-append}
 use Rattle.actions.specs.Laws.AmongChosen.{every-chosen}
 use Rattle.actions.specs.Laws.Bounce.{NoInPort, no-bounce}
-use Rattle.steps.specs.Step.{next, Step}
+use Rattle.steps.specs.Step.{Step}
+use Rattle.steps.specs.Relayed.{relayed}
+use Rattle.steps.specs.Laws.ByDirection.{next-arriving}
 
 -- no miss and no rule of a network has IN_PORT among its actions
 abbrev pub WithoutInPort : Net → Type 0
@@ -64,15 +65,13 @@ module _ (net : Net) (clean : fileRow [] net ≡ none) where
         every-chosen (λ r. member t (sent w a r) ≡ true → ⊥) (in-empty t) net
         (at-every _ [] net (λ k h e m. no-bounce w a (switch-lt w s) (getD net k []) (good k h e) (header-lt w s) (without k h e) t m q)) a
 
-    -- what an arriving state steps to
-    pick : (b c : Bool) (xs ys : List ℕ) → b ≡ true → member t (elim b as (λ x. List ℕ) [ true ↦ elim c as (λ x. List ℕ) [ true ↦ [] | false ↦ xs ] | false ↦ ys ]) ≡ true → member t xs ≡ true
-    pick true true xs ys e m = in-empty t m
-    pick true false xs ys e m = m
-    pick false c xs ys e m = absurd (false≢true e)
-
     steps-elsewhere : directionOf (widthsOf net) s ≡ 0 → Step net s t → ⊥
-    unfolding Step next
-    steps-elsewhere d m = in-none t (sent w a) (chosen net a) unsent (pick (eqb (directionOf w s) 0) (eqb (portOf w s) 0) (flatMap (sent w a) (chosen net a)) _ (eq-eqb _ _ d) m)
+    unfolding Step relayed
+    steps-elsewhere d m = go (eqb (portOf w s) 0) (ap (member t) (sym (next-arriving net w refl s d)) ∙ m)
+      where
+        go : (b : Bool) → member t (cond b [] (flatMap (sent w a) (chosen net a))) ≡ true → ⊥
+        go true e = in-empty t e
+        go false e = in-none t (sent w a) (chosen net a) unsent e
 
 -- a frame that arrives departs at another port
 pub no-step-back : (net : Net) → fileRow [] net ≡ none → WithoutInPort net

@@ -10,12 +10,12 @@ use lib.Dec.{ltb}
 use Rattle.planes.specs.Laws.Tests.{or-cases, or-none}
 use Rattle.records.specs.Lists.{any}
 use Rattle.records.specs.Record.{Rec, Net, priority}
+use Rattle.records.specs.Laws.Every.{Every}
 use Rattle.actions.specs.Chosen.{outranked, best}
 
 -- every one of the rules has a priority that passes
 abbrev pub Each : (ℕ → Type 0) → Net → Type 0
-Each P [] = Unit {0}
-Each P (r ∷ rest) = P (priority r) × Each P rest
+Each P rules = Every (λ r. P (priority r)) rules
 
 -- r is the first of the rules with the highest priority: those before it have a lower one, those after it no higher one
 pub record First (rules : Net) (r : Rec) : Type 0 where
