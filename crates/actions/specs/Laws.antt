@@ -7,4 +7,5 @@ pub mod Chosen
 pub mod CopiesInOrder
 pub mod GoodActions
 pub mod GoodRecords
+pub mod MatchSets
 pub mod SentCopies

@@ -1,36 +1,63 @@
 // Which record acts on an arrival.
+use records::MOST_RULES;
 use records::Widths;
+use records::pattern::in_set;
+use records::pattern::matched;
 use scan::Layout;
 ghost use mathlib.Core.Path.{_≡_};
-ghost use mathlib.Core.Bool.{true};
 ghost use Prim.Native.Nat.{_^_, _<_};
 ghost use lib.ListN.{length};
-ghost use Rattle.records.specs.Record.{records};
-ghost use Rattle.records.specs.Fields.{matchGood};
+ghost use Rattle.records.specs.Record.{mostRules, records};
 ghost use Rattle.actions.specs.Chosen.{ruleMatches};
 ghost use Rattle.actions.specs.ByPlace.{arrival, ofBody, rankOf, ActsAt};
+ghost use Rattle.actions.specs.MatchSets.{MatchSets, RuleSets, Within};
 ghost use Rattle.scan.specs.Stored.{Stored};
 
-// The rule of that body matches the arrival.
-fn rule_matches(w: Widths, body: &[u8], sw: u8, p: u8, h: u8) -> bool
-    requires { ⌜ (length (now body) ≡ 20) × (matchGood w (ofBody (now body)) ≡ true) ⌝ }
+// Works out once what each rule's patterns match: its ports and its headers, at its number among the rules.
+pub fn match_rules(
+    store: &[u8],
+    n: usize,
+    l: Layout,
+    ports: &mut [u64; MOST_RULES],
+    headers: &mut [u64; MOST_RULES],
+)
+    requires { ⌜ Stored n l (now store) ⌝ }
+    requires { ⌜ (length (now ports) ≡ mostRules) × (length (now headers) ≡ mostRules) ⌝ }
+    ensures { λ _. ⌜ RuleSets (records n (now (store .entry))) l (now (ports .exit)) (now (headers .exit)) ⌝ }
+{
+    let w = l.widths;
+    let mut i = l.rules;
+    while i < l.nodes {
+        let a = i * 24;
+        let j = i - l.rules;
+        ports[j] = matched(w.p, store[a + 4], store[a + 5]);
+        headers[j] = matched(w.h, store[a + 6], store[a + 7]);
+        i += 1;
+    }
+}
+
+// The rule of that body matches the arrival, where ports and headers are what its patterns match.
+fn rule_matches(w: Widths, body: &[u8], ports: u64, headers: u64, sw: u8, p: u8, h: u8) -> bool
+    requires { ⌜ (length (now body) ≡ 20) × MatchSets w (ofBody (now body)) ports headers ⌝ }
+    requires { ⌜ Within w p h ⌝ }
     ensures { λ r. ⌜ r ≡ ruleMatches w (arrival sw p h) (ofBody (now (body .entry))) ⌝ }
 {
     if body[0] != sw {
         return false;
     }
-    if p & body[4] != body[3] {
+    if !in_set(ports, p) {
         return false;
     }
-    h & body[6] == body[5]
+    in_set(headers, h)
 }
 
 // The rank of the rule of that body: 0 where it does not match, else one above its priority.
-fn rank(w: Widths, body: &[u8], sw: u8, p: u8, h: u8) -> u32
-    requires { ⌜ (length (now body) ≡ 20) × (matchGood w (ofBody (now body)) ≡ true) ⌝ }
+fn rank(w: Widths, body: &[u8], ports: u64, headers: u64, sw: u8, p: u8, h: u8) -> u32
+    requires { ⌜ (length (now body) ≡ 20) × MatchSets w (ofBody (now body)) ports headers ⌝ }
+    requires { ⌜ Within w p h ⌝ }
     ensures { λ r. ⌜ r ≡ rankOf w (arrival sw p h) (ofBody (now (body .entry))) ⌝ }
 {
-    if rule_matches(w, body, sw, p, h) {
+    if rule_matches(w, body, ports, headers, sw, p, h) {
         1 + body[1] as u32 + 256 * body[2] as u32
     } else {
         0
@@ -38,8 +65,18 @@ fn rank(w: Widths, body: &[u8], sw: u8, p: u8, h: u8) -> u32
 }
 
 // The place of the record that acts: of the matching rules the first with the highest priority, else the switch's miss.
-pub fn choose(store: &[u8], n: usize, l: Layout, sw: u8, p: u8, h: u8) -> usize
-    requires { ⌜ Stored n l (now store) × (sw < 2 ^ l .widths .w) ⌝ }
+pub fn choose(
+    store: &[u8],
+    n: usize,
+    l: Layout,
+    ports: &[u64; MOST_RULES],
+    headers: &[u64; MOST_RULES],
+    sw: u8,
+    p: u8,
+    h: u8,
+) -> usize
+    requires { ⌜ Stored n l (now store) × RuleSets (records n (now store)) l (now ports) (now headers) ⌝ }
+    requires { ⌜ (sw < 2 ^ l .widths .w) × Within (l .widths) p h ⌝ }
     ensures { λ r. ⌜ ActsAt (records n (now (store .entry))) l (arrival sw p h) r ⌝ }
 {
     let w = l.widths;
@@ -49,7 +86,8 @@ pub fn choose(store: &[u8], n: usize, l: Layout, sw: u8, p: u8, h: u8) -> usize
     while i < l.nodes {
         let a = i * 24 + 1;
         let e = a + 20;
-        let r = rank(w, &store[a..e], sw, p, h);
+        let j = i - l.rules;
+        let r = rank(w, &store[a..e], ports[j], headers[j], sw, p, h);
         if highest < r {
             best = i;
             highest = r;

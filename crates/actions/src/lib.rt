@@ -1,16 +1,20 @@
 // What the actions of a record send.
 use records::Widths;
 use records::fields::is_ordinary;
+use records::pattern::in_set;
+use records::pattern::matched;
+use records::pattern::put;
 use state::number;
 use state::values;
 ghost use mathlib.Core.Path.{_≡_};
 ghost use mathlib.Core.Bool.{true};
 ghost use mathlib.Core.List.{[], _∷_};
-ghost use Prim.Native.Nat.{_^_, _<_};
+ghost use Prim.Native.Nat.{ℕ, _^_, _<_};
 ghost use lib.ListN.{length};
 ghost use Rattle.records.specs.Lists.{from};
 ghost use Rattle.records.specs.Fields.{actionsGood};
 ghost use Rattle.records.specs.Pattern.{patternGood};
+ghost use Rattle.records.specs.Matched.{MatchedSet};
 ghost use Rattle.actions.specs.Actions.{except, reached, departing, sent};
 ghost use Rattle.actions.specs.ByPlace.{arrival, ofBody};
 ghost use Rattle.actions.specs.Adds.{lineBytes, Added};
@@ -38,16 +42,15 @@ fn send_on(work: &mut [u8], line: usize, w: Widths, sw: u8, p: u8, h: u8, q: u8)
     send(work, line, w, sw, h, q);
 }
 
-// Sends a copy to port q, if OUTPUT with stars reaches it from the arrival port p.
-fn offer(work: &mut [u8], line: usize, w: Widths, sw: u8, p: u8, value: u8, care: u8, h: u8, q: u8)
-    requires { ⌜ Sends w line sw h (now work) ⌝ }
-    requires { ⌜ (patternGood (w .p) value care ≡ true) × (q < 2 ^ w .p) ⌝ }
-    ensures { λ _. ⌜ Added (departing w sw h (flooded w p value care (q ∷ []))) line (lineBytes w) (now (work .entry)) (now (work .exit)) ⌝ }
+// Sends a copy to port q, if OUTPUT with stars, whose pattern matches these ports, reaches it from the arrival port p.
+fn offer(work: &mut [u8], line: usize, w: Widths, sw: u8, p: u8, ports: u64, h: u8, q: u8)
+    requires { ⌜ Sends w line sw h (now work) × (q < 2 ^ w .p) ⌝ }
+    ensures { λ _. ⌜ ((value care : ℕ) → MatchedSet (w .p) value care ports → Added (departing w sw h (flooded w p value care (q ∷ []))) line (lineBytes w) (now (work .entry)) (now (work .exit))) ⌝ }
 {
     if !is_ordinary(w, q) {
         return;
     }
-    if q & care != value {
+    if !in_set(ports, q) {
         return;
     }
     send_on(work, line, w, sw, p, h, q);
@@ -56,13 +59,13 @@ fn offer(work: &mut [u8], line: usize, w: Widths, sw: u8, p: u8, value: u8, care
 // Sends a copy to each port that OUTPUT with stars reaches from the arrival port p.
 fn flood(work: &mut [u8], line: usize, w: Widths, sw: u8, p: u8, value: u8, care: u8, h: u8)
     requires { ⌜ Sends w line sw h (now work) ⌝ }
-    requires { ⌜ patternGood (w .p) value care ≡ true ⌝ }
     ensures { λ _. ⌜ Added (departing w sw h (flooded w p value care (from 0 (2 ^ w .p)))) line (lineBytes w) (now (work .entry)) (now (work .exit)) ⌝ }
 {
+    let ports = matched(w.p, value, care);
     let end = values(w.p);
     let mut q: u8 = 0;
     while q < end {
-        offer(work, line, w, sw, p, value, care, h, q);
+        offer(work, line, w, sw, p, ports, h, q);
         q += 1;
     }
 }
@@ -96,7 +99,7 @@ fn act(work: &mut [u8], line: usize, w: Widths, sw: u8, p: u8, body: &[u8], h: u
             output(work, line, w, sw, p, value, care, h);
             h
         }
-        2 => (h & !care) | value,
+        2 => put(w.h, value, care, h),
         3 => {
             send(work, line, w, sw, h, p);
             h

@@ -4,6 +4,7 @@ pub mod Record
 pub mod Widths
 pub mod State
 pub mod Pattern
+pub mod Matched
 pub mod Policy
 pub mod Fields
 pub mod Search

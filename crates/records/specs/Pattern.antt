@@ -5,39 +5,37 @@ use Prim.Native.Nat.{ℕ, zero, suc, _+_, _^_}
 use lib.Bits.{bitAnd}
 use lib.Dec.{eqb, ltb}
 use Rattle.planes.specs.Bit.{bitOf}
+use Rattle.records.specs.declared.pattern.Ternary.{Ternary}
+use Rattle.records.specs.declared.pattern.Ternary.the-variants.{Fixed0, Fixed1, Star}
 
--- a bit of a pattern
-pub data Ternary : Type 0 where
-  fixed0 fixed1 star : Ternary
-
--- bit i of the pattern
+-- bit i of the pattern: fixed to the value's bit where care has it, else the star
 unfoldable pub ternary : ℕ → ℕ → ℕ → Ternary
-ternary value care i = cond (bitOf care i) (cond (bitOf value i) fixed1 fixed0) star
+ternary value care i = cond (bitOf care i) (cond (bitOf value i) Fixed1 Fixed0) Star
 
 -- it is fixed to the other value than the bit b
 abbrev pub FixedToOther : Ternary → Bool → Type 0
-FixedToOther fixed0 b = b ≡ true
-FixedToOther fixed1 b = b ≡ false
-FixedToOther star b = ⊥
+FixedToOther Fixed0 b = b ≡ true
+FixedToOther Fixed1 b = b ≡ false
+FixedToOther Star b = ⊥
 
 -- it is not, as a test
 abbrev pub agrees : Ternary → Bool → Bool
-agrees fixed0 b = not b
-agrees fixed1 b = b
-agrees star b = true
+agrees Fixed0 b = not b
+agrees Fixed1 b = b
+agrees Star b = true
 
 -- what SET makes of a bit
 abbrev pub written : Ternary → Bool → Bool
-written fixed0 b = false
-written fixed1 b = true
-written star b = b
+written Fixed0 b = false
+written Fixed1 b = true
+written Star b = b
 
 -- a number of k bits matches the pattern: no bit is fixed to the other value
 unfoldable pub matches : ℕ → ℕ → ℕ → ℕ → Bool
 matches zero value care x = true
 matches (suc k) value care x = agrees (ternary value care k) (bitOf x k) && matches k value care x
 
--- a number of k bits with the cared bits put into it
+-- what SET makes of a number of k bits: each bit as it is written
 unfoldable pub putBits : ℕ → ℕ → ℕ → ℕ → ℕ
 putBits zero value care x = 0
 putBits (suc k) value care x = cond (written (ternary value care k) (bitOf x k)) (2 ^ k) 0 + putBits k value care x

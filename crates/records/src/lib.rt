@@ -4,6 +4,7 @@ ghost use Prim.Native.Nat.{_≤_};
 ghost use Rattle.records.specs.Widths.{width, states, planeBytes, withinLimits};
 
 pub mod fields;
+pub mod pattern;
 
 // The records of the largest network.
 pub const MOST_RECORDS: usize = 641;

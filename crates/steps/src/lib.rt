@@ -1,11 +1,13 @@
 // One step of a packet state.
 use actions::choice::choose;
+use actions::choice::match_rules;
 use actions::run;
 use actions::state::direction;
 use actions::state::header;
 use actions::state::join;
 use actions::state::port;
 use actions::state::switch;
+use records::MOST_RULES;
 use records::Widths;
 use records::fields::is_ordinary;
 use scan::Layout;
@@ -20,6 +22,7 @@ ghost use Rattle.records.specs.Record.{Net, records};
 ghost use Rattle.records.specs.Widths.{states, withinLimits, widthsOf};
 ghost use Rattle.steps.specs.Step.{external};
 ghost use Rattle.actions.specs.ByPlace.{arrival};
+ghost use Rattle.actions.specs.MatchSets.{RuleSets};
 ghost use Rattle.actions.specs.Adds.{lineBytes, Added};
 ghost use Rattle.steps.specs.Filled.{Filled};
 ghost use Rattle.actions.specs.Sent.{Sends};
@@ -30,25 +33,45 @@ ghost use Rattle.scan.specs.Stored.{Stored};
 pub mod links;
 
 // Adds what an arrival steps to.
-fn relay(work: &mut [u8], line: usize, store: &[u8], n: usize, l: Layout, sw: u8, p: u8, h: u8)
+fn relay(
+    work: &mut [u8],
+    line: usize,
+    store: &[u8],
+    n: usize,
+    l: Layout,
+    ports: &[u64; MOST_RULES],
+    headers: &[u64; MOST_RULES],
+    sw: u8,
+    p: u8,
+    h: u8,
+)
     requires { ⌜ Sends (l .widths) line sw h (now work) × (p < 2 ^ l .widths .p) ⌝ }
-    requires { ⌜ Stored n l (now store) ⌝ }
+    requires { ⌜ Stored n l (now store) × RuleSets (records n (now store)) l (now ports) (now headers) ⌝ }
     ensures { λ _. ⌜ Added (relayed (records n (now (store .entry))) (l .widths) (arrival sw p h)) line (lineBytes (l .widths)) (now (work .entry)) (now (work .exit)) ⌝ }
 {
     if p == 0 {
         return;
     }
     let w = l.widths;
-    let i = choose(store, n, l, sw, p, h);
+    let i = choose(store, n, l, ports, headers, sw, p, h);
     let a = i * 24 + 1;
     let e = a + 20;
     run(work, line, w, sw, p, &store[a..e], h);
 }
 
 // Adds the states that s steps to, if it arrives.
-fn relay_state(work: &mut [u8], line: usize, store: &[u8], n: usize, l: Layout, s: usize)
+fn relay_state(
+    work: &mut [u8],
+    line: usize,
+    store: &[u8],
+    n: usize,
+    l: Layout,
+    ports: &[u64; MOST_RULES],
+    headers: &[u64; MOST_RULES],
+    s: usize,
+)
     requires { ⌜ line + lineBytes (l .widths) ≤ length (now work) ⌝ }
-    requires { ⌜ Stored n l (now store) ⌝ }
+    requires { ⌜ Stored n l (now store) × RuleSets (records n (now store)) l (now ports) (now headers) ⌝ }
     ensures { λ _. ⌜ Added (relays (records n (now (store .entry))) (l .widths) s) line (lineBytes (l .widths)) (now (work .entry)) (now (work .exit)) ⌝ }
 {
     let w = l.widths;
@@ -61,6 +84,8 @@ fn relay_state(work: &mut [u8], line: usize, store: &[u8], n: usize, l: Layout, 
         store,
         n,
         l,
+        ports,
+        headers,
         switch(w, s),
         port(w, s),
         header(w, s),
@@ -76,11 +101,14 @@ fn fill_arriving(work: &mut [u8], base: usize, store: &[u8], n: usize, l: Layout
     let w = l.widths;
     let states = w.states();
     let bytes = states / 8;
+    let mut ports = [0u64; MOST_RULES];
+    let mut headers = [0u64; MOST_RULES];
+    match_rules(store, n, l, &mut ports, &mut headers);
     let mut s: usize = 0;
     while s < states {
         let line = base + s * bytes;
         planes::clear(work, line, bytes);
-        relay_state(work, line, store, n, l, s);
+        relay_state(work, line, store, n, l, &ports, &headers, s);
         s += 1;
     }
 }

@@ -10,7 +10,6 @@ use Rattle.records.specs.Record.{at, ActionKind, kOutput, kSet, kInPort, kNoAct
 use Rattle.records.specs.Pattern.{patternGood}
 use Rattle.records.specs.Laws.Fields.{no-action}
 use Rattle.records.specs.Laws.Limits.{limits}
-use Rattle.records.specs.Laws.Patterns.{put-mask}
 use Rattle.records.specs.declared.Widths.{Widths}
 use Rattle.actions.specs.ByPlace.{ofBody}
 use Rattle.actions.specs.Actions.{departing, copiedTo, headerBy}
@@ -19,7 +18,7 @@ use Rattle.actions.specs.Sent.{Acted}
 use Rattle.actions.specs.Laws.CopiesInOrder.{sent-as, header-as}
 use Rattle.actions.specs.Laws.AddedBits.{added-none}
 use Rattle.actions.specs.Laws.Bodies.{body-byte}
-use Rattle.actions.specs.Laws.GoodActions.{set-pattern, output-pattern}
+use Rattle.actions.specs.Laws.GoodActions.{output-pattern}
 use Rattle.actions.proofs.act.Statement.{statement}
 use Rattle.actions.proofs.act.Tie as tie
 
@@ -74,17 +73,14 @@ returns c =
     let a = m .before .before .before .before .before .before .args in
     acted (a .w) (a .sw) (a .p) (a .h) (a .i) (now (a .body)) kOutput (ap actionKind (m .match .keys1)) (a .line) (now (a .work)) (o .output .last .0) (a .h) (o .output .ensures) refl
 
+put-requires : tie.Need-put-requires
+put-requires c κs = let s = c .before .before .before .before .before .before in limits (s .args .w) (s .pre .0 .0 .ready .limits) .high-h
+
 returns-2 : tie.Need-returns-2
 unfolding actionKind departing
 returns-2 c =
-    let s = c .before .before .before .before .before .before in
-    let a = s .args in
-    let S = s .pre .0 .0 in
-    let b = now (a .body) in
-    let k : actionKind (getD b (8 + 3 * a .i) 0) ≡ kSet = ap actionKind (c .match .keys2) in
-    let g = pattern-is (a .w) (a .sw) (a .p) (a .h) (a .i) b kSet k (a .w .h) (set-pattern (a .w) (ofBody b) (a .i) (s .pre .1 .1)) in
-    acted (a .w) (a .sw) (a .p) (a .h) (a .i) b kSet k (a .line) (now (a .work)) (now (a .work)) _ (added-none _ _ _)
-    (sym (put-mask (a .w .h) (getD b (8 + 3 * a .i + 1) 0) (getD b (8 + 3 * a .i + 2) 0) g 8 (a .h) (omega (arith, limits (a .w) (S .ready .limits))) (S .ready .header)))
+    let a = c .before .before .before .before .before .before .before .args in
+    acted (a .w) (a .sw) (a .p) (a .h) (a .i) (now (a .body)) kSet (ap actionKind (c .before .match .keys2)) (a .line) (now (a .work)) (now (a .work)) _ (added-none _ _ _) (c .put .ensures)
 
 returns-3 : tie.Need-returns-3
 unfolding actionKind
@@ -119,6 +115,7 @@ act-spec =
     (λ c. search needs)
     (λ c. search needs)
     output-requires
+    put-requires
     (λ c κs. search needs)
     (λ c. search needs)
     returns

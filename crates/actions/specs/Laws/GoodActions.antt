@@ -4,36 +4,15 @@ use mathlib.Core.Path.{_≡_, sym, ap, ap₂, _∙_}
 use mathlib.Core.Bool.{Bool, true, false, not, _&&_}
 use Prim.Native.Nat.{ℕ, zero, suc, _+_, _*_, _^_, _<_, _≤_}
 use native.Mathlib.Omega.{arith}
-use lib.Bits.{bitAnd, and-le-r}
+use lib.Bits.{and-le-r}
 use lib.Dec.{eqb, leb, ltb}
 use Rattle.planes.specs.Laws.Tests.{and-left, and-right}
 use Rattle.records.specs.Record.{Rec, at, ActionKind, kOutput, kSet, actionKind}
 use Rattle.records.specs.Pattern.{patternGood}
-use Rattle.records.specs.Fields.{matchGood, usedFields, usedGood, unusedGood, actionBytesGood, actionGood, actionsGood}
-use Rattle.records.specs.Laws.Patterns.{matches-mask, care-lt, value-within}
+use Rattle.records.specs.Fields.{usedFields, usedGood, unusedGood, actionBytesGood, actionGood, actionsGood}
+use Rattle.records.specs.Laws.Patterns.{care-lt, value-within}
 use Rattle.records.specs.declared.Widths.{Widths}
-use Rattle.actions.specs.Chosen.{Arrival, ruleMatches}
 use Rattle.actions.specs.Sent.{UsedAction}
-
--- the patterns of a rule
-module _ (w : Widths) (r : Rec) (good : matchGood w r ≡ true) where
-  port-pattern : patternGood (w .p) (at r 4) (at r 5) ≡ true
-  unfolding matchGood
-  port-pattern =
-      and-right (ltb (at r 1) (2 ^ w .w)) (patternGood (w .p) (at r 4) (at r 5))
-      (and-left (ltb (at r 1) (2 ^ w .w) && patternGood (w .p) (at r 4) (at r 5)) (patternGood (w .h) (at r 6) (at r 7)) good)
-
-  header-pattern : patternGood (w .h) (at r 6) (at r 7) ≡ true
-  unfolding matchGood
-  header-pattern = and-right (ltb (at r 1) (2 ^ w .w) && patternGood (w .p) (at r 4) (at r 5)) (patternGood (w .h) (at r 6) (at r 7)) good
-
-  -- the mask form of a match
-  pub match-mask : (a : Arrival) → ruleMatches w a r ≡ (eqb (at r 1) (a .switch) && eqb (bitAnd (a .port) (at r 5)) (at r 4) && eqb (bitAnd (a .header) (at r 7)) (at r 6))
-  unfolding ruleMatches
-  match-mask a =
-      ap₂ (λ (x y : Bool). eqb (at r 1) (a .switch) && x && y)
-      (matches-mask (w .p) (at r 4) (at r 5) port-pattern (a .port))
-      (matches-mask (w .h) (at r 6) (at r 7) header-pattern (a .header))
 
 -- a value lies within its width
 pub pattern-value-lt : (k value care : ℕ) → patternGood k value care ≡ true → value < 2 ^ k
@@ -58,9 +37,6 @@ module _ (w : Widths) (r : Rec) (i : ℕ) (U : UsedAction w r i) where
 
   used-as : (k : ActionKind) → actionKind kindOf ≡ k → usedFields k w value care (eqb (suc i) (at r 8)) ≡ true
   used-as k e = sym (ap (λ (x : ActionKind). usedFields x w value care (eqb (suc i) (at r 8))) e) ∙ used-good
-
-  pub set-pattern : actionKind (at r (9 + 3 * i)) ≡ kSet → patternGood (w .h) (at r (10 + 3 * i)) (at r (11 + 3 * i)) ≡ true
-  set-pattern e = and-left (patternGood (w .h) value care) (not (eqb (suc i) (at r 8))) (used-as kSet e)
 
   pub output-pattern : actionKind (at r (9 + 3 * i)) ≡ kOutput → patternGood (w .p) (at r (10 + 3 * i)) (at r (11 + 3 * i)) ≡ true
   output-pattern e = used-as kOutput e

@@ -8,8 +8,8 @@ use native.Mathlib.Omega.{arith}
 use lib.ListN.{getD}
 use Rattle.planes.specs.Laws.Tests.{and-left, both}
 use Rattle.records.specs.Record.{Net, at, records}
-use Rattle.records.specs.Fields.{zeros, pointGood, actionsGood, matchGood, fieldsGood}
-use Rattle.records.specs.Laws.Fields.{link-fields, rule-fields, miss-actions, rule-actions}
+use Rattle.records.specs.Fields.{zeros, pointGood, actionsGood, fieldsGood}
+use Rattle.records.specs.Laws.Fields.{link-fields, miss-actions, rule-actions}
 use Rattle.records.specs.Laws.Records.{length-records}
 use Rattle.records.specs.Laws.Parts.{kind-at}
 use Rattle.scan.specs.declared.Layout.{Layout}
@@ -23,7 +23,7 @@ module _ (n : ℕ) (l : Layout) (s : List ℕ) (st : Stored n l s) where
   pub in-store : l .nodes ≤ n
   in-store = omega (arith, st .laid .within, length-records n s)
 
-  -- the fields of a link, of a rule, and the actions of a record that may act
+  -- the fields of a link, and the actions of a record that may act
   pub link-good : (i : ℕ) → 1 ≤ i → i < l .misses
       → let r = getD (records n s) i [] in (pointGood (l .widths) (at r 1) (at r 2) ≡ true) × (pointGood (l .widths) (at r 3) (at r 4) ≡ true)
   link-good i a b =
@@ -33,15 +33,6 @@ module _ (n : ℕ) (l : Layout) (s : List ℕ) (st : Stored n l s) where
       let g = sym (link-fields (l .widths) r k) ∙ st .fields i a (omega (arith, q .switches, q .few-rules)) in
       both (pointGood (l .widths) (at r 1) (at r 2)) (pointGood (l .widths) (at r 3) (at r 4))
       (and-left (pointGood (l .widths) (at r 1) (at r 2) && pointGood (l .widths) (at r 3) (at r 4)) (zeros 5 23 r) g)
-
-  pub match-good : (i : ℕ) → l .rules ≤ i → i < l .nodes → matchGood (l .widths) (getD (records n s) i []) ≡ true
-  match-good i a b =
-      let r = getD net i [] in
-      let q = st .laid in
-      let k = kind-at 4 net (l .rules) (l .nodes) i (q .rules) (q .within) a b in
-      and-left (matchGood (l .widths) r) (actionsGood (l .widths) r)
-      (and-left (matchGood (l .widths) r && actionsGood (l .widths) r) (zeros 21 23 r)
-      (sym (rule-fields (l .widths) r k) ∙ st .fields i (omega (arith, q .some-widths, q .switches)) b))
 
   pub actions-good : (i : ℕ) → l .misses ≤ i → i < l .nodes → actionsGood (l .widths) (getD (records n s) i []) ≡ true
   actions-good i a b = go (decLt i (l .rules))

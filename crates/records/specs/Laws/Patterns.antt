@@ -1,39 +1,42 @@
 -- Laws of patterns, over the width.
-use borrow.Author.Tests.{eqb-true, eq-eqb, ltb-true, ltb-false}
+use borrow.Author.Tests.{eqb-true, ltb-true}
 use mathlib.Core.Path.{_≡_, refl, sym, ap, ap₂, subst, _∙_}
-use mathlib.Core.Bool.{Bool, true, false, cond, not, _&&_, _||_, and-true, and-false, or-false, true≢false, false≢true}
+use mathlib.Core.Bool.{Bool, true, false, cond, not, _&&_, _||_, or-false, true≢false, false≢true}
 use mathlib.Core.Logic.{_↔_}
 use Prim.Native.Nat.{ℕ, zero, suc, _+_, _-_, _*_, _%_, _^_, _<_, _≤_}
 use native.Mathlib.Nat.{not-suc-le-zero, pow-suc}
-use native.Mathlib.Decide.{ℕ-discrete}
+use native.Mathlib.Decide.{ℕ-discrete, decLt}
 use native.Mathlib.Omega.{arith}
-use lib.Bits.{bitAnd, bitOr}
+use lib.Bits.{bitAnd, or-lt}
 use lib.Dec.{eqb, ltb}
-use lib.Pow.{pow-mono}
+use lib.Pow.{pow-add, pow-mono, pow-pos, shl-lt}
 use Rattle.planes.specs.Bit.{bitOf}
-use Rattle.planes.specs.Laws.Bits.{bit-and, bit-or, bit-not, bit-block, bit-top, bit-above, bits-ext}
-use Rattle.records.specs.Pattern.{Ternary, fixed0, fixed1, star, ternary, agrees, FixedToOther, written, matches, putBits, patternGood}
-use Rattle.planes.specs.Laws.Tests.{same-test, not-both, and-both, and-left, and-right}
+use Rattle.planes.specs.Laws.Bits.{bit-low, bit-or, bit-zero, bit-block, bit-high, bit-top, bit-above}
+use Rattle.records.specs.Pattern.{ternary, agrees, FixedToOther, written, matches, putBits, patternGood}
+use Rattle.records.specs.Matched.{MatchedSet, widened}
+use Rattle.records.specs.declared.pattern.Ternary.{Ternary}
+use Rattle.records.specs.declared.pattern.Ternary.the-variants.{Fixed0, Fixed1, Star}
+use Rattle.planes.specs.Laws.Tests.{and-both, and-left, and-right}
 
 other-iff : (t : Ternary) (b : Bool) → agrees t b ≡ true ↔ (FixedToOther t b → ⊥)
-other-iff fixed0 true = (λ e. absurd (false≢true e), λ f. absurd (f refl))
-other-iff fixed0 false = (λ e f. false≢true f, λ f. refl)
-other-iff fixed1 true = (λ e f. true≢false f, λ f. refl)
-other-iff fixed1 false = (λ e. absurd (false≢true e), λ f. absurd (f refl))
-other-iff star b = (λ e f. f, λ f. refl)
+other-iff Fixed0 true = (λ e. absurd (false≢true e), λ f. absurd (f refl))
+other-iff Fixed0 false = (λ e f. false≢true f, λ f. refl)
+other-iff Fixed1 true = (λ e f. true≢false f, λ f. refl)
+other-iff Fixed1 false = (λ e. absurd (false≢true e), λ f. absurd (f refl))
+other-iff Star b = (λ e f. f, λ f. refl)
 
 written-iff : (t : Ternary) (b : Bool) → (written t b ≡ b → ⊥) ↔ FixedToOther t b
-written-iff fixed0 true = (λ f. refl, λ e f. false≢true f)
-written-iff fixed0 false = (λ f. absurd (f refl), λ e. absurd (false≢true e))
-written-iff fixed1 true = (λ f. absurd (f refl), λ e. absurd (true≢false e))
-written-iff fixed1 false = (λ f. refl, λ e f. true≢false f)
-written-iff star b = (λ f. f refl, λ e. absurd e)
+written-iff Fixed0 true = (λ f. refl, λ e f. false≢true f)
+written-iff Fixed0 false = (λ f. absurd (f refl), λ e. absurd (false≢true e))
+written-iff Fixed1 true = (λ f. absurd (f refl), λ e. absurd (true≢false e))
+written-iff Fixed1 false = (λ f. refl, λ e f. true≢false f)
+written-iff Star b = (λ f. f refl, λ e. absurd e)
 
 module _ (value care x : ℕ) where
   abbrev bitAgrees : ℕ → Bool
   bitAgrees i = agrees (ternary value care i) (bitOf x i)
 
-  pub matches-at : (k i : ℕ) → i < k → matches k value care x ≡ true → agrees (ternary value care i) (bitOf x i) ≡ true
+  matches-at : (k i : ℕ) → i < k → matches k value care x ≡ true → agrees (ternary value care i) (bitOf x i) ≡ true
   unfolding matches
   matches-at zero i h m = absurd (not-suc-le-zero h)
   matches-at (suc k) i h m = go (ℕ-discrete i k) (λ l. matches-at k i l (and-right (bitAgrees k) (matches k value care x) m))
@@ -42,7 +45,7 @@ module _ (value care x : ℕ) where
       go (yes e) ih = subst (λ (j : ℕ). bitAgrees j ≡ true) (sym e) (and-left (bitAgrees k) (matches k value care x) m)
       go (no e) ih = ih (omega (arith, e))
 
-  pub matches-all : (k : ℕ) → ((i : ℕ) → i < k → agrees (ternary value care i) (bitOf x i) ≡ true) → matches k value care x ≡ true
+  matches-all : (k : ℕ) → ((i : ℕ) → i < k → agrees (ternary value care i) (bitOf x i) ≡ true) → matches k value care x ≡ true
   unfolding matches
   matches-all zero f = refl
   matches-all (suc k) f = and-both (bitAgrees k) (matches k value care x) (f k (omega arith)) (matches-all k (λ i h. f i (omega arith)))
@@ -53,6 +56,12 @@ module _ (value care x : ℕ) where
     λ m i h. other-iff (ternary value care i) (bitOf x i) .0 (matches-at k i h m),
     λ f. matches-all k (λ i h. other-iff (ternary value care i) (bitOf x i) .1 (f i h)),
   )
+
+  -- the bits of the width decide
+  matches-same : (y k : ℕ) → ((i : ℕ) → i < k → bitOf x i ≡ bitOf y i) → matches k value care x ≡ matches k value care y
+  unfolding matches
+  matches-same y zero f = refl
+  matches-same y (suc k) f = ap₂ _&&_ (ap (agrees (ternary value care k)) (f k (omega arith))) (matches-same y k (λ i h. f i (omega arith)))
 
   abbrev bitWritten : ℕ → Bool
   bitWritten i = written (ternary value care i) (bitOf x i)
@@ -94,6 +103,92 @@ module _ (value care x : ℕ) where
     λ o e. written-iff (ternary value care i) (bitOf x i) .1 o (sym (put-bit k i h) ∙ e),
   )
 
+  fixed-value : (c v b : Bool) → FixedToOther (cond c (cond v Fixed1 Fixed0) Star) b → written (cond c (cond v Fixed1 Fixed0) Star) b ≡ v
+  fixed-value true true b o = refl
+  fixed-value true false b o = refl
+  fixed-value false v b o = absurd o
+
+  -- and gives these the pattern's value
+  pub put-gives : (k i : ℕ) → i < k → FixedToOther (ternary value care i) (bitOf x i) → bitOf (putBits k value care x) i ≡ bitOf value i
+  unfolding ternary
+  put-gives k i h o = put-bit k i h ∙ fixed-value (bitOf care i) (bitOf value i) (bitOf x i) o
+
+-- the numbers that a pattern matches, by one bit after the other
+module _ (value care : ℕ) where
+  -- with no bit, the one number matches
+  pub matched-none : MatchedSet 0 value care 1
+  unfolding matches
+  matched-none = record {
+    numbers = λ x h. let e : x ≡ 0 = omega arith in ap (bitOf 1) e ∙ bit-low 1;
+    only = omega arith;
+  }
+
+  module _ (i set : ℕ) (M : MatchedSet i value care set) where
+    abbrev upper : ℕ
+    upper = set * 2 ^ (2 ^ i)
+
+    -- the set has the numbers with bit i 0, and its upper half those with bit i 1
+    Halves : ℕ → Type 0
+    Halves x = (bitOf set x ≡ (not (bitOf x i) && matches i value care x)) × (bitOf upper x ≡ (bitOf x i && matches i value care x))
+
+    at-upper : (n : ℕ) → bitOf upper n ≡ bitOf (upper + 0) n
+    at-upper n = let e : upper ≡ upper + 0 = omega arith in ap (λ (m : ℕ). bitOf m n) e
+
+    in-lower : (x : ℕ) → x < 2 ^ i → Halves x
+    unfolding Halves
+    in-lower x h =
+        let b : bitOf x i ≡ false = bit-above i x i h (omega arith) in (
+          M .numbers x h ∙ sym (ap (λ (c : Bool). not c && matches i value care x) b),
+          at-upper x ∙ bit-block set (2 ^ i) 0 x h ∙ bit-zero x ∙ sym (ap (λ (c : Bool). c && matches i value care x) b),
+        )
+
+    in-upper : (x y : ℕ) → x ≡ 1 * 2 ^ i + y → y < 2 ^ i → Halves x
+    unfolding Halves
+    in-upper x y e h =
+        let b : bitOf x i ≡ true = ap (λ (n : ℕ). bitOf n i) e ∙ bit-top 1 i y h in
+        let m = matches-same value care x y i (λ j l. ap (λ (n : ℕ). bitOf n j) e ∙ bit-block 1 i y j l) in
+        let p : x ≡ 2 ^ i + y = omega arith in (
+          bit-above (2 ^ i) set x (M .only) (omega arith) ∙ sym (ap (λ (c : Bool). not c && matches i value care x) b),
+          at-upper x ∙ ap (bitOf (upper + 0)) p ∙ bit-high set (2 ^ i) 0 y (pow-pos (2 ^ i)) ∙ M .numbers y h ∙ sym m
+              ∙ sym (ap (λ (c : Bool). c && matches i value care x) b),
+        )
+
+    halves : (x : ℕ) → x < 2 ^ suc i → Halves x
+    halves x h = go (decLt x (2 ^ i))
+      where
+        go : Dec (x < 2 ^ i) → Halves x
+        go (yes l) = in-lower x l
+        go (no n) = in-upper x (x - 2 ^ i) (omega (arith, n)) (omega (arith, n, pow-suc 2 i))
+
+    either : (b m : Bool) → ((not b && m) || (b && m)) ≡ m
+    either true m = refl
+    either false m = or-false m
+
+    widened-bit : (t : Ternary) (x : ℕ) → x < 2 ^ suc i → bitOf (widened t set i) x ≡ (agrees t (bitOf x i) && matches i value care x)
+    unfolding Halves
+    widened-bit Fixed0 x h = halves x h .0
+    widened-bit Fixed1 x h = halves x h .1
+    widened-bit Star x h = bit-or set upper x ∙ ap₂ _||_ (halves x h .0) (halves x h .1) ∙ either (bitOf x i) (matches i value care x)
+
+    doubled : 2 ^ (2 ^ suc i) ≡ 2 ^ (2 ^ i + 2 ^ i)
+    doubled = let e : 2 ^ suc i ≡ 2 ^ i + 2 ^ i = omega (arith, pow-suc 2 i) in ap (λ (n : ℕ). 2 ^ n) e
+
+    set-lt : set < 2 ^ (2 ^ suc i)
+    set-lt = omega (arith, doubled, M .only, pow-mono {i = 2 ^ i} {j = 2 ^ i + 2 ^ i} (omega arith))
+
+    upper-lt : upper < 2 ^ (2 ^ suc i)
+    upper-lt = omega (arith, doubled, shl-lt {a = set} (2 ^ i) (2 ^ i) (M .only))
+
+    widened-lt : (t : Ternary) → widened t set i < 2 ^ (2 ^ suc i)
+    widened-lt Fixed0 = set-lt
+    widened-lt Fixed1 = upper-lt
+    widened-lt Star = or-lt (2 ^ suc i) set upper set-lt upper-lt
+
+    -- with bit i, by its case
+    pub matched-more : MatchedSet (suc i) value care (widened (ternary value care i) set i)
+    unfolding matches
+    matched-more = record { numbers = widened-bit (ternary value care i); only = widened-lt (ternary value care i) }
+
 -- what patternGood says
 module _ (k value care : ℕ) (good : patternGood k value care ≡ true) where
   pub care-lt : care < 2 ^ k
@@ -103,75 +198,3 @@ module _ (k value care : ℕ) (good : patternGood k value care ≡ true) where
   pub value-within : bitAnd value care ≡ value
   unfolding patternGood
   value-within = eqb-true (bitAnd value care) value (and-right (ltb care (2 ^ k)) (eqb (bitAnd value care) value) good)
-
-  -- a value bit lies within care
-  value-bit : (i : ℕ) → bitOf value i ≡ (bitOf value i && bitOf care i)
-  value-bit i = ap (λ (m : ℕ). bitOf m i) (sym value-within) ∙ bit-and value care i
-
-  cared-below : (i : ℕ) → bitOf care i ≡ true → i < k
-  cared-below i c = go (ltb i k) refl
-    where
-      go : (b : Bool) → ltb i k ≡ b → i < k
-      go true e = ltb-true i k e
-      go false e = not-both c (bit-above k care i care-lt (ltb-false i k e))
-
-  -- the masked bit is the value's exactly where the pattern's bit agrees
-  masked : (c v b : Bool) → v ≡ (v && c) → agrees (cond c (cond v fixed1 fixed0) star) b ≡ true → (b && c) ≡ v
-  masked true v b w a = and-true b ∙ go v b a
-    where
-      go : (v b : Bool) → agrees (cond v fixed1 fixed0) b ≡ true → b ≡ v
-      go true b a = a
-      go false true a = absurd (false≢true a)
-      go false false a = refl
-  masked false v b w a = and-false b ∙ sym (w ∙ and-false v)
-
-  unmasked : (c v b : Bool) → (b && c) ≡ v → agrees (cond c (cond v fixed1 fixed0) star) b ≡ true
-  unmasked true true b e = sym (and-true b) ∙ e
-  unmasked true false true e = absurd (true≢false e)
-  unmasked true false false e = refl
-  unmasked false v b e = refl
-
-  -- the mask form of a match
-  pub matches-mask : (x : ℕ) → matches k value care x ≡ eqb (bitAnd x care) value
-  unfolding ternary
-  matches-mask x =
-      same-test (matches k value care x) (eqb (bitAnd x care) value)
-      (λ m. eq-eqb (bitAnd x care) value (bits-ext (bitAnd x care) value (λ i. bit-and x care i ∙ go m i (bitOf care i) refl)))
-      (λ e. matches-all value care x k (λ i h. unmasked (bitOf care i) (bitOf value i) (bitOf x i)
-      (sym (bit-and x care i) ∙ ap (λ (m : ℕ). bitOf m i) (eqb-true (bitAnd x care) value e))))
-    where
-      go : matches k value care x ≡ true → (i : ℕ) (c : Bool) → bitOf care i ≡ c → (bitOf x i && bitOf care i) ≡ bitOf value i
-      go m i true c = masked (bitOf care i) (bitOf value i) (bitOf x i) (value-bit i) (matches-at value care x k i (cared-below i c) m)
-      go m i false c = ap (λ (b : Bool). bitOf x i && b) c ∙ and-false (bitOf x i) ∙ sym (value-bit i ∙ ap (λ (b : Bool). bitOf value i && b) c ∙ and-false (bitOf value i))
-
-  set-bits : (c v b : Bool) → v ≡ (v && c) → written (cond c (cond v fixed1 fixed0) star) b ≡ ((b && not c) || v)
-  set-bits true true true w = refl
-  set-bits true true false w = refl
-  set-bits true false true w = refl
-  set-bits true false false w = refl
-  set-bits false true b w = absurd (true≢false w)
-  set-bits false false b w = sym (or-false (b && true) ∙ and-true b)
-
-  -- the mask form of SET, the complement taken in n bits
-  pub put-mask : (n x : ℕ) → k ≤ n → x < 2 ^ k → putBits k value care x ≡ bitOr (bitAnd x ((2 ^ n - 1) - care)) value
-  unfolding ternary
-  put-mask n x h l = bits-ext (putBits k value care x) (bitOr (bitAnd x ((2 ^ n - 1) - care)) value) (λ i. go i (ltb i k) refl)
-    where
-      right : (i : ℕ) → bitOf (bitOr (bitAnd x ((2 ^ n - 1) - care)) value) i ≡ ((bitOf x i && bitOf ((2 ^ n - 1) - care) i) || bitOf value i)
-      right i = bit-or (bitAnd x ((2 ^ n - 1) - care)) value i ∙ ap (λ (b : Bool). b || bitOf value i) (bit-and x ((2 ^ n - 1) - care) i)
-
-      wide : care < 2 ^ n
-      wide = omega (arith, care-lt, pow-mono {i = k} {j = n} h)
-
-      no-value : (i : ℕ) → k ≤ i → bitOf value i ≡ false
-      no-value i m = value-bit i ∙ ap (λ (b : Bool). bitOf value i && b) (bit-above k care i care-lt m) ∙ and-false (bitOf value i)
-
-      go : (i : ℕ) (b : Bool) → ltb i k ≡ b → bitOf (putBits k value care x) i ≡ bitOf (bitOr (bitAnd x ((2 ^ n - 1) - care)) value) i
-      go i true e =
-          let m : i < k = ltb-true i k e in
-          put-bit value care x k i m ∙ set-bits (bitOf care i) (bitOf value i) (bitOf x i) (value-bit i)
-          ∙ sym (right i ∙ ap (λ (b : Bool). (bitOf x i && b) || bitOf value i) (bit-not n care i wide (omega arith)))
-      go i false e =
-          let m : k ≤ i = ltb-false i k e in
-          bit-above k (putBits k value care x) i (put-lt value care x k) m
-          ∙ sym (right i ∙ ap₂ (λ (a b : Bool). (a && bitOf ((2 ^ n - 1) - care) i) || b) (bit-above k x i l m) (no-value i m))

@@ -2,12 +2,12 @@ use denote.Ref.{now}
 use mathlib.Core.Path.{_≡_, ap, subst, subst⁻¹}
 use Prim.Native.Nat.{ℕ, _+_, _-_, _*_, _/_, _≤_, _<_}
 use native.Mathlib.Omega.{arith}
-use lib.ListN.{length}
+use lib.ListN.{length, length-replicate}
 use Rattle.planes.specs.Lines.{Cleared, Made}
 use Rattle.planes.specs.Laws.Places.{line-before}
 use Rattle.planes.specs.Laws.Planes.{made-none}
 use Rattle.records.specs.Lists.{member}
-use Rattle.records.specs.Record.{records}
+use Rattle.records.specs.Record.{mostRules, records}
 use Rattle.records.specs.Widths.{states}
 use Rattle.records.specs.Laws.Limits.{limits}
 use Rattle.records.specs.Laws.States.{whole-bytes}
@@ -19,13 +19,16 @@ use Rattle.steps.proofs.fill_arriving.Tie as tie
 
 -- the lines of the states below s are filled
 abbrev Inv-loop : tie.InvT-loop
-Inv-loop work₀ base store n l states bytes s₀ work s = (s ≤ states) × Made (λ x t. member t (relays (records n store) (l .widths) x)) (lineBytes (l .widths)) base s work₀ work
+Inv-loop work₀ base store n l states bytes ports headers s₀ work s = (s ≤ states) × Made (λ x t. member t (relays (records n store) (l .widths) x)) (lineBytes (l .widths)) base s work₀ work
 
 abbrev μ-loop : tie.MeasureT-loop
-μ-loop work₀ base store n l states bytes s₀ work s = states - s
+μ-loop work₀ base store n l states bytes ports headers s₀ work s = states - s
 
 states-requires : tie.Need-states-requires Inv-loop μ-loop
 states-requires c κs = limits (c .before .before .before .args .l .widths) (c .before .before .before .pre .1 .laid .limits) .bits
+
+match-rules-requires : tie.Need-match-rules-requires Inv-loop μ-loop
+match-rules-requires c κs = (c .before .before .before .before .before .before .pre .1, (length-replicate {A = ℕ} mostRules 0, length-replicate {A = ℕ} mostRules 0))
 
 loop-holds : tie.Need-loop-holds Inv-loop μ-loop
 loop-holds c = (omega arith, made-none _ _ _ _)
@@ -35,10 +38,11 @@ bytes-are : (c : tie.After-states Inv-loop μ-loop) → c .states .result / 8 �
 bytes-are c = ap (λ (n : ℕ). n / 8) (c .states .ensures)
 
 inside : (c : tie.In-loop Inv-loop μ-loop)
-    → let r = c .before .before .states .result / 8 in
-    c .before .before .before .before .before .before .args .base + c .before .loop .s * r + r ≤ length (c .before .loop .work)
+    → let n = c .before .before .before .before .before in
+    let r = n .states .result / 8 in
+    n .before .before .before .before .args .base + c .before .loop .s * r + r ≤ length (c .before .loop .work)
 inside c =
-    let n = c .before .before in
+    let n = c .before .before .before .before .before in
     let o = c .before .loop in
     let s = n .before .before .before .before in
     let w = s .args .l .widths in
@@ -48,16 +52,18 @@ inside c =
 
 relay-state-requires : tie.Need-relay-state-requires Inv-loop μ-loop
 relay-state-requires c κs =
-    let k = c .before .before .before in
+    let k = c .before .before .before .before .before in
     let i = k .before .before in
-    (omega (arith, inside i, bytes-are (i .before .before), k .clear .ensures .len), c .before .before .before .before .before .before .before .before .before .before .before .pre .1)
+    let m = i .before .before in
+    let n = m .before .before .before in
+    (omega (arith, inside i, bytes-are n, k .clear .ensures .len), (n .before .before .before .before .pre .1, m .match-rules .ensures))
 
 loop-again : tie.Need-loop-again Inv-loop μ-loop
 loop-again c =
-    let k = c .before .before .before .before .before .before in
+    let k = c .before .before .before .before .before .before .before .before in
     let i = k .before .before in
     let o = i .before .loop in
-    let n = i .before .before in
+    let n = i .before .before .before .before .before in
     let a = n .before .before .before .before .args in
     let e = bytes-are n in (
       omega arith,
@@ -71,7 +77,7 @@ loop-again c =
 returns : tie.Need-returns Inv-loop μ-loop
 returns c =
     let o = c .before .loop in
-    let n = c .before .before in
+    let n = c .before .before .before .before .before in
     let a = n .before .before .before .before .args in
     let e : o .s ≡ states (a .l .widths) = omega (arith, n .states .ensures) in
     subst (λ (m : ℕ). Made (λ x t. member t (relays (records (a .n) (now (a .store))) (a .l .widths) x)) (lineBytes (a .l .widths)) (a .base) m (now (a .work)) (o .work)) e (o .inv .1)
@@ -83,6 +89,7 @@ fill-arriving-spec =
     Inv-loop
     μ-loop
     states-requires
+    match-rules-requires
     loop-holds
     (λ c. omega (arith, inside c))
     (λ c. omega (arith, inside c))

@@ -22,11 +22,17 @@ returns c =
     let a = c .before .before .before .args in
     rw (dropped (records (a .n) (now (a .store))) (a .l .widths) (arrival (a .sw) (a .p) (a .h)) (c .if1 .taken)) (added-none _ _ _)
 
+choose-requires : tie.Need-choose-requires
+choose-requires c κs =
+    let s = c .before .before .before .before in
+    let S = s .pre .0 .0 in
+    (s .pre .1, (S .switch, record { limits = S .ready .limits; port = s .pre .0 .1; header = S .ready .header }))
+
 -- the record that acts is in the store
 within : (c : tie.After-choose) → c .choose .result < c .before .before .before .before .before .args .n
 within c =
     let s = c .before .before .before .before .before in
-    omega (arith, c .choose .ensures .high, in-store (s .args .n) (s .args .l) (now (s .args .store)) (s .pre .1))
+    omega (arith, c .choose .ensures .high, in-store (s .args .n) (s .args .l) (now (s .args .store)) (s .pre .1 .0))
 
 run-requires : tie.Need-run-requires
 run-requires c κs =
@@ -37,10 +43,10 @@ run-requires c κs =
     let i = k .choose .result in (
       s .pre .0,
       (
-        body-length (a .n) b i (within k) 20 (omega arith) (s .pre .1 .room),
+        body-length (a .n) b i (within k) 20 (omega arith) (s .pre .1 .0 .room),
         ap (λ (x : List ℕ). actionsGood (a .l .widths) (ofBody x)) (body-is (a .n) b i (within k) 20 (omega arith) refl)
             ∙ actions-body (a .l .widths) (getD (records (a .n) b) i [])
-            ∙ actions-good (a .n) (a .l) b (s .pre .1) i (k .choose .ensures .low) (k .choose .ensures .high),
+            ∙ actions-good (a .n) (a .l) b (s .pre .1 .0) i (k .choose .ensures .low) (k .choose .ensures .high),
       ),
     )
 
@@ -53,7 +59,7 @@ returns-2 c =
     let i = k .choose .result in
     let r = getD (records (a .n) b) i [] in
     let v = arrival (a .sw) (a .p) (a .h) in
-    let few = few-actions (a .l .widths) r (actions-good (a .n) (a .l) b (s .pre .1) i (k .choose .ensures .low) (k .choose .ensures .high)) in
+    let few = few-actions (a .l .widths) r (actions-good (a .n) (a .l) b (s .pre .1 .0) i (k .choose .ensures .low) (k .choose .ensures .high)) in
     rw (
       one-acts (records (a .n) b) (a .l .widths) v (k .before .before .if1 .left) r (k .choose .ensures .acts),
       ← (sent-same (a .l .widths) (ofBody (bodyAt b i 20)) r (body-of (a .n) b i (within k) 20 (omega arith)) v few),
@@ -65,13 +71,13 @@ relay-spec =
     tie.close
     (tie.spec
     returns
-    (λ c κs. search needs)
-    (λ c. omega (arith, within c, c .before .before .before .before .before .pre .1 .room))
-    (λ c. omega (arith, within c, c .before .before .before .before .before .pre .1 .room))
-    (λ c. omega (arith, within c, c .before .before .before .before .before .pre .1 .room))
+    choose-requires
+    (λ c. omega (arith, within c, c .before .before .before .before .before .pre .1 .0 .room))
+    (λ c. omega (arith, within c, c .before .before .before .before .before .pre .1 .0 .room))
+    (λ c. omega (arith, within c, c .before .before .before .before .before .pre .1 .0 .room))
     (λ c. search needs)
     (λ c. search needs)
-    (λ c. omega (arith, within (c .before), c .before .before .before .before .before .before .pre .1 .room))
+    (λ c. omega (arith, within (c .before), c .before .before .before .before .before .before .pre .1 .0 .room))
     run-requires
     (λ c. search needs)
     returns-2)

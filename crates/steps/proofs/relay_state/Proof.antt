@@ -13,7 +13,7 @@ returns : tie.Need-returns
 returns c =
     let s = c .before .before .before .before .before in
     let a = s .args in
-    rw (relays-departing (records (a .n) (now (a .store))) (a .l .widths) (s .pre .1 .laid .widths) (a .s) (λ e. c .if1 .taken (c .before .direction .ensures ∙ e)))
+    rw (relays-departing (records (a .n) (now (a .store))) (a .l .widths) (s .pre .1 .0 .laid .widths) (a .s) (λ e. c .if1 .taken (c .before .direction .ensures ∙ e)))
     (added-none _ _ _)
 
 relay-requires : tie.Need-relay-requires
@@ -24,7 +24,7 @@ relay-requires c κs =
       (
         record {
           ready = record {
-            limits = s .pre .1 .laid .limits;
+            limits = s .pre .1 .0 .laid .limits;
             room = s .pre .0;
             header = subst⁻¹ (λ (n : ℕ). n < 2 ^ w .h) (c .header .ensures) (header-lt w (a .s));
           };
@@ -42,7 +42,7 @@ returns-2 c =
     let s = h .before .before .before .before .before .before .before .before .before in
     let a = s .args in
     rw (
-      relays-arriving (records (a .n) (now (a .store))) (a .l .widths) (s .pre .1 .laid .widths) (a .s) (sym (d .direction .ensures) ∙ h .before .before .before .before .if1 .left),
+      relays-arriving (records (a .n) (now (a .store))) (a .l .widths) (s .pre .1 .0 .laid .widths) (a .s) (sym (d .direction .ensures) ∙ h .before .before .before .before .if1 .left),
       ← (h .header .ensures),
       ← (h .before .port .ensures),
       ← (h .before .before .switch .ensures),

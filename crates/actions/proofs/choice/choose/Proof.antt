@@ -1,80 +1,87 @@
 use borrow.Author.Needs.{needs}
 use denote.Ref.{now}
-use mathlib.Core.Path.{refl, ap, _∙_}
-use mathlib.Core.List.{List, []}
+use mathlib.Core.Path.{_∙_}
+use mathlib.Core.List.{[]}
 use mathlib.Core.Logic.{⊎-elim}
-use Prim.Native.Nat.{ℕ, _+_, _-_, _*_, _≤_, _<_}
+use Prim.Native.Nat.{_+_, _-_, _*_, _≤_, _<_}
 use native.Mathlib.Omega.{arith}
 use lib.ListN.{length, getD}
-use Rattle.records.specs.Record.{records}
-use Rattle.records.specs.Fields.{matchGood}
-use Rattle.records.specs.Laws.Fields.{match-body}
+use Rattle.records.specs.Record.{mostRules, records}
 use Rattle.actions.specs.ByPlace.{arrival, ofBody}
-use Rattle.actions.specs.Laws.Bodies.{bodyAt, body-of, body-is, body-length, rank-same}
+use Rattle.actions.specs.Laws.Bodies.{bodyAt, body-of, body-length, rank-same}
 use Rattle.actions.proofs.SearchedRules.{Leading, leading-none, leading-takes, leading-stays, leading-all}
-use Rattle.actions.specs.Laws.GoodRecords.{in-store, match-good}
+use Rattle.actions.specs.Laws.GoodRecords.{in-store}
+use Rattle.actions.specs.Laws.MatchSets.{sets-same}
 use Rattle.actions.proofs.choice.choose.Statement.{statement}
 use Rattle.actions.proofs.choice.choose.Tie as tie
 
 abbrev Inv-loop : tie.InvT-loop
-Inv-loop store n l sw p h w best₀ highest₀ i₀ best highest i = Leading n l store (arrival sw p h) best highest i
+Inv-loop store n l ports headers sw p h w best₀ highest₀ i₀ best highest i = Leading n l store (arrival sw p h) best highest i
 
 abbrev μ-loop : tie.MeasureT-loop
-μ-loop store n l sw p h w best₀ highest₀ i₀ best highest i = l .nodes - i
+μ-loop store n l ports headers sw p h w best₀ highest₀ i₀ best highest i = l .nodes - i
 
 add-best : tie.Need-add-best Inv-loop μ-loop
 add-best c =
     let s = c .before .before .before in
-    omega (arith, s .pre .1, s .pre .0 .room, in-store (s .args .n) (s .args .l) (now (s .args .store)) (s .pre .0), s .pre .0 .laid .switches, s .pre .0 .laid .few-rules)
+    let st = s .pre .0 .0 in
+    omega (arith, s .pre .1 .0, st .room, in-store (s .args .n) (s .args .l) (now (s .args .store)) st, st .laid .switches, st .laid .few-rules)
 
 loop-holds : tie.Need-loop-holds Inv-loop μ-loop
 loop-holds c =
     let s = c .before .before .before in
-    leading-none (s .args .n) (s .args .l) (now (s .args .store)) (s .pre .0) (arrival (s .args .sw) (s .args .p) (s .args .h)) (s .pre .1)
+    leading-none (s .args .n) (s .args .l) (now (s .args .store)) (s .pre .0 .0) (arrival (s .args .sw) (s .args .p) (s .args .h)) (s .pre .1 .0)
 
 -- the store has the whole of record i
 in-net : (c : tie.Then1 Inv-loop μ-loop) → c .before .before .loop .i < c .before .before .before .before .before .before .args .n
 in-net c =
     let s = c .before .before .before .before .before .before in
-    omega (arith, in-store (s .args .n) (s .args .l) (now (s .args .store)) (s .pre .0))
+    omega (arith, in-store (s .args .n) (s .args .l) (now (s .args .store)) (s .pre .0 .0))
 
 within : (c : tie.Then1 Inv-loop μ-loop) → c .before .before .loop .i * 24 + 24 ≤ length (now (c .before .before .before .before .before .before .args .store))
-within c = omega (arith, in-net c, c .before .before .before .before .before .before .pre .0 .room)
+within c = omega (arith, in-net c, c .before .before .before .before .before .before .pre .0 .0 .room)
+
+-- and the sets of its rule are there
+numbered : (c : tie.Then1 Inv-loop μ-loop) → c .before .before .loop .i - c .before .before .before .before .before .before .args .l .rules < mostRules
+numbered c = omega (arith, c .before .before .before .before .before .before .pre .0 .0 .laid .few-rules)
 
 rank-requires : tie.Need-rank-requires Inv-loop μ-loop
 rank-requires c κs =
-    let t = c .before in
+    let t = c .before .before .before .before in
     let s = t .before .before .before .before .before .before in
     let a = s .args in
     let b = now (a .store) in
-    let i = t .before .before .loop .i in (
-      body-length (a .n) b i (in-net t) 20 (omega arith) (s .pre .0 .room),
-      ap (λ (x : List ℕ). matchGood (a .l .widths) (ofBody x)) (body-is (a .n) b i (in-net t) 20 (omega arith) refl)
-          ∙ match-body (a .l .widths) (getD (records (a .n) b) i [])
-          ∙ match-good (a .n) (a .l) b (s .pre .0) i (t .before .before .loop .inv .from) (t .if1 .taken),
+    let o = t .before .before .loop in (
+      (
+        body-length (a .n) b (o .i) (in-net t) 20 (omega arith) (s .pre .0 .0 .room),
+        sets-same (a .l .widths) (getD (records (a .n) b) (o .i) []) _ _ (s .pre .0 .1 (o .i) (t .if1 .taken) (o .inv .from))
+            (ofBody (bodyAt b (o .i) 20)) (body-of (a .n) b (o .i) (in-net t) 20 (omega arith)),
+      ),
+      s .pre .1 .1,
     )
 
 loop-again : tie.Need-loop-again Inv-loop μ-loop
 loop-again c =
-    let t = c .before .before .before in
+    let t = c .before .before .before .before .before .before in
     let s = t .before .before .before .before .before .before in
     let a = s .args in
     let b = now (a .store) in
     let o = t .before .before .loop in
+    let st = s .pre .0 .0 in
     let v = arrival (a .sw) (a .p) (a .h) in
     let e =
     c .before .rank .ensures
     ∙ rank-same (a .l .widths) (ofBody (bodyAt b (o .i) 20)) (getD (records (a .n) b) (o .i) []) (body-of (a .n) b (o .i) (in-net t) 20 (omega arith)) v in
     ⊎-elim
-    (λ x. rw (x .1, x .2) (leading-takes (a .n) (a .l) b (s .pre .0) v (o .best) (o .highest) (o .i) (o .inv) (t .if1 .taken) (c .before .rank .result) e (x .0 .taken)))
-    (λ x. rw (x .1, x .2) (leading-stays (a .n) (a .l) b (s .pre .0) v (o .best) (o .highest) (o .i) (o .inv) (t .if1 .taken) (c .before .rank .result) e (x .0 .left)))
+    (λ x. rw (x .1, x .2) (leading-takes (a .n) (a .l) b st v (o .best) (o .highest) (o .i) (o .inv) (t .if1 .taken) (c .before .rank .result) e (x .0 .taken)))
+    (λ x. rw (x .1, x .2) (leading-stays (a .n) (a .l) b st v (o .best) (o .highest) (o .i) (o .inv) (t .if1 .taken) (c .before .rank .result) e (x .0 .left)))
     (c .if2 .came)
 
 returns : tie.Need-returns Inv-loop μ-loop
 returns c =
     let s = c .before .before .before .before .before .before in
     let o = c .before .before .loop in
-    leading-all (s .args .n) (s .args .l) (now (s .args .store)) (s .pre .0) (arrival (s .args .sw) (s .args .p) (s .args .h))
+    leading-all (s .args .n) (s .args .l) (now (s .args .store)) (s .pre .0 .0) (arrival (s .args .sw) (s .args .p) (s .args .h))
     (o .best) (o .highest) (o .i) (o .inv) (c .if1 .left)
 
 pub choose-spec : {M : Type 1} → statement M
@@ -88,11 +95,16 @@ choose-spec =
     (λ c. omega (arith, within c))
     (λ c. omega (arith, within c))
     (λ c. omega (arith, within c))
+    (λ c. omega (arith, c .before .before .before .loop .inv .from))
     (λ c. search needs)
     (λ c. search needs)
-    (λ c. omega (arith, within c))
+    (λ c. omega (arith, within (c .before)))
+    (λ c. omega (arith, numbered (c .before .before)))
+    (λ c. omega (arith, numbered (c .before .before)))
+    (λ c. omega (arith, numbered (c .before .before .before)))
+    (λ c. omega (arith, numbered (c .before .before .before)))
     rank-requires
-    (λ c. omega (arith, within (c .before .before .before)))
+    (λ c. omega (arith, within (c .before .before .before .before .before .before)))
     (λ c. omega arith)
     loop-again
     returns)
