@@ -1,6 +1,6 @@
 //! The proved library and its program against the cases and against the second implementation.
 
-use wegbaro_tests::cases;
+use wegbaro_tests::cases::{self, patterns};
 use wegbaro_tests::compare::{self, routes};
 use wegbaro_tests::library::{program, Library};
 use wegbaro_tests::networks::{Sizes, MODEST};
@@ -37,6 +37,45 @@ fn every_route_case() {
 #[test]
 fn every_program_case() {
     expect_all(cases::programs::cases().iter().map(|case| case.run(&program)));
+}
+
+#[test]
+fn header_patterns() {
+    let cases = (1..=6).flat_map(patterns::headers);
+    expect_all(cases.map(|case| case.run(&Library)));
+}
+
+#[test]
+fn port_patterns() {
+    let cases = (2..=4).flat_map(patterns::ports);
+    expect_all(cases.map(|case| case.run(&Library)));
+}
+
+#[test]
+fn output_patterns() {
+    let cases = (2..=4).flat_map(patterns::outputs);
+    expect_all(cases.map(|case| case.run(&Library)));
+}
+
+/// With headers of 6 bits only the one that SET must make is tried: that no other departs is seen
+/// by [`set_patterns_at_once`].
+#[test]
+fn set_patterns() {
+    let near = (1..=5).flat_map(|h| patterns::sets(h, 1));
+    let cases = near.chain(patterns::sets(6, 0));
+    expect_all(cases.map(|case| case.run(&Library)));
+}
+
+#[test]
+fn set_patterns_at_once() {
+    let cases = (1..=6).flat_map(patterns::sets_at_once);
+    expect_all(cases.map(|case| case.run(&Library)));
+}
+
+#[test]
+fn set_patterns_mistaken() {
+    let cases = (1..=3).flat_map(patterns::sets_mistaken);
+    expect_all(cases.map(|case| case.run(&Library)));
 }
 
 #[test]

@@ -4,6 +4,7 @@ mod plain;
 mod worthless;
 
 use std::collections::BTreeSet;
+use wegbaro_tests::cases::patterns::{self, StepCase};
 use wegbaro_tests::cases::{self, CheckCase, CommandCase, ProgramCase, RouteCase};
 use wegbaro_tests::commands::{command, Wish, FAULTS, SOUND};
 use wegbaro_tests::compare::{self, routes, Tally};
@@ -20,7 +21,7 @@ use wegbaro_tests::records::{add, delete, link, miss, output, rule, set, widths,
 use wegbaro_tests::second::{program, Second};
 use wegbaro_tests::winding::{longest, looping, winding};
 use worthless::routes::{Astray, ROUTE_VICES};
-use worthless::steps::{Misled, STEP_VICES};
+use worthless::steps::{Misled, StepVice, STEP_VICES};
 use worthless::{Vice, Worthless, VICES};
 
 /// Fails with every error, one per line.
@@ -121,6 +122,65 @@ fn routes_and_rows_14_and_15() {
 fn programs() {
     let cases: Vec<ProgramCase> = cases::programs::cases();
     expect_all(cases.iter().map(|case| case.run(&program)));
+}
+
+#[test]
+fn header_patterns() {
+    let cases = (1..=6).flat_map(patterns::headers);
+    expect_all(cases.map(|case| case.run(&Second)));
+}
+
+#[test]
+fn port_patterns() {
+    let cases = (2..=4).flat_map(patterns::ports);
+    expect_all(cases.map(|case| case.run(&Second)));
+}
+
+#[test]
+fn output_patterns() {
+    let cases = (2..=4).flat_map(patterns::outputs);
+    expect_all(cases.map(|case| case.run(&Second)));
+}
+
+#[test]
+fn set_patterns() {
+    let near = (1..=5).flat_map(|h| patterns::sets(h, 1));
+    let cases = near.chain(patterns::sets(6, 0));
+    expect_all(cases.map(|case| case.run(&Second)));
+}
+
+/// With larger headers the second implementation takes long over policies.
+#[test]
+fn set_patterns_at_once() {
+    let cases = (1..=4).flat_map(patterns::sets_at_once);
+    expect_all(cases.map(|case| case.run(&Second)));
+}
+
+#[test]
+fn set_patterns_mistaken() {
+    let cases = (1..=3).flat_map(patterns::sets_mistaken);
+    expect_all(cases.map(|case| case.run(&Second)));
+}
+
+/// How many steps there are, by hand. With n ports, OUTPUT without stars sends from n - 1 of them
+/// to drop, and from n - 2 to each other port. An ordinary port is matched by n - 1 patterns with
+/// stars, and they send there from n - 2 ports.
+#[test]
+fn patterns_match_as_often_as_they_must() {
+    let steps = |cases: Vec<StepCase>| {
+        let pairs = cases.iter().flat_map(|case| &case.pairs);
+        pairs.filter(|pair| pair.is_step).count()
+    };
+    for h in 1..=6 {
+        assert_eq!(steps(patterns::headers(h)), 4_usize.pow(h.into()), "header width {h}");
+        assert_eq!(steps(patterns::sets(h, 0)), 6_usize.pow(h.into()), "header width {h}");
+    }
+    for p in 2..=4 {
+        let n = 1 << p;
+        let sent = (n - 1) + (n - 1) * (n - 2) + (n - 1) * (n - 2) * (n - 2);
+        assert_eq!(steps(patterns::ports(p)), n * n - n, "port width {p}");
+        assert_eq!(steps(patterns::outputs(p)), sent, "port width {p}");
+    }
 }
 
 #[test]
@@ -445,6 +505,33 @@ fn cases_notice_every_vice_of_steps() {
     assert!(!wrong(Misled(None)));
     for vice in STEP_VICES {
         assert!(wrong(Misled(Some(vice))), "{vice:?}");
+    }
+}
+
+/// Each way to misread patterns is noticed by the cases that it concerns, and by no others.
+#[test]
+fn patterns_notice_every_misreading() {
+    let vices = [
+        None,
+        Some(StepVice::MatchesStarsAsZeros),
+        Some(StepVice::PassesOverTheHighestBit),
+        Some(StepVice::SetsStarsToZero),
+    ];
+    let noticed = |cases: Vec<StepCase>| {
+        vices.map(|vice| cases.iter().any(|case| case.run(&Misled(vice)).is_err()))
+    };
+    let noticed_at_once = |h| {
+        let wrong = |vice| patterns::sets_at_once(h).any(|case| case.run(&Misled(vice)).is_err());
+        vices.map(wrong)
+    };
+    for h in 1..=4 {
+        assert_eq!(noticed(patterns::headers(h)), [false, true, true, false], "{h}");
+        assert_eq!(noticed(patterns::sets(h, 1)), [false, false, false, true], "{h}");
+        assert_eq!(noticed_at_once(h), [false, false, false, true], "{h}");
+    }
+    for p in 2..=3 {
+        assert_eq!(noticed(patterns::ports(p)), [false, true, true, false], "{p}");
+        assert_eq!(noticed(patterns::outputs(p)), [false, true, true, false], "{p}");
     }
 }
 

@@ -6,6 +6,7 @@ pub mod fields;
 pub mod kinds;
 pub mod links;
 pub mod misses;
+pub mod patterns;
 pub mod policies;
 pub mod programs;
 pub mod routes;

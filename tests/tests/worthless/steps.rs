@@ -1,4 +1,5 @@
-//! Gates whose frames go back where they must not, or not where they must, in one way each.
+//! Gates whose steps are wrong in one way each: frames go back where they must not, or not where
+//! they must, or patterns are misread.
 
 use wegbaro_tests::gate::{Checked, Commanded, Gate, Routed, RECORD};
 use wegbaro_tests::second::judge::judge;
@@ -18,9 +19,12 @@ pub enum StepVice {
     ReturnsAndStops,
     ReturnsTheFirstHeader,
     ReturnsTheLastHeader,
+    MatchesStarsAsZeros,
+    PassesOverTheHighestBit,
+    SetsStarsToZero,
 }
 
-pub const STEP_VICES: [StepVice; 10] = [
+pub const STEP_VICES: [StepVice; 13] = [
     StepVice::Bounces,
     StepVice::BouncesWithoutStars,
     StepVice::BouncesByStars,
@@ -31,6 +35,9 @@ pub const STEP_VICES: [StepVice; 10] = [
     StepVice::ReturnsAndStops,
     StepVice::ReturnsTheFirstHeader,
     StepVice::ReturnsTheLastHeader,
+    StepVice::MatchesStarsAsZeros,
+    StepVice::PassesOverTheHighestBit,
+    StepVice::SetsStarsToZero,
 ];
 
 /// A gate with a vice, if any, in the steps of its check and route calls, else as the second
@@ -76,30 +83,63 @@ impl Gate for Misled {
 }
 
 impl Misled {
-    /// The network with a rule for each port in place of every rule and miss record, so that what
-    /// is done can depend on the port of arrival.
+    /// The network with patterns as they are read, and with a rule for each port in place of every
+    /// rule and miss record, so that what is done can depend on the port of arrival.
     fn network(&self, store: &[u8], n: usize) -> Network {
         let (records, _) = store[..n * RECORD].as_chunks::<RECORD>();
         let mut network = file::read(records).unwrap();
+        let widths = network.widths;
+        let rules = network.rules.iter().map(|rule| self.read_rule(rule, widths));
         // Of priority 0 and behind all rules, they are met only where no rule matches.
         let misses = network.misses.iter().enumerate().map(|(switch, actions)| Rule {
             matching: Match { switch: switch as u8, priority: 0, port: ANY, header: ANY },
             actions: actions.clone(),
         });
-        let rules: Vec<Rule> = network.rules.iter().cloned().chain(misses).collect();
-        let widths = network.widths;
-        network.rules = rules.iter().flat_map(|rule| self.by_port(rule, widths)).collect();
+        let by_port = |rule: Rule| self.by_port(&rule, widths);
+        network.rules = rules.chain(misses).flat_map(by_port).collect();
         network
+    }
+
+    /// A rule with its match as it is read.
+    fn read_rule(&self, rule: &Rule, widths: Widths) -> Rule {
+        let port = self.read(rule.matching.port, widths.port);
+        let header = self.read(rule.matching.header, widths.header);
+        Rule { matching: Match { port, header, ..rule.matching }, actions: rule.actions.clone() }
+    }
+
+    /// An action with its pattern as it is read.
+    fn read_action(&self, action: Action, widths: Widths) -> Action {
+        match action {
+            Action::Output(ports) => Action::Output(self.read(ports, widths.port)),
+            Action::Set(bits) if self.0 == Some(StepVice::SetsStarsToZero) => {
+                Action::Set(without_stars(bits, widths.header))
+            }
+            _ => action,
+        }
+    }
+
+    /// A pattern as it is read to be matched.
+    fn read(&self, pattern: Pattern, width: u8) -> Pattern {
+        match self.0 {
+            Some(StepVice::MatchesStarsAsZeros) => without_stars(pattern, width),
+            Some(StepVice::PassesOverTheHighestBit) => {
+                let lower = (1 << (width - 1)) - 1;
+                Pattern { value: pattern.value & lower, care: pattern.care & lower }
+            }
+            _ => pattern,
+        }
     }
 
     /// A rule as one for each port that it matches.
     fn by_port(&self, rule: &Rule, widths: Widths) -> Vec<Rule> {
         let ports = (0..widths.ports()).filter(|port| rule.matching.port.matches(*port));
+        let read = |action: &Action| self.read_action(*action, widths);
+        let actions: Vec<Action> = rule.actions.iter().map(read).collect();
         let at = |arrival: u8| {
             let port = Pattern { value: arrival, care: widths.controller() };
             Rule {
                 matching: Match { port, ..rule.matching },
-                actions: self.done(&rule.actions, arrival, widths),
+                actions: self.done(&actions, arrival, widths),
             }
         };
         ports.map(at).collect()
@@ -154,3 +194,8 @@ impl Misled {
 }
 
 const ANY: Pattern = Pattern { value: 0, care: 0 };
+
+/// A pattern with its stars fixed to 0.
+fn without_stars(pattern: Pattern, width: u8) -> Pattern {
+    Pattern { care: (1 << width) - 1, ..pattern }
+}
