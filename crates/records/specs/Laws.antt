@@ -4,6 +4,7 @@ pub mod Fields
 pub mod Kinds
 pub mod Limits
 pub mod Lists
+pub mod Matched
 pub mod Parts
 pub mod Patterns
 pub mod Policies

@@ -1,13 +1,13 @@
 -- What good fields of a record say.
 use borrow.Author.Tests.{lt-ltb, leb-true}
-use mathlib.Core.Path.{_≡_, sym, ap, ap₂, _∙_}
-use mathlib.Core.Bool.{Bool, true, false, not, _&&_}
+use mathlib.Core.Path.{_≡_, sym, ap, _∙_}
+use mathlib.Core.Bool.{Bool, true, false, _&&_}
 use Prim.Native.Nat.{ℕ, zero, suc, _+_, _*_, _^_, _<_, _≤_}
 use native.Mathlib.Omega.{arith}
 use lib.Bits.{and-le-r}
-use lib.Dec.{eqb, leb, ltb}
+use lib.Dec.{eqb, leb}
 use Rattle.planes.specs.Laws.Tests.{and-left, and-right}
-use Rattle.records.specs.Record.{Rec, at, ActionKind, kOutput, kSet, actionKind}
+use Rattle.records.specs.Record.{Rec, at, ActionKind, kOutput, actionKind}
 use Rattle.records.specs.Pattern.{patternGood}
 use Rattle.records.specs.Fields.{usedFields, usedGood, unusedGood, actionBytesGood, actionGood, actionsGood}
 use Rattle.records.specs.Laws.Patterns.{care-lt, value-within}

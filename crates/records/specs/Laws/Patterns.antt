@@ -1,19 +1,18 @@
 -- Laws of patterns, over the width.
 use borrow.Author.Tests.{eqb-true, ltb-true}
 use mathlib.Core.Path.{_≡_, refl, sym, ap, ap₂, subst, _∙_}
-use mathlib.Core.Bool.{Bool, true, false, cond, not, _&&_, _||_, or-false, true≢false, false≢true}
+use mathlib.Core.Bool.{Bool, true, false, cond, not, _&&_, true≢false, false≢true}
 use mathlib.Core.Logic.{_↔_}
-use Prim.Native.Nat.{ℕ, zero, suc, _+_, _-_, _*_, _%_, _^_, _<_, _≤_}
+use Prim.Native.Nat.{ℕ, zero, suc, _+_, _-_, _*_, _%_, _^_, _<_}
 use native.Mathlib.Nat.{not-suc-le-zero, pow-suc}
 use native.Mathlib.Decide.{ℕ-discrete, decLt}
 use native.Mathlib.Omega.{arith}
-use lib.Bits.{bitAnd, or-lt}
+use lib.Bits.{bitAnd}
 use lib.Dec.{eqb, ltb}
-use lib.Pow.{pow-add, pow-mono, pow-pos, shl-lt}
+use lib.Pow.{pow-pos}
 use Rattle.planes.specs.Bit.{bitOf}
-use Rattle.planes.specs.Laws.Bits.{bit-low, bit-or, bit-zero, bit-block, bit-high, bit-top, bit-above}
+use Rattle.planes.specs.Laws.Bits.{bit-not, bit-zero, bit-block, bit-top, bit-above, bits-ext}
 use Rattle.records.specs.Pattern.{ternary, agrees, FixedToOther, written, matches, putBits, patternGood}
-use Rattle.records.specs.Matched.{MatchedSet, widened}
 use Rattle.records.specs.declared.pattern.Ternary.{Ternary}
 use Rattle.records.specs.declared.pattern.Ternary.the-variants.{Fixed0, Fixed1, Star}
 use Rattle.planes.specs.Laws.Tests.{and-both, and-left, and-right}
@@ -58,7 +57,7 @@ module _ (value care x : ℕ) where
   )
 
   -- the bits of the width decide
-  matches-same : (y k : ℕ) → ((i : ℕ) → i < k → bitOf x i ≡ bitOf y i) → matches k value care x ≡ matches k value care y
+  pub matches-same : (y k : ℕ) → ((i : ℕ) → i < k → bitOf x i ≡ bitOf y i) → matches k value care x ≡ matches k value care y
   unfolding matches
   matches-same y zero f = refl
   matches-same y (suc k) f = ap₂ _&&_ (ap (agrees (ternary value care k)) (f k (omega arith))) (matches-same y k (λ i h. f i (omega arith)))
@@ -113,81 +112,39 @@ module _ (value care x : ℕ) where
   unfolding ternary
   put-gives k i h o = put-bit k i h ∙ fixed-value (bitOf care i) (bitOf value i) (bitOf x i) o
 
--- the numbers that a pattern matches, by one bit after the other
-module _ (value care : ℕ) where
-  -- with no bit, the one number matches
-  pub matched-none : MatchedSet 0 value care 1
-  unfolding matches
-  matched-none = record {
-    numbers = λ x h. let e : x ≡ 0 = omega arith in ap (bitOf 1) e ∙ bit-low 1;
-    only = omega arith;
-  }
+-- a pattern whose care has every bit of the width
+module _ (k value care : ℕ) (within : care < 2 ^ k) where
+  is-star : Ternary → Bool
+  is-star Fixed0 = false
+  is-star Fixed1 = false
+  is-star Star = true
 
-  module _ (i set : ℕ) (M : MatchedSet i value care set) where
-    abbrev upper : ℕ
-    upper = set * 2 ^ (2 ^ i)
+  fixed : (c v : Bool) → c ≡ true → cond c (cond v Fixed1 Fixed0) Star ≡ Star → ⊥
+  unfolding is-star
+  fixed true true c e = false≢true (ap is-star e)
+  fixed true false c e = false≢true (ap is-star e)
+  fixed false v c e = false≢true c
 
-    -- the set has the numbers with bit i 0, and its upper half those with bit i 1
-    Halves : ℕ → Type 0
-    Halves x = (bitOf set x ≡ (not (bitOf x i) && matches i value care x)) × (bitOf upper x ≡ (bitOf x i && matches i value care x))
+  full-bit : (i : ℕ) → i < k → bitOf (2 ^ k - 1) i ≡ true
+  full-bit i h =
+      let e : 2 ^ k - 1 ≡ (2 ^ k - 1) - 0 = omega arith in
+      ap (λ (n : ℕ). bitOf n i) e ∙ bit-not k 0 i (pow-pos k) h ∙ ap not (bit-zero i)
 
-    at-upper : (n : ℕ) → bitOf upper n ≡ bitOf (upper + 0) n
-    at-upper n = let e : upper ≡ upper + 0 = omega arith in ap (λ (m : ℕ). bitOf m n) e
+  -- it has every bit exactly if none is a star
+  pub starless-iff : care ≡ 2 ^ k - 1 ↔ ((i : ℕ) → i < k → ternary value care i ≡ Star → ⊥)
+  unfolding ternary
+  starless-iff = (
+    λ e i h. fixed (bitOf care i) (bitOf value i) (ap (λ (n : ℕ). bitOf n i) e ∙ full-bit i h),
+    λ f. bits-ext care (2 ^ k - 1) (λ i. go f i (decLt i k)),
+  )
+    where
+      cared : (i : ℕ) → (ternary value care i ≡ Star → ⊥) → (c : Bool) → bitOf care i ≡ c → c ≡ true
+      cared i n true e = refl
+      cared i n false e = absurd (n (ap (λ (c : Bool). cond c (cond (bitOf value i) Fixed1 Fixed0) Star) e))
 
-    in-lower : (x : ℕ) → x < 2 ^ i → Halves x
-    unfolding Halves
-    in-lower x h =
-        let b : bitOf x i ≡ false = bit-above i x i h (omega arith) in (
-          M .numbers x h ∙ sym (ap (λ (c : Bool). not c && matches i value care x) b),
-          at-upper x ∙ bit-block set (2 ^ i) 0 x h ∙ bit-zero x ∙ sym (ap (λ (c : Bool). c && matches i value care x) b),
-        )
-
-    in-upper : (x y : ℕ) → x ≡ 1 * 2 ^ i + y → y < 2 ^ i → Halves x
-    unfolding Halves
-    in-upper x y e h =
-        let b : bitOf x i ≡ true = ap (λ (n : ℕ). bitOf n i) e ∙ bit-top 1 i y h in
-        let m = matches-same value care x y i (λ j l. ap (λ (n : ℕ). bitOf n j) e ∙ bit-block 1 i y j l) in
-        let p : x ≡ 2 ^ i + y = omega arith in (
-          bit-above (2 ^ i) set x (M .only) (omega arith) ∙ sym (ap (λ (c : Bool). not c && matches i value care x) b),
-          at-upper x ∙ ap (bitOf (upper + 0)) p ∙ bit-high set (2 ^ i) 0 y (pow-pos (2 ^ i)) ∙ M .numbers y h ∙ sym m
-              ∙ sym (ap (λ (c : Bool). c && matches i value care x) b),
-        )
-
-    halves : (x : ℕ) → x < 2 ^ suc i → Halves x
-    halves x h = go (decLt x (2 ^ i))
-      where
-        go : Dec (x < 2 ^ i) → Halves x
-        go (yes l) = in-lower x l
-        go (no n) = in-upper x (x - 2 ^ i) (omega (arith, n)) (omega (arith, n, pow-suc 2 i))
-
-    either : (b m : Bool) → ((not b && m) || (b && m)) ≡ m
-    either true m = refl
-    either false m = or-false m
-
-    widened-bit : (t : Ternary) (x : ℕ) → x < 2 ^ suc i → bitOf (widened t set i) x ≡ (agrees t (bitOf x i) && matches i value care x)
-    unfolding Halves
-    widened-bit Fixed0 x h = halves x h .0
-    widened-bit Fixed1 x h = halves x h .1
-    widened-bit Star x h = bit-or set upper x ∙ ap₂ _||_ (halves x h .0) (halves x h .1) ∙ either (bitOf x i) (matches i value care x)
-
-    doubled : 2 ^ (2 ^ suc i) ≡ 2 ^ (2 ^ i + 2 ^ i)
-    doubled = let e : 2 ^ suc i ≡ 2 ^ i + 2 ^ i = omega (arith, pow-suc 2 i) in ap (λ (n : ℕ). 2 ^ n) e
-
-    set-lt : set < 2 ^ (2 ^ suc i)
-    set-lt = omega (arith, doubled, M .only, pow-mono {i = 2 ^ i} {j = 2 ^ i + 2 ^ i} (omega arith))
-
-    upper-lt : upper < 2 ^ (2 ^ suc i)
-    upper-lt = omega (arith, doubled, shl-lt {a = set} (2 ^ i) (2 ^ i) (M .only))
-
-    widened-lt : (t : Ternary) → widened t set i < 2 ^ (2 ^ suc i)
-    widened-lt Fixed0 = set-lt
-    widened-lt Fixed1 = upper-lt
-    widened-lt Star = or-lt (2 ^ suc i) set upper set-lt upper-lt
-
-    -- with bit i, by its case
-    pub matched-more : MatchedSet (suc i) value care (widened (ternary value care i) set i)
-    unfolding matches
-    matched-more = record { numbers = widened-bit (ternary value care i); only = widened-lt (ternary value care i) }
+      go : ((i : ℕ) → i < k → ternary value care i ≡ Star → ⊥) → (i : ℕ) → Dec (i < k) → bitOf care i ≡ bitOf (2 ^ k - 1) i
+      go f i (yes h) = cared i (f i h) (bitOf care i) refl ∙ sym (full-bit i h)
+      go f i (no h) = bit-above k care i within (omega (arith, h)) ∙ sym (bit-above k (2 ^ k - 1) i (omega (arith, pow-pos k)) (omega (arith, h)))
 
 -- what patternGood says
 module _ (k value care : ℕ) (good : patternGood k value care ≡ true) where

@@ -3,7 +3,7 @@ use Prim.Native.Nat.{ℕ, _-_, _≤_}
 use native.Mathlib.Numerals.{add-one}
 use native.Mathlib.Omega.{arith}
 use Rattle.records.specs.Matched.{MatchedSet, widened}
-use Rattle.records.specs.Laws.Patterns.{matched-none, matched-more}
+use Rattle.records.specs.Laws.Matched.{matched-none, matched-more}
 use Rattle.records.proofs.pattern.matched.Statement.{statement}
 use Rattle.records.proofs.pattern.matched.Tie as tie
 
