@@ -10,7 +10,7 @@ use wegbaro_tests::gate::{Checked, Commanded, Gate, Routed, STORE};
 use wegbaro_tests::library::Library;
 use wegbaro_tests::networks::{largest, largest_without_policies, work_needed, Widths};
 use wegbaro_tests::random::Random;
-use wegbaro_tests::records::{add, output, rule, Record};
+use wegbaro_tests::records::{add, miss, output, rule, widths, Record};
 use wegbaro_tests::second::network::{Action, Network, Pattern};
 use wegbaro_tests::second::states::{Direction, Point, State, DROP};
 use wegbaro_tests::second::{file, routes, steps, Second};
@@ -174,14 +174,29 @@ fn reading() -> f64 {
     median((0..RUNS).map(|_| time(|| Library.check(black_box(&store), 641, &mut []))).collect())
 }
 
+/// 256 rules at one switch, each of higher priority than those before it, so that every one that
+/// matches takes the lead.
+fn one_switch() -> Vec<Record> {
+    let mut random = Random::new(4);
+    let mut pattern = |width: u8| {
+        let care = random.bits(width);
+        [random.bits(width) & care, care]
+    };
+    let sending = |priority: u16| {
+        let port = 1 + priority as u8 % 6;
+        rule(0, priority, pattern(3), pattern(6), &[output(port, 7)])
+    };
+    let rules: Vec<Record> = (0..256).map(sending).collect();
+    [vec![widths(6, 3, 0), miss(0, &[output(0, 7)])], rules].concat()
+}
+
 /// The step plane, the external row and two cleared planes: the library, and plain Rust.
-fn step_plane(departing: Departing) -> [f64; 2] {
-    let records = largest_without_policies(&mut Random::new(2));
-    let (store, n) = (store_of(&records), records.len());
-    let mut work = vec![0; work_needed(&records)];
+fn step_plane(records: &[Record], departing: Departing) -> [f64; 2] {
+    let (store, n) = (store_of(records), records.len());
+    let mut work = vec![0; work_needed(records)];
     assert_eq!(Library.check(&store, n, &mut work), Checked::Holds);
     assert_eq!(Library.check(&store, n, &mut []), SHORT);
-    let network = file::read(&records).unwrap();
+    let network = file::read(records).unwrap();
     let mut planes = vec![0; 2 * STATES * WORDS];
     let fill = |plane: &mut [u64]| {
         fill_arriving(black_box(&network), plane);
@@ -386,8 +401,11 @@ fn main() {
     println!("|---|---|---|---|---|");
     println!("| reading the largest network | {:.0} | | | |", reading());
     let plane = "step plane, 256 rules and 112 links";
-    print(plane, step_plane(by_state), "plain Rust, links searched for each state");
-    print(plane, step_plane(by_link), "plain Rust, links walked once");
+    let records = largest_without_policies(&mut Random::new(2));
+    print(plane, step_plane(&records, by_state), "plain Rust, links searched for each state");
+    print(plane, step_plane(&records, by_link), "plain Rust, links walked once");
+    let plane = "step plane, 256 rules at one switch";
+    print(plane, step_plane(&one_switch(), by_link), "plain Rust, links walked once");
     let records = guarded();
     print("check, 256 rules and eight closures", check(&records), "second implementation");
     print("command on the same network", command(&records), "second implementation");

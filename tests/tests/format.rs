@@ -1,13 +1,13 @@
-//! What docs/FORMAT.md says of network K: its records, the commands, the routes and the changed
-//! networks, each read from the document and held to the proved library.
+//! What docs/FORMAT.md says of patterns and of network K: its records, the commands, the routes and
+//! the changed networks, each read from the document and held to the proved library.
 
 use std::fs;
 use wegbaro::Refusal;
-use wegbaro_tests::gate::{Checked, Commanded, Gate, STORE};
+use wegbaro_tests::gate::{Checked, Commanded, Gate, Routed, STORE};
 use wegbaro_tests::k::k;
 use wegbaro_tests::library::Library;
 use wegbaro_tests::networks::work_needed;
-use wegbaro_tests::records::{record, Record};
+use wegbaro_tests::records::{miss, output, record, rule, set, widths, Record, IN_PORT};
 use wegbaro_tests::second::states::{Direction, Point, State, Widths};
 
 fn document() -> String {
@@ -118,6 +118,59 @@ fn described(state: State) -> [String; 2] {
         format!("`{bit} {switch} {port:02b} {header}`"),
         format!("{word}, switch {switch}, port {port}, header {header}"),
     ]
+}
+
+/// The headers of h bits with which a frame departs at port 1 of a network with one switch, if it
+/// arrived there with this header.
+fn departing(h: u8, records: &[Record], header: usize) -> Vec<usize> {
+    let mut store = records.concat();
+    store.resize(STORE, 0);
+    let mut work = vec![0; work_needed(records)];
+    let mut list = vec![0; (1 << (h + 3)) + 1];
+    let [arrival, departure] = [1 << h, 5 << h];
+    let mut is_reached = |to: &usize| {
+        let (from, to) = (arrival + header, departure + to);
+        let answer = Library.route(&store, records.len(), &mut work, from, to, &mut list);
+        answer == Routed::Found { count: 2 }
+    };
+    (0..1 << h).filter(|to| is_reached(to)).collect()
+}
+
+/// The headers of h bits that a pattern matches.
+fn matched(h: u8, value: u8, care: u8) -> Vec<usize> {
+    let returning = rule(0, 1, [1, 3], [value, care], &[IN_PORT]);
+    let records = [widths(h, 2, 0), miss(0, &[output(0, 3)]), returning];
+    (0..1 << h).filter(|header| departing(h, &records, *header) == [*header]).collect()
+}
+
+#[test]
+fn the_cases_of_a_bit() {
+    let document = document();
+    let cases = table(&document, "bit of care");
+    assert_eq!(cases.len(), 3, "{cases:?}");
+    for case in cases {
+        let [care, value] = [case[0], case[1]].map(|bit| bit.parse().unwrap());
+        let matches =
+            if case[3] == "0 and 1" { vec![0, 1] } else { vec![case[3].parse().unwrap()] };
+        assert_eq!(matched(1, value, care), matches, "{case:?}");
+        let records = [widths(1, 2, 0), miss(0, &[set(value, care), IN_PORT])];
+        for bit in [0, 1] {
+            let made = if case[4] == "what it was" { bit } else { case[4].parse().unwrap() };
+            assert_eq!(departing(1, &records, bit), [made], "{case:?}");
+        }
+    }
+}
+
+#[test]
+fn the_patterns_of_two_bits() {
+    let document = document();
+    let patterns = table(&document, "pattern");
+    assert_eq!(patterns.len(), 4, "{patterns:?}");
+    for pattern in patterns {
+        let [value, care] = [pattern[1], pattern[2]].map(|byte| byte.parse().unwrap());
+        let matches: Vec<usize> = pattern[3].split(", ").map(|x| x.parse().unwrap()).collect();
+        assert_eq!(matched(2, value, care), matches, "{pattern:?}");
+    }
 }
 
 #[test]

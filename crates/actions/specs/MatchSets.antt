@@ -24,7 +24,7 @@ SetsBefore i net l ports headers =
 abbrev pub RuleSets : Net → Layout → List ℕ → List ℕ → Type 0
 RuleSets net l ports headers = SetsBefore (l .nodes) net l ports headers
 
--- a frame's port and header are within their widths
+-- widths within their limits, and a frame's port and header within these
 pub record Within (w : Widths) (p h : ℕ) : Type 0 where
   pub limits : withinLimits w ≡ true
   pub port : p < 2 ^ w .p

@@ -5,13 +5,32 @@ use records::pattern::in_set;
 use records::pattern::matched;
 use scan::Layout;
 ghost use mathlib.Core.Path.{_≡_};
+ghost use mathlib.Core.Bool.{true};
 ghost use Prim.Native.Nat.{_^_, _<_};
 ghost use lib.ListN.{length};
-ghost use Rattle.records.specs.Record.{mostRules, records};
+ghost use Rattle.records.specs.Record.{at, mostRules, records};
+ghost use Rattle.records.specs.Widths.{withinLimits};
+ghost use Rattle.records.specs.Matched.{MatchedSet};
 ghost use Rattle.actions.specs.Chosen.{ruleMatches};
 ghost use Rattle.actions.specs.ByPlace.{arrival, ofBody, rankOf, ActsAt};
 ghost use Rattle.actions.specs.MatchSets.{MatchSets, RuleSets, Within};
 ghost use Rattle.scan.specs.Stored.{Stored};
+
+// The ports that the rule of that body matches.
+fn ports_matched(w: Widths, body: &[u8]) -> u64
+    requires { ⌜ (length (now body) ≡ 20) × (withinLimits w ≡ true) ⌝ }
+    ensures { λ r. ⌜ MatchedSet (w .p) (at (ofBody (now (body .entry))) 4) (at (ofBody (now (body .entry))) 5) r ⌝ }
+{
+    matched(w.p, body[3], body[4])
+}
+
+// The headers that the rule of that body matches.
+fn headers_matched(w: Widths, body: &[u8]) -> u64
+    requires { ⌜ (length (now body) ≡ 20) × (withinLimits w ≡ true) ⌝ }
+    ensures { λ r. ⌜ MatchedSet (w .h) (at (ofBody (now (body .entry))) 6) (at (ofBody (now (body .entry))) 7) r ⌝ }
+{
+    matched(w.h, body[5], body[6])
+}
 
 // Works out once what each rule's patterns match: its ports and its headers, at its number among the rules.
 pub fn match_rules(
@@ -28,10 +47,12 @@ pub fn match_rules(
     let w = l.widths;
     let mut i = l.rules;
     while i < l.nodes {
-        let a = i * 24;
+        let a = i * 24 + 1;
+        let e = a + 20;
+        let body = &store[a..e];
         let j = i - l.rules;
-        ports[j] = matched(w.p, store[a + 4], store[a + 5]);
-        headers[j] = matched(w.h, store[a + 6], store[a + 7]);
+        ports[j] = ports_matched(w, body);
+        headers[j] = headers_matched(w, body);
         i += 1;
     }
 }

@@ -1,15 +1,16 @@
+use borrow.Author.Needs.{needs}
 use denote.Ref.{now}
-use mathlib.Core.Path.{_≡_, sym, subst₂, _∙_}
-use Prim.Native.Nat.{ℕ, _+_, _-_, _*_, _≤_, _<_}
+use mathlib.Core.Path.{_≡_, sym, _∙_}
+use mathlib.Core.List.{[]}
+use Prim.Native.Nat.{_+_, _-_, _*_, _≤_, _<_}
 use native.Mathlib.Omega.{arith}
-use lib.ListN.{length, length-set}
+use lib.ListN.{length, getD, length-set}
 use Rattle.records.specs.Record.{mostRules, records}
-use Rattle.records.specs.Matched.{MatchedSet}
-use Rattle.records.specs.Laws.Limits.{limits}
-use Rattle.records.specs.Laws.Records.{byte-of}
+use Rattle.actions.specs.ByPlace.{ofBody}
 use Rattle.actions.specs.MatchSets.{SetsBefore}
+use Rattle.actions.specs.Laws.Bodies.{bodyAt, body-of, body-length}
 use Rattle.actions.specs.Laws.GoodRecords.{in-store}
-use Rattle.actions.specs.Laws.MatchSets.{sets-more}
+use Rattle.actions.specs.Laws.MatchSets.{sets-same, sets-more}
 use Rattle.actions.proofs.choice.match_rules.Statement.{statement}
 use Rattle.actions.proofs.choice.match_rules.Tie as tie
 
@@ -37,32 +38,37 @@ within c = omega (arith, in-net c, c .before .before .before .before .before .pr
 numbered : (c : tie.Then1 Inv-loop μ-loop) → c .before .before .loop .i - c .before .before .before .before .before .args .l .rules < mostRules
 numbered c = omega (arith, c .before .before .before .before .before .pre .0 .laid .few-rules)
 
-matched-requires : tie.Need-matched-requires Inv-loop μ-loop
-matched-requires c κs = let s = c .before .before .before .before .before .before .before .before in omega (arith, limits (s .args .l .widths) (s .pre .0 .laid .limits) .high-p)
+-- the body of its rule
+body-fits : (c : tie.Then1 Inv-loop μ-loop)
+    → let a = c .before .before .before .before .before .args in
+    length (bodyAt (now (a .store)) (c .before .before .loop .i) 20) ≡ 20
+body-fits c =
+    let s = c .before .before .before .before .before in
+    body-length (s .args .n) (now (s .args .store)) (c .before .before .loop .i) (in-net c) 20 (omega arith) (s .pre .0 .room)
 
-matched-requires-2 : tie.Need-matched-requires-2 Inv-loop μ-loop
-matched-requires-2 c κs =
-    let s = c .before .before .before .before .before .before .before .before .before .before .before in
-    limits (s .args .l .widths) (s .pre .0 .laid .limits) .high-h
+ports-matched-requires : tie.Need-ports-matched-requires Inv-loop μ-loop
+ports-matched-requires c κs = let t = c .before .before in (body-fits t, t .before .before .before .before .before .pre .0 .laid .limits)
+
+headers-matched-requires : tie.Need-headers-matched-requires Inv-loop μ-loop
+headers-matched-requires c κs = let t = c .before .before .before in (body-fits t, t .before .before .before .before .before .pre .0 .laid .limits)
 
 loop-again : tie.Need-loop-again Inv-loop μ-loop
 loop-again c =
-    let m = c .before .before .before in
-    let t = m .before .before .before .before in
+    let m = c .before in
+    let t = m .before .before .before in
     let o = t .before .before .loop in
     let a = t .before .before .before .before .before .args in
     let b = now (a .store) in
-    let h = in-net t in (
+    let same = body-of (a .n) b (o .i) (in-net t) 20 (omega arith) in (
       omega arith,
       omega arith,
-      length-set (o .ports) (o .i - a .l .rules) (m .matched .result) ∙ o .inv .2,
-      length-set (o .headers) (o .i - a .l .rules) (c .matched2 .result) ∙ o .inv .3,
-      sets-more (records (a .n) b) (a .l) (o .i) (o .ports) (o .headers) (o .inv .4) (m .matched .result) (c .matched2 .result) (o .inv .0)
+      length-set (o .ports) (o .i - a .l .rules) (m .ports-matched .result) ∙ o .inv .2,
+      length-set (o .headers) (o .i - a .l .rules) (c .headers-matched .result) ∙ o .inv .3,
+      sets-more (records (a .n) b) (a .l) (o .i) (o .ports) (o .headers) (o .inv .4) (m .ports-matched .result) (c .headers-matched .result) (o .inv .0)
           (omega (arith, numbered t, o .inv .2)) (omega (arith, numbered t, o .inv .3))
-          record {
-            port = subst₂ (λ (v x : ℕ). MatchedSet (a .l .widths .p) v x (m .matched .result)) (sym (byte-of (a .n) b (o .i) 4 h (omega arith))) (sym (byte-of (a .n) b (o .i) 5 h (omega arith))) (m .matched .ensures);
-            header = subst₂ (λ (v x : ℕ). MatchedSet (a .l .widths .h) v x (c .matched2 .result)) (sym (byte-of (a .n) b (o .i) 6 h (omega arith))) (sym (byte-of (a .n) b (o .i) 7 h (omega arith))) (c .matched2 .ensures);
-          },
+          (sets-same (a .l .widths) (ofBody (bodyAt b (o .i) 20)) (m .ports-matched .result) (c .headers-matched .result)
+          record { port = m .ports-matched .ensures; header = c .headers-matched .ensures }
+          (getD (records (a .n) b) (o .i) []) (λ k lo hi. sym (same k lo hi))),
     )
 
 returns : tie.Need-returns Inv-loop μ-loop
@@ -78,22 +84,19 @@ match-rules-spec =
     μ-loop
     loop-holds
     (λ c. omega (arith, within c))
-    (λ c. omega arith)
-    (λ c. omega (arith, within (c .before)))
-    (λ c. omega (arith, within (c .before .before)))
-    (λ c. omega (arith, within (c .before .before)))
-    (λ c. omega (arith, within (c .before .before .before)))
-    matched-requires
+    (λ c. omega (arith, within c))
+    (λ c. omega (arith, within c))
+    (λ c. search needs)
+    (λ c. search needs)
+    (λ c. omega (arith, within c))
+    (λ c. omega (arith, c .before .before .before .before .loop .inv .0))
+    ports-matched-requires
+    (λ c. omega (arith, numbered (c .before .before .before)))
+    (λ c. omega (arith, numbered (c .before .before .before)))
+    headers-matched-requires
     (λ c. omega (arith, numbered (c .before .before .before .before)))
     (λ c. omega (arith, numbered (c .before .before .before .before)))
     (λ c. omega (arith, within (c .before .before .before .before)))
-    (λ c. omega (arith, within (c .before .before .before .before .before)))
-    (λ c. omega (arith, within (c .before .before .before .before .before)))
-    (λ c. omega (arith, within (c .before .before .before .before .before .before)))
-    matched-requires-2
-    (λ c. omega (arith, numbered (c .before .before .before .before .before .before .before)))
-    (λ c. omega (arith, numbered (c .before .before .before .before .before .before .before)))
-    (λ c. omega (arith, within (c .before .before .before .before .before .before .before)))
     (λ c. omega arith)
     loop-again
     returns)
