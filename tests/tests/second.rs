@@ -4,7 +4,7 @@ mod plain;
 mod worthless;
 
 use std::collections::BTreeSet;
-use wegbaro_tests::cases::patterns::{self, StepCase};
+use wegbaro_tests::cases::patterns::{self, Pair, StepCase};
 use wegbaro_tests::cases::{self, CheckCase, CommandCase, ProgramCase, RouteCase};
 use wegbaro_tests::commands::{command, Wish, FAULTS, SOUND};
 use wegbaro_tests::compare::{self, routes, Tally};
@@ -162,24 +162,27 @@ fn set_patterns_mistaken() {
     expect_all(cases.map(|case| case.run(&Second)));
 }
 
-/// How many steps there are, by hand. With n ports, OUTPUT without stars sends from n - 1 of them
-/// to drop, and from n - 2 to each other port. An ordinary port is matched by n - 1 patterns with
-/// stars, and they send there from n - 2 ports.
+/// How many steps there are, by hand. For a bit there are four pairs of a character and a digit that
+/// match, and they are those in which SET leaves the digit. Of n ports all but drop are matched by
+/// n patterns each. OUTPUT without stars sends from n - 1 ports to drop, and from n - 2 to each
+/// other port. An ordinary port is matched by n - 1 patterns with stars, and they send there from
+/// n - 2 ports.
 #[test]
 fn patterns_match_as_often_as_they_must() {
-    let steps = |cases: Vec<StepCase>| {
-        let pairs = cases.iter().flat_map(|case| &case.pairs);
-        pairs.filter(|pair| pair.is_step).count()
-    };
+    fn steps(cases: Vec<StepCase>) -> impl Iterator<Item = Pair> {
+        cases.into_iter().flat_map(|case| case.pairs).filter(|pair| pair.is_step)
+    }
     for h in 1..=6 {
-        assert_eq!(steps(patterns::headers(h)), 4_usize.pow(h.into()), "header width {h}");
-        assert_eq!(steps(patterns::sets(h, 0)), 6_usize.pow(h.into()), "header width {h}");
+        let as_before = |pair: &Pair| pair.to == pair.from + (4 << h);
+        let left = steps(patterns::sets(h, 0)).filter(as_before);
+        assert_eq!(steps(patterns::headers(h)).count(), 4_usize.pow(h.into()), "width {h}");
+        assert_eq!(left.count(), 4_usize.pow(h.into()), "width {h}");
     }
     for p in 2..=4 {
         let n = 1 << p;
         let sent = (n - 1) + (n - 1) * (n - 2) + (n - 1) * (n - 2) * (n - 2);
-        assert_eq!(steps(patterns::ports(p)), n * n - n, "port width {p}");
-        assert_eq!(steps(patterns::outputs(p)), sent, "port width {p}");
+        assert_eq!(steps(patterns::ports(p)).count(), (n - 1) * n, "port width {p}");
+        assert_eq!(steps(patterns::outputs(p)).count(), sent, "port width {p}");
     }
 }
 

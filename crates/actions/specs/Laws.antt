@@ -7,5 +7,5 @@ pub mod Chosen
 pub mod CopiesInOrder
 pub mod GoodActions
 pub mod GoodRecords
-pub mod MatchSets
+pub mod RuleSets
 pub mod SentCopies

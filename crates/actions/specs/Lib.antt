@@ -3,7 +3,7 @@ pub mod Chosen
 pub mod Actions
 pub mod Computing
 pub mod ByPlace
-pub mod MatchSets
+pub mod RuleSets
 pub mod Wards
 pub mod Adds
 pub mod Sent

@@ -12,8 +12,8 @@ ghost use Rattle.records.specs.Record.{at, mostRules, records};
 ghost use Rattle.records.specs.Widths.{withinLimits};
 ghost use Rattle.records.specs.Matched.{MatchedSet};
 ghost use Rattle.actions.specs.Chosen.{ruleMatches};
-ghost use Rattle.actions.specs.ByPlace.{arrival, ofBody, rankOf, ActsAt};
-ghost use Rattle.actions.specs.MatchSets.{MatchSets, RuleSets, Within};
+ghost use Rattle.actions.specs.ByPlace.{arrival, FrameWithin, ofBody, rankOf, ActsAt};
+ghost use Rattle.actions.specs.RuleSets.{SetsOf, RuleSets};
 ghost use Rattle.scan.specs.Stored.{Stored};
 
 // The ports that the rule of that body matches.
@@ -32,8 +32,8 @@ fn headers_matched(w: Widths, body: &[u8]) -> u64
     matched(w.h, body[5], body[6])
 }
 
-// Works out once what each rule's patterns match: its ports and its headers, at its number among the rules.
-pub fn match_rules(
+// Works out what the patterns of each rule match, for the rule's number among the rules: a set of ports and one of headers.
+pub fn rule_sets(
     store: &[u8],
     n: usize,
     l: Layout,
@@ -59,8 +59,8 @@ pub fn match_rules(
 
 // The rule of that body matches the arrival, where ports and headers are what its patterns match.
 fn rule_matches(w: Widths, body: &[u8], ports: u64, headers: u64, sw: u8, p: u8, h: u8) -> bool
-    requires { ⌜ (length (now body) ≡ 20) × MatchSets w (ofBody (now body)) ports headers ⌝ }
-    requires { ⌜ Within w p h ⌝ }
+    requires { ⌜ (length (now body) ≡ 20) × SetsOf w (ofBody (now body)) ports headers ⌝ }
+    requires { ⌜ FrameWithin w p h ⌝ }
     ensures { λ r. ⌜ r ≡ ruleMatches w (arrival sw p h) (ofBody (now (body .entry))) ⌝ }
 {
     if body[0] != sw {
@@ -74,8 +74,8 @@ fn rule_matches(w: Widths, body: &[u8], ports: u64, headers: u64, sw: u8, p: u8,
 
 // The rank of the rule of that body: 0 where it does not match, else one above its priority.
 fn rank(w: Widths, body: &[u8], ports: u64, headers: u64, sw: u8, p: u8, h: u8) -> u32
-    requires { ⌜ (length (now body) ≡ 20) × MatchSets w (ofBody (now body)) ports headers ⌝ }
-    requires { ⌜ Within w p h ⌝ }
+    requires { ⌜ (length (now body) ≡ 20) × SetsOf w (ofBody (now body)) ports headers ⌝ }
+    requires { ⌜ FrameWithin w p h ⌝ }
     ensures { λ r. ⌜ r ≡ rankOf w (arrival sw p h) (ofBody (now (body .entry))) ⌝ }
 {
     if rule_matches(w, body, ports, headers, sw, p, h) {
@@ -86,6 +86,7 @@ fn rank(w: Widths, body: &[u8], ports: u64, headers: u64, sw: u8, p: u8, h: u8) 
 }
 
 // The place of the record that acts: of the matching rules the first with the highest priority, else the switch's miss.
+// What the patterns of each rule match is given, as by rule_sets.
 pub fn choose(
     store: &[u8],
     n: usize,
@@ -97,7 +98,7 @@ pub fn choose(
     h: u8,
 ) -> usize
     requires { ⌜ Stored n l (now store) × RuleSets (records n (now store)) l (now ports) (now headers) ⌝ }
-    requires { ⌜ (sw < 2 ^ l .widths .w) × Within (l .widths) p h ⌝ }
+    requires { ⌜ (sw < 2 ^ l .widths .w) × FrameWithin (l .widths) p h ⌝ }
     ensures { λ r. ⌜ ActsAt (records n (now (store .entry))) l (arrival sw p h) r ⌝ }
 {
     let w = l.widths;

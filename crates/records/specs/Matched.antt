@@ -12,7 +12,7 @@ pub record MatchedSet (k value care set : ℕ) : Type 0 where
   pub numbers : (x : ℕ) → x < 2 ^ k → bitOf set x ≡ matches k value care x
   pub only : set < 2 ^ (2 ^ k)
 
--- a set with one bit more, number i, by its case: the numbers with it 0, with it 1, or both
+-- the set for one bit more, bit i, by its case: the numbers with bit i 0, with bit i 1, or both
 abbrev pub widened : Ternary → ℕ → ℕ → ℕ
 widened Fixed0 set i = set
 widened Fixed1 set i = set * 2 ^ (2 ^ i)

@@ -1,6 +1,6 @@
 // One step of a packet state.
 use actions::choice::choose;
-use actions::choice::match_rules;
+use actions::choice::rule_sets;
 use actions::run;
 use actions::state::direction;
 use actions::state::header;
@@ -22,7 +22,7 @@ ghost use Rattle.records.specs.Record.{Net, records};
 ghost use Rattle.records.specs.Widths.{states, withinLimits, widthsOf};
 ghost use Rattle.steps.specs.Step.{external};
 ghost use Rattle.actions.specs.ByPlace.{arrival};
-ghost use Rattle.actions.specs.MatchSets.{RuleSets};
+ghost use Rattle.actions.specs.RuleSets.{RuleSets};
 ghost use Rattle.actions.specs.Adds.{lineBytes, Added};
 ghost use Rattle.steps.specs.Filled.{Filled};
 ghost use Rattle.actions.specs.Sent.{Sends};
@@ -32,7 +32,7 @@ ghost use Rattle.scan.specs.Stored.{Stored};
 
 pub mod links;
 
-// Adds what an arrival steps to.
+// Adds what an arrival steps to, where the patterns of each rule match these ports and headers.
 fn relay(
     work: &mut [u8],
     line: usize,
@@ -59,7 +59,7 @@ fn relay(
     run(work, line, w, sw, p, &store[a..e], h);
 }
 
-// Adds the states that s steps to, if it arrives.
+// Adds the states that s steps to, if it arrives, where the patterns of each rule match these ports and headers.
 fn relay_state(
     work: &mut [u8],
     line: usize,
@@ -103,7 +103,7 @@ fn fill_arriving(work: &mut [u8], base: usize, store: &[u8], n: usize, l: Layout
     let bytes = states / 8;
     let mut ports = [0u64; MOST_RULES];
     let mut headers = [0u64; MOST_RULES];
-    match_rules(store, n, l, &mut ports, &mut headers);
+    rule_sets(store, n, l, &mut ports, &mut headers);
     let mut s: usize = 0;
     while s < states {
         let line = base + s * bytes;

@@ -54,8 +54,8 @@ module _ (w : Widths) (sw p h i : ℕ) (b : List ℕ) (k : ActionKind) (e : acti
   }
 
   -- its pattern is good
-  pattern-is : (n : ℕ) → (actionKind (at (ofBody b) (9 + 3 * i)) ≡ k → patternGood n (at (ofBody b) (10 + 3 * i)) (at (ofBody b) (11 + 3 * i)) ≡ true) → patternGood n value care ≡ true
-  pattern-is n g = subst₂ (λ (v x : ℕ). patternGood n v x ≡ true) (value-is b i) (care-is b i) (g is-kind)
+  pattern-is : (actionKind (at (ofBody b) (9 + 3 * i)) ≡ k → patternGood (w .p) (at (ofBody b) (10 + 3 * i)) (at (ofBody b) (11 + 3 * i)) ≡ true) → patternGood (w .p) value care ≡ true
+  pattern-is g = subst₂ (λ (v x : ℕ). patternGood (w .p) v x ≡ true) (value-is b i) (care-is b i) (g is-kind)
 
 output-requires : tie.Need-output-requires
 unfolding actionKind
@@ -63,7 +63,7 @@ output-requires c κs =
     let s = c .before .before .before .before .before .before .before in
     let a = s .args in
     let b = now (a .body) in
-    (s .pre .0 .0, pattern-is (a .w) (a .sw) (a .p) (a .h) (a .i) b kOutput (ap actionKind (c .before .match .keys1)) (a .w .p) (output-pattern (a .w) (ofBody b) (a .i) (s .pre .1 .1)))
+    (s .pre .0 .0, pattern-is (a .w) (a .sw) (a .p) (a .h) (a .i) b kOutput (ap actionKind (c .before .match .keys1)) (output-pattern (a .w) (ofBody b) (a .i) (s .pre .1 .1)))
 
 returns : tie.Need-returns
 unfolding actionKind

@@ -5,7 +5,8 @@ use mathlib.Core.Bool.{Bool, true, false, _&&_}
 use native.Mathlib.Omega.{arith}
 use Rattle.records.specs.State.{ordinary}
 use Rattle.records.specs.Pattern.{matches}
-use Rattle.records.specs.Laws.Limits.{limits, below-64}
+use Rattle.records.specs.Laws.Limits.{limits}
+use Rattle.records.specs.Laws.Matched.{below-64}
 use Rattle.actions.specs.Actions.{departing}
 use Rattle.actions.specs.Laws.AddedBits.{added-none}
 use Rattle.actions.specs.Laws.SentCopies.{port-passed, port-offered}

@@ -35,11 +35,8 @@ module _ (w : Widths) (r : Rec) (i : ℕ) (U : UsedAction w r i) where
       sym (ap (λ (t : Bool). elim t as (λ x. Bool) [ true ↦ usedGood w kindOf value care (eqb (suc i) (at r 8)) | false ↦ unusedGood kindOf value care ]) (lt-ltb i (at r 8) (U .used)))
       ∙ U .good
 
-  used-as : (k : ActionKind) → actionKind kindOf ≡ k → usedFields k w value care (eqb (suc i) (at r 8)) ≡ true
-  used-as k e = sym (ap (λ (x : ActionKind). usedFields x w value care (eqb (suc i) (at r 8))) e) ∙ used-good
-
   pub output-pattern : actionKind (at r (9 + 3 * i)) ≡ kOutput → patternGood (w .p) (at r (10 + 3 * i)) (at r (11 + 3 * i)) ≡ true
-  output-pattern e = used-as kOutput e
+  output-pattern e = sym (ap (λ (k : ActionKind). usedFields k w value care (eqb (suc i) (at r 8))) e) ∙ used-good
 
 -- the used actions of a record with good actions
 module _ (w : Widths) (r : Rec) (good : actionsGood w r ≡ true) where

@@ -1,9 +1,7 @@
 -- What widths within their limits are, part by part.
 use mathlib.Core.Path.{_≡_}
 use mathlib.Core.Bool.{true}
-use Prim.Native.Nat.{ℕ, _^_, _≤_, _<_}
-use native.Mathlib.Omega.{arith}
-use lib.Pow.{pow-mono}
+use Prim.Native.Nat.{_≤_}
 use borrow.Author.Tests.{leb-true}
 use Rattle.planes.specs.Laws.Tests.{both}
 use Rattle.records.specs.Widths.{width, withinLimits}
@@ -35,7 +33,3 @@ limits w e =
       high-w = leb-true _ _ (sw .1);
       bits = leb-true _ _ (n .1);
     }
-
--- a number of at most 6 bits is below 64, as headers and ports are
-pub below-64 : (k x : ℕ) → k ≤ 6 → x < 2 ^ k → x < 64
-below-64 k x h l = omega (arith, pow-mono {i = k} {j = 6} h)

@@ -1,7 +1,7 @@
 -- The numbers that a pattern matches, worked out by one bit after the other.
 use mathlib.Core.Path.{_≡_, refl, sym, ap, ap₂, _∙_}
 use mathlib.Core.Bool.{Bool, true, false, not, _&&_, _||_, or-false}
-use Prim.Native.Nat.{ℕ, suc, _+_, _-_, _*_, _^_, _<_}
+use Prim.Native.Nat.{ℕ, suc, _+_, _-_, _*_, _^_, _<_, _≤_}
 use native.Mathlib.Nat.{pow-suc}
 use native.Mathlib.Decide.{decLt}
 use native.Mathlib.Omega.{arith}
@@ -14,6 +14,17 @@ use Rattle.records.specs.Matched.{MatchedSet, widened}
 use Rattle.records.specs.Laws.Patterns.{matches-same}
 use Rattle.records.specs.declared.pattern.Ternary.{Ternary}
 use Rattle.records.specs.declared.pattern.Ternary.the-variants.{Fixed0, Fixed1, Star}
+
+-- a number of at most 6 bits, as ports and headers are, has its bit in a set
+pub below-64 : (k x : ℕ) → k ≤ 6 → x < 2 ^ k → x < 64
+below-64 k x h l = omega (arith, pow-mono {i = k} {j = 6} h)
+
+either : (b m : Bool) → ((not b && m) || (b && m)) ≡ m
+either true m = refl
+either false m = or-false m
+
+doubled : (i : ℕ) → 2 ^ (2 ^ suc i) ≡ 2 ^ (2 ^ i + 2 ^ i)
+doubled i = let e : 2 ^ suc i ≡ 2 ^ i + 2 ^ i = omega (arith, pow-suc 2 i) in ap (λ (n : ℕ). 2 ^ n) e
 
 module _ (value care : ℕ) where
   -- with no bit, the one number matches
@@ -61,24 +72,17 @@ module _ (value care : ℕ) where
         go (yes l) = in-lower x l
         go (no n) = in-upper x (x - 2 ^ i) (omega (arith, n)) (omega (arith, n, pow-suc 2 i))
 
-    either : (b m : Bool) → ((not b && m) || (b && m)) ≡ m
-    either true m = refl
-    either false m = or-false m
-
     widened-bit : (t : Ternary) (x : ℕ) → x < 2 ^ suc i → bitOf (widened t set i) x ≡ (agrees t (bitOf x i) && matches i value care x)
     unfolding Halves
     widened-bit Fixed0 x h = halves x h .0
     widened-bit Fixed1 x h = halves x h .1
     widened-bit Star x h = bit-or set upper x ∙ ap₂ _||_ (halves x h .0) (halves x h .1) ∙ either (bitOf x i) (matches i value care x)
 
-    doubled : 2 ^ (2 ^ suc i) ≡ 2 ^ (2 ^ i + 2 ^ i)
-    doubled = let e : 2 ^ suc i ≡ 2 ^ i + 2 ^ i = omega (arith, pow-suc 2 i) in ap (λ (n : ℕ). 2 ^ n) e
-
     set-lt : set < 2 ^ (2 ^ suc i)
-    set-lt = omega (arith, doubled, M .only, pow-mono {i = 2 ^ i} {j = 2 ^ i + 2 ^ i} (omega arith))
+    set-lt = omega (arith, doubled i, M .only, pow-mono {i = 2 ^ i} {j = 2 ^ i + 2 ^ i} (omega arith))
 
     upper-lt : upper < 2 ^ (2 ^ suc i)
-    upper-lt = omega (arith, doubled, shl-lt {a = set} (2 ^ i) (2 ^ i) (M .only))
+    upper-lt = omega (arith, doubled i, shl-lt {a = set} (2 ^ i) (2 ^ i) (M .only))
 
     widened-lt : (t : Ternary) → widened t set i < 2 ^ (2 ^ suc i)
     widened-lt Fixed0 = set-lt

@@ -31,6 +31,31 @@ written-iff Fixed1 true = (λ f. absurd (f refl), λ e. absurd (true≢false e))
 written-iff Fixed1 false = (λ f. refl, λ e f. true≢false f)
 written-iff Star b = (λ f. f refl, λ e. absurd e)
 
+-- a bit by its bits of care and value
+abbrev byBits : Bool → Bool → Ternary
+byBits c v = cond c (cond v Fixed1 Fixed0) Star
+
+fixed-value : (c v b : Bool) → FixedToOther (byBits c v) b → written (byBits c v) b ≡ v
+fixed-value true true b o = refl
+fixed-value true false b o = refl
+fixed-value false v b o = absurd o
+
+isStar : Ternary → Bool
+isStar Fixed0 = false
+isStar Fixed1 = false
+isStar Star = true
+
+fixed : (c v : Bool) → c ≡ true → byBits c v ≡ Star → ⊥
+unfolding isStar
+fixed true true c e = false≢true (ap isStar e)
+fixed true false c e = false≢true (ap isStar e)
+fixed false v c e = false≢true c
+
+full-bit : (k i : ℕ) → i < k → bitOf (2 ^ k - 1) i ≡ true
+full-bit k i h =
+    let e : 2 ^ k - 1 ≡ (2 ^ k - 1) - 0 = omega arith in
+    ap (λ (n : ℕ). bitOf n i) e ∙ bit-not k 0 i (pow-pos k) h ∙ ap not (bit-zero i)
+
 module _ (value care x : ℕ) where
   abbrev bitAgrees : ℕ → Bool
   bitAgrees i = agrees (ternary value care i) (bitOf x i)
@@ -83,7 +108,7 @@ module _ (value care x : ℕ) where
   digit false = refl
 
   -- each bit after SET
-  pub put-bit : (k i : ℕ) → i < k → bitOf (putBits k value care x) i ≡ written (ternary value care i) (bitOf x i)
+  put-bit : (k i : ℕ) → i < k → bitOf (putBits k value care x) i ≡ written (ternary value care i) (bitOf x i)
   unfolding putBits
   put-bit zero i h = absurd (not-suc-le-zero h)
   put-bit (suc k) i h = ap (λ (m : ℕ). bitOf m i) (weight (bitWritten k) k (putBits k value care x)) ∙ go (ℕ-discrete i k) (λ l. put-bit k i l)
@@ -102,48 +127,27 @@ module _ (value care x : ℕ) where
     λ o e. written-iff (ternary value care i) (bitOf x i) .1 o (sym (put-bit k i h) ∙ e),
   )
 
-  fixed-value : (c v b : Bool) → FixedToOther (cond c (cond v Fixed1 Fixed0) Star) b → written (cond c (cond v Fixed1 Fixed0) Star) b ≡ v
-  fixed-value true true b o = refl
-  fixed-value true false b o = refl
-  fixed-value false v b o = absurd o
-
   -- and gives these the pattern's value
   pub put-gives : (k i : ℕ) → i < k → FixedToOther (ternary value care i) (bitOf x i) → bitOf (putBits k value care x) i ≡ bitOf value i
   unfolding ternary
   put-gives k i h o = put-bit k i h ∙ fixed-value (bitOf care i) (bitOf value i) (bitOf x i) o
 
--- a pattern whose care has every bit of the width
+-- which care has no star
 module _ (k value care : ℕ) (within : care < 2 ^ k) where
-  is-star : Ternary → Bool
-  is-star Fixed0 = false
-  is-star Fixed1 = false
-  is-star Star = true
-
-  fixed : (c v : Bool) → c ≡ true → cond c (cond v Fixed1 Fixed0) Star ≡ Star → ⊥
-  unfolding is-star
-  fixed true true c e = false≢true (ap is-star e)
-  fixed true false c e = false≢true (ap is-star e)
-  fixed false v c e = false≢true c
-
-  full-bit : (i : ℕ) → i < k → bitOf (2 ^ k - 1) i ≡ true
-  full-bit i h =
-      let e : 2 ^ k - 1 ≡ (2 ^ k - 1) - 0 = omega arith in
-      ap (λ (n : ℕ). bitOf n i) e ∙ bit-not k 0 i (pow-pos k) h ∙ ap not (bit-zero i)
-
-  -- it has every bit exactly if none is a star
+  -- care has every bit of the width exactly if no bit is a star
   pub starless-iff : care ≡ 2 ^ k - 1 ↔ ((i : ℕ) → i < k → ternary value care i ≡ Star → ⊥)
   unfolding ternary
   starless-iff = (
-    λ e i h. fixed (bitOf care i) (bitOf value i) (ap (λ (n : ℕ). bitOf n i) e ∙ full-bit i h),
+    λ e i h. fixed (bitOf care i) (bitOf value i) (ap (λ (n : ℕ). bitOf n i) e ∙ full-bit k i h),
     λ f. bits-ext care (2 ^ k - 1) (λ i. go f i (decLt i k)),
   )
     where
       cared : (i : ℕ) → (ternary value care i ≡ Star → ⊥) → (c : Bool) → bitOf care i ≡ c → c ≡ true
       cared i n true e = refl
-      cared i n false e = absurd (n (ap (λ (c : Bool). cond c (cond (bitOf value i) Fixed1 Fixed0) Star) e))
+      cared i n false e = absurd (n (ap (λ (c : Bool). byBits c (bitOf value i)) e))
 
       go : ((i : ℕ) → i < k → ternary value care i ≡ Star → ⊥) → (i : ℕ) → Dec (i < k) → bitOf care i ≡ bitOf (2 ^ k - 1) i
-      go f i (yes h) = cared i (f i h) (bitOf care i) refl ∙ sym (full-bit i h)
+      go f i (yes h) = cared i (f i h) (bitOf care i) refl ∙ sym (full-bit k i h)
       go f i (no h) = bit-above k care i within (omega (arith, h)) ∙ sym (bit-above k (2 ^ k - 1) i (omega (arith, pow-pos k)) (omega (arith, h)))
 
 -- what patternGood says

@@ -27,8 +27,8 @@ abbrev μ-loop : tie.MeasureT-loop
 states-requires : tie.Need-states-requires Inv-loop μ-loop
 states-requires c κs = limits (c .before .before .before .args .l .widths) (c .before .before .before .pre .1 .laid .limits) .bits
 
-match-rules-requires : tie.Need-match-rules-requires Inv-loop μ-loop
-match-rules-requires c κs = (c .before .before .before .before .before .before .pre .1, (length-replicate {A = ℕ} mostRules 0, length-replicate {A = ℕ} mostRules 0))
+rule-sets-requires : tie.Need-rule-sets-requires Inv-loop μ-loop
+rule-sets-requires c κs = (c .before .before .before .before .before .before .pre .1, (length-replicate {A = ℕ} mostRules 0, length-replicate {A = ℕ} mostRules 0))
 
 loop-holds : tie.Need-loop-holds Inv-loop μ-loop
 loop-holds c = (omega arith, made-none _ _ _ _)
@@ -56,7 +56,7 @@ relay-state-requires c κs =
     let i = k .before .before in
     let m = i .before .before in
     let n = m .before .before .before in
-    (omega (arith, inside i, bytes-are n, k .clear .ensures .len), (n .before .before .before .before .pre .1, m .match-rules .ensures))
+    (omega (arith, inside i, bytes-are n, k .clear .ensures .len), (n .before .before .before .before .pre .1, m .rule-sets .ensures))
 
 loop-again : tie.Need-loop-again Inv-loop μ-loop
 loop-again c =
@@ -89,7 +89,7 @@ fill-arriving-spec =
     Inv-loop
     μ-loop
     states-requires
-    match-rules-requires
+    rule-sets-requires
     loop-holds
     (λ c. omega (arith, inside c))
     (λ c. omega (arith, inside c))

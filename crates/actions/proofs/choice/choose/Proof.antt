@@ -11,7 +11,7 @@ use Rattle.actions.specs.ByPlace.{arrival, ofBody}
 use Rattle.actions.specs.Laws.Bodies.{bodyAt, body-of, body-length, rank-same}
 use Rattle.actions.proofs.SearchedRules.{Leading, leading-none, leading-takes, leading-stays, leading-all}
 use Rattle.actions.specs.Laws.GoodRecords.{in-store}
-use Rattle.actions.specs.Laws.MatchSets.{sets-same}
+use Rattle.actions.specs.Laws.RuleSets.{sets-same}
 use Rattle.actions.proofs.choice.choose.Statement.{statement}
 use Rattle.actions.proofs.choice.choose.Tie as tie
 

@@ -7,9 +7,10 @@ use native.Mathlib.Omega.{arith}
 use lib.Dec.{eqb}
 use lib.ListN.{getD}
 use Rattle.planes.specs.Bit.{bitOf}
-use Rattle.records.specs.Laws.Limits.{limits, below-64}
+use Rattle.records.specs.Laws.Limits.{limits}
+use Rattle.records.specs.Laws.Matched.{below-64}
 use Rattle.actions.specs.ByPlace.{ofBody}
-use Rattle.actions.specs.Laws.MatchSets.{match-by-sets}
+use Rattle.actions.specs.Laws.RuleSets.{match-by-sets}
 use Rattle.actions.proofs.choice.rule_matches.Statement.{statement}
 use Rattle.actions.proofs.choice.rule_matches.Tie as tie
 

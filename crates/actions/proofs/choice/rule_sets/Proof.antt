@@ -7,12 +7,12 @@ use native.Mathlib.Omega.{arith}
 use lib.ListN.{length, getD, length-set}
 use Rattle.records.specs.Record.{mostRules, records}
 use Rattle.actions.specs.ByPlace.{ofBody}
-use Rattle.actions.specs.MatchSets.{SetsBefore}
+use Rattle.actions.specs.RuleSets.{SetsBefore}
 use Rattle.actions.specs.Laws.Bodies.{bodyAt, body-of, body-length}
 use Rattle.actions.specs.Laws.GoodRecords.{in-store}
-use Rattle.actions.specs.Laws.MatchSets.{sets-same, sets-more}
-use Rattle.actions.proofs.choice.match_rules.Statement.{statement}
-use Rattle.actions.proofs.choice.match_rules.Tie as tie
+use Rattle.actions.specs.Laws.RuleSets.{sets-same, sets-more}
+use Rattle.actions.proofs.choice.rule_sets.Statement.{statement}
+use Rattle.actions.proofs.choice.rule_sets.Tie as tie
 
 -- the rules before place i are worked out
 abbrev Inv-loop : tie.InvT-loop
@@ -76,8 +76,8 @@ returns c =
     let o = c .before .before .loop in
     λ k h lo. o .inv .4 k (omega (arith, o .inv .1)) lo
 
-pub match-rules-spec : {M : Type 1} → statement M
-match-rules-spec =
+pub rule-sets-spec : {M : Type 1} → statement M
+rule-sets-spec =
     tie.close
     (tie.spec
     Inv-loop

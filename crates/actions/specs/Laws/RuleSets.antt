@@ -1,4 +1,4 @@
--- A rule matches an arrival by what its patterns match.
+-- Matching by the sets of a rule.
 use mathlib.Core.Path.{_≡_, sym, ap₂, subst₂}
 use mathlib.Core.Bool.{Bool, _&&_}
 use mathlib.Core.List.{List, []}
@@ -14,17 +14,18 @@ use Rattle.records.specs.Matched.{MatchedSet}
 use Rattle.records.specs.declared.Widths.{Widths}
 use Rattle.scan.specs.declared.Layout.{Layout}
 use Rattle.actions.specs.Chosen.{ruleMatches}
-use Rattle.actions.specs.ByPlace.{arrival}
-use Rattle.actions.specs.MatchSets.{MatchSets, SetsBefore, Within}
+use Rattle.actions.specs.ByPlace.{arrival, FrameWithin}
+use Rattle.actions.specs.RuleSets.{SetsOf, SetsBefore}
 use Rattle.actions.specs.Laws.Bodies.{SameTo}
 
-module _ (w : Widths) (r : Rec) (ports headers : ℕ) (S : MatchSets w r ports headers) where
-  pub match-by-sets : (sw p h : ℕ) → Within w p h → ruleMatches w (arrival sw p h) r ≡ (eqb (at r 1) sw && bitOf ports p && bitOf headers h)
+module _ (w : Widths) (r : Rec) (ports headers : ℕ) (S : SetsOf w r ports headers) where
+  -- it matches an arrival exactly if its switch is there, and port and header are in its sets
+  pub match-by-sets : (sw p h : ℕ) → FrameWithin w p h → ruleMatches w (arrival sw p h) r ≡ (eqb (at r 1) sw && bitOf ports p && bitOf headers h)
   unfolding ruleMatches
   match-by-sets sw p h W = ap₂ (λ (x y : Bool). eqb (at r 1) sw && x && y) (sym (S .port .numbers p (W .port))) (sym (S .header .numbers h (W .header)))
 
-  -- and so does a record with the same bytes
-  pub sets-same : (q : Rec) → SameTo 20 q r → MatchSets w q ports headers
+  -- a record with the same bytes has the same sets
+  pub sets-same : (q : Rec) → SameTo 20 q r → SetsOf w q ports headers
   sets-same q same = record {
     port = subst₂ (λ (v c : ℕ). MatchedSet (w .p) v c ports) (sym (same 4 (omega arith) (omega arith))) (sym (same 5 (omega arith) (omega arith))) (S .port);
     header = subst₂ (λ (v c : ℕ). MatchedSet (w .h) v c headers) (sym (same 6 (omega arith) (omega arith))) (sym (same 7 (omega arith) (omega arith))) (S .header);
@@ -35,7 +36,7 @@ module _ (net : Net) (l : Layout) (i : ℕ) (ports headers : List ℕ) (before :
   abbrev j : ℕ
   j = i - l .rules
 
-  pub sets-more : (a b : ℕ) → l .rules ≤ i → i - l .rules < length ports → i - l .rules < length headers → MatchSets (l .widths) (getD net i []) a b
+  pub sets-more : (a b : ℕ) → l .rules ≤ i → i - l .rules < length ports → i - l .rules < length headers → SetsOf (l .widths) (getD net i []) a b
       → SetsBefore (i + 1) net l (set ports (i - l .rules) a) (set headers (i - l .rules) b)
   sets-more a b from inP inH S =
       below-more (λ (k : ℕ). l .rules ≤ k → Stand k (getD (set ports j a) (k - l .rules) 0) (getD (set headers j b) (k - l .rules) 0)) i
@@ -44,4 +45,4 @@ module _ (net : Net) (l : Layout) (i : ℕ) (ports headers : List ℕ) (before :
       (λ lo. subst₂ (Stand i) (sym (getD-set-same ports j a 0 inP)) (sym (getD-set-same headers j b 0 inH)) S)
     where
       Stand : ℕ → ℕ → ℕ → Type 0
-      Stand k x y = MatchSets (l .widths) (getD net k []) x y
+      Stand k x y = SetsOf (l .widths) (getD net k []) x y
