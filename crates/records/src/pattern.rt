@@ -33,6 +33,7 @@ fn widened(t: Ternary, set: u64, i: u8) -> u64
     requires { ⌜ (i < 6) × (set < 2 ^ (2 ^ i)) ⌝ }
     ensures { λ r. ⌜ r ≡ widened t set i ⌝ }
 {
+    // The same numbers with bit i 1: each is 2^i higher, and so is its bit.
     let upper = set << (1usize << i);
     match t {
         Ternary::Fixed0 => set,
