@@ -10,4 +10,5 @@ pub mod Fields
 pub mod Search
 pub mod NetK
 pub mod RuleA
+pub mod PatternTable
 pub mod Laws

@@ -2,12 +2,12 @@
 use mathlib.Core.Path.{_≡_, sym, _∙_}
 use mathlib.Core.Bool.{true, _&&_}
 use mathlib.Core.List.{List, []}
-use Prim.Native.Nat.{ℕ, _<_, _≤_}
+use Prim.Native.Nat.{ℕ, _+_, _-_, _*_, _<_, _≤_}
 use native.Mathlib.Decide.{decLt}
 use native.Mathlib.Omega.{arith}
-use lib.ListN.{getD}
+use lib.ListN.{length, getD}
 use Rattle.planes.specs.Laws.Tests.{and-left, both}
-use Rattle.records.specs.Record.{Net, at, records}
+use Rattle.records.specs.Record.{Net, at, mostRules, records}
 use Rattle.records.specs.Fields.{zeros, pointGood, actionsGood, fieldsGood}
 use Rattle.records.specs.Laws.Fields.{link-fields, miss-actions, rule-actions}
 use Rattle.records.specs.Laws.Records.{length-records}
@@ -22,6 +22,17 @@ module _ (n : ℕ) (l : Layout) (s : List ℕ) (st : Stored n l s) where
 
   pub in-store : l .nodes ≤ n
   in-store = omega (arith, st .laid .within, length-records n s)
+
+  -- a record before the nodes is one of the n, and the store has the whole of it
+  pub record-in : (i : ℕ) → i < l .nodes → i < n
+  record-in i h = omega (arith, in-store)
+
+  pub record-room : (i : ℕ) → i < l .nodes → i * 24 + 24 ≤ length s
+  record-room i h = omega (arith, record-in i h, st .room)
+
+  -- a rule's number among the rules
+  pub rule-number : (i : ℕ) → i < l .nodes → i - l .rules < mostRules
+  rule-number i h = omega (arith, st .laid .few-rules)
 
   -- the fields of a link, and the actions of a record that may act
   pub link-good : (i : ℕ) → 1 ≤ i → i < l .misses

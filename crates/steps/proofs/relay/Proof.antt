@@ -12,7 +12,7 @@ use Rattle.actions.specs.ByPlace.{arrival, ofBody}
 use Rattle.actions.specs.Laws.AddedBits.{added-none}
 use Rattle.actions.specs.Laws.Bodies.{bodyAt, body-of, body-is, body-length, sent-same}
 use Rattle.actions.specs.Laws.GoodActions.{few-actions}
-use Rattle.actions.specs.Laws.GoodRecords.{in-store, actions-good}
+use Rattle.actions.specs.Laws.GoodRecords.{record-in, actions-good}
 use Rattle.steps.proofs.NextStates.{dropped, one-acts}
 use Rattle.steps.proofs.relay.Statement.{statement}
 use Rattle.steps.proofs.relay.Tie as tie
@@ -32,7 +32,7 @@ choose-requires c κs =
 within : (c : tie.After-choose) → c .choose .result < c .before .before .before .before .before .args .n
 within c =
     let s = c .before .before .before .before .before in
-    omega (arith, c .choose .ensures .high, in-store (s .args .n) (s .args .l) (now (s .args .store)) (s .pre .1 .0))
+    record-in (s .args .n) (s .args .l) (now (s .args .store)) (s .pre .1 .0) (c .choose .result) (c .choose .ensures .high)
 
 run-requires : tie.Need-run-requires
 run-requires c κs =

@@ -10,7 +10,7 @@ use Rattle.records.specs.Record.{mostRules, records}
 use Rattle.actions.specs.ByPlace.{arrival, ofBody}
 use Rattle.actions.specs.Laws.Bodies.{bodyAt, body-of, body-length, rank-same}
 use Rattle.actions.proofs.SearchedRules.{Leading, leading-none, leading-takes, leading-stays, leading-all}
-use Rattle.actions.specs.Laws.GoodRecords.{in-store}
+use Rattle.actions.specs.Laws.GoodRecords.{in-store, record-in, record-room, rule-number}
 use Rattle.actions.specs.Laws.RuleSets.{sets-same}
 use Rattle.actions.proofs.choice.choose.Statement.{statement}
 use Rattle.actions.proofs.choice.choose.Tie as tie
@@ -32,18 +32,15 @@ loop-holds c =
     let s = c .before .before .before in
     leading-none (s .args .n) (s .args .l) (now (s .args .store)) (s .pre .0 .0) (arrival (s .args .sw) (s .args .p) (s .args .h)) (s .pre .1 .0)
 
--- the store has the whole of record i
+-- record i is in the store, and its sets are there
 in-net : (c : tie.Then1 Inv-loop μ-loop) → c .before .before .loop .i < c .before .before .before .before .before .before .args .n
-in-net c =
-    let s = c .before .before .before .before .before .before in
-    omega (arith, in-store (s .args .n) (s .args .l) (now (s .args .store)) (s .pre .0 .0))
+in-net c = let s = c .before .before .before .before .before .before in record-in (s .args .n) (s .args .l) (now (s .args .store)) (s .pre .0 .0) (c .before .before .loop .i) (c .if1 .taken)
 
 within : (c : tie.Then1 Inv-loop μ-loop) → c .before .before .loop .i * 24 + 24 ≤ length (now (c .before .before .before .before .before .before .args .store))
-within c = omega (arith, in-net c, c .before .before .before .before .before .before .pre .0 .0 .room)
+within c = let s = c .before .before .before .before .before .before in record-room (s .args .n) (s .args .l) (now (s .args .store)) (s .pre .0 .0) (c .before .before .loop .i) (c .if1 .taken)
 
--- and the sets of its rule are there
 numbered : (c : tie.Then1 Inv-loop μ-loop) → c .before .before .loop .i - c .before .before .before .before .before .before .args .l .rules < mostRules
-numbered c = omega (arith, c .before .before .before .before .before .before .pre .0 .0 .laid .few-rules)
+numbered c = let s = c .before .before .before .before .before .before in rule-number (s .args .n) (s .args .l) (now (s .args .store)) (s .pre .0 .0) (c .before .before .loop .i) (c .if1 .taken)
 
 rank-requires : tie.Need-rank-requires Inv-loop μ-loop
 rank-requires c κs =

@@ -9,7 +9,7 @@ use Rattle.records.specs.Record.{mostRules, records}
 use Rattle.actions.specs.ByPlace.{ofBody}
 use Rattle.actions.specs.RuleSets.{SetsBefore}
 use Rattle.actions.specs.Laws.Bodies.{bodyAt, body-of, body-length}
-use Rattle.actions.specs.Laws.GoodRecords.{in-store}
+use Rattle.actions.specs.Laws.GoodRecords.{record-in, record-room, rule-number}
 use Rattle.actions.specs.Laws.RuleSets.{sets-same, sets-more}
 use Rattle.actions.proofs.choice.rule_sets.Statement.{statement}
 use Rattle.actions.proofs.choice.rule_sets.Tie as tie
@@ -25,18 +25,15 @@ abbrev μ-loop : tie.MeasureT-loop
 loop-holds : tie.Need-loop-holds Inv-loop μ-loop
 loop-holds c = let s = c .before .before in (omega arith, s .pre .0 .laid .few-rules .0, s .pre .1 .0, s .pre .1 .1, λ k h lo. absurd (omega arith))
 
--- the store has the whole of record i
+-- record i is in the store, and there is room for its sets
 in-net : (c : tie.Then1 Inv-loop μ-loop) → c .before .before .loop .i < c .before .before .before .before .before .args .n
-in-net c =
-    let s = c .before .before .before .before .before in
-    omega (arith, in-store (s .args .n) (s .args .l) (now (s .args .store)) (s .pre .0))
+in-net c = let s = c .before .before .before .before .before in record-in (s .args .n) (s .args .l) (now (s .args .store)) (s .pre .0) (c .before .before .loop .i) (c .if1 .taken)
 
 within : (c : tie.Then1 Inv-loop μ-loop) → c .before .before .loop .i * 24 + 24 ≤ length (now (c .before .before .before .before .before .args .store))
-within c = omega (arith, in-net c, c .before .before .before .before .before .pre .0 .room)
+within c = let s = c .before .before .before .before .before in record-room (s .args .n) (s .args .l) (now (s .args .store)) (s .pre .0) (c .before .before .loop .i) (c .if1 .taken)
 
--- there is room for a rule's sets
 numbered : (c : tie.Then1 Inv-loop μ-loop) → c .before .before .loop .i - c .before .before .before .before .before .args .l .rules < mostRules
-numbered c = omega (arith, c .before .before .before .before .before .pre .0 .laid .few-rules)
+numbered c = let s = c .before .before .before .before .before in rule-number (s .args .n) (s .args .l) (now (s .args .store)) (s .pre .0) (c .before .before .loop .i) (c .if1 .taken)
 
 -- the body of its rule
 body-fits : (c : tie.Then1 Inv-loop μ-loop)
