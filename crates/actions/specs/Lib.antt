@@ -1,5 +1,7 @@
 -- The choice of a rule, and what its actions send.
 pub mod Chosen
+pub mod Departing
+pub mod Groups
 pub mod Actions
 pub mod Computing
 pub mod ByPlace

@@ -1,6 +1,7 @@
 -- The 24-byte records of a network: widths, packet states, patterns, fields and policies.
 pub mod Lists
 pub mod Record
+pub mod Group
 pub mod Widths
 pub mod State
 pub mod Pattern

@@ -14,13 +14,13 @@ Rec = List ℕ
 abbrev pub Net : Type 0
 Net = List Rec
 
--- the largest network has 641 records
+-- the largest network has 657 records
 abbrev pub mostRecords : ℕ
-mostRecords = 641
+mostRecords = 657
 
--- so a store has at least 15,384 bytes
+-- so a store has at least 15,768 bytes
 abbrev pub storeBytes : ℕ
-storeBytes = 15384
+storeBytes = 15768
 
 -- at most 256 rules
 abbrev pub mostRules : ℕ
@@ -34,21 +34,25 @@ mostPolicies = 8
 abbrev pub mostNodes : ℕ
 mostNodes = 32
 
+-- at most 16 groups
+abbrev pub mostGroups : ℕ
+mostGroups = 16
+
 -- a byte of a record
 abbrev pub at : Rec → ℕ → ℕ
 at r k = getD r k 0
 
--- its kind: 1 widths, 2 link, 3 miss, 4 rule, 5 policy node; 6 add, 7 modify, 8 delete
+-- its kind: 1 widths, 2 link, 3 miss, 4 rule, 5 policy node, 9 group; 6 add, 7 modify, 8 delete
 abbrev pub kind : Rec → ℕ
 kind r = at r 0
 
 -- the kinds of records that a network has, and none
 pub data RecordKind : Type 0 where
-  kWidths kLink kMiss kRule kNode kNoRecord : RecordKind
+  kWidths kLink kMiss kRule kNode kGroup kNoRecord : RecordKind
 
--- the kind that a kind byte names: from 1 on
+-- the kind that a kind byte names: 1 to 5, and 9
 unfoldable pub recordKind : ℕ → RecordKind
-recordKind k = getD (kNoRecord ∷ kWidths ∷ kLink ∷ kMiss ∷ kRule ∷ kNode ∷ []) k kNoRecord
+recordKind k = getD (kNoRecord ∷ kWidths ∷ kLink ∷ kMiss ∷ kRule ∷ kNode ∷ kNoRecord ∷ kNoRecord ∷ kNoRecord ∷ kGroup ∷ []) k kNoRecord
 
 -- the kinds of commands, and none
 pub data CommandKind : Type 0 where
@@ -60,11 +64,11 @@ commandKind k = getD (kNoCommand ∷ kNoCommand ∷ kNoCommand ∷ kNoCommand �
 
 -- the kinds of actions, and none
 pub data ActionKind : Type 0 where
-  kOutput kSet kInPort kNoAction : ActionKind
+  kOutput kSet kInPort kRunGroup kNoAction : ActionKind
 
--- OUTPUT is 1, SET 2, IN_PORT 3
+-- OUTPUT is 1, SET 2, IN_PORT 3, running a group 4
 unfoldable pub actionKind : ℕ → ActionKind
-actionKind k = getD (kNoAction ∷ kOutput ∷ kSet ∷ kInPort ∷ []) k kNoAction
+actionKind k = getD (kNoAction ∷ kOutput ∷ kSet ∷ kInPort ∷ kRunGroup ∷ []) k kNoAction
 
 -- the first n records of a store
 unfoldable pub records : ℕ → List ℕ → Net

@@ -1,6 +1,7 @@
 // The fields of one record: ranges, widths, patterns and unnamed bytes.
 use crate::MOST_POLICIES;
 use crate::Widths;
+use crate::groups::group_good;
 ghost use mathlib.Core.Path.{_≡_};
 ghost use mathlib.Core.Bool.{true};
 ghost use mathlib.Core.List.{[], _∷_};
@@ -30,7 +31,7 @@ pub fn zeros(r: &[u8], first: usize, last: usize) -> bool
 }
 
 // A number is within a width of k bits.
-fn in_width(k: u8, x: u8) -> bool
+pub fn in_width(k: u8, x: u8) -> bool
     requires { ⌜ k ≤ 8 ⌝ }
     ensures { λ g. ⌜ g ≡ ltb x (2 ^ k) ⌝ }
 {
@@ -109,7 +110,13 @@ fn action_good(w: Widths, body: &[u8], count: u8, i: u8) -> bool
             pattern_good(w.h, value, care)
         }
         3 => no_pattern(value, care),
-        0 | 4..=255 => false,
+        4 => {
+            if 15 < value {
+                return false;
+            }
+            care == 0
+        }
+        0 | 5..=255 => false,
     }
 }
 
@@ -239,7 +246,8 @@ pub fn fields_good(w: Widths, r: &[u8]) -> bool
         3 => miss_good(w, r),
         4 => rule_good(w, r),
         5 => policy_node_good(w, r),
-        0 | 6..=255 => false,
+        9 => group_good(w, r),
+        0 | 6..=8 | 10..=255 => false,
     }
 }
 

@@ -4,13 +4,14 @@ ghost use Prim.Native.Nat.{_≤_};
 ghost use Rattle.records.specs.Widths.{width, states, planeBytes, withinLimits};
 
 pub mod fields;
+pub mod groups;
 pub mod pattern;
 
 // The records of the largest network.
-pub const MOST_RECORDS: usize = 641;
+pub const MOST_RECORDS: usize = 657;
 
 // The bytes of the largest network, which every store has.
-pub const STORE_BYTES: usize = 15384;
+pub const STORE_BYTES: usize = 15768;
 
 // The rules that a network has at most.
 pub const MOST_RULES: usize = 256;
@@ -20,6 +21,9 @@ pub const MOST_POLICIES: u8 = 8;
 
 // The nodes that a policy has at most.
 pub const MOST_NODES: usize = 32;
+
+// The groups that a network has at most.
+pub const MOST_GROUPS: usize = 16;
 
 // The widths of a network: of headers, of ports and of switches.
 pub struct Widths {

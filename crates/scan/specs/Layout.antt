@@ -14,18 +14,19 @@ use Rattle.scan.specs.declared.Layout.{Layout}
 use Rattle.scan.specs.declared.Reading.{Reading}
 use Rattle.scan.specs.declared.Reading.the-variants.{Clean, Refused}
 
--- the widths record, the links, the misses of all switches, the rules and the nodes stand one after the other
+-- the widths record, the links, the misses of all switches, the rules, the nodes and the groups stand one after the other
 pub record LayoutOf (net : Net) (l : Layout) : Type 0 where
   pub widths : l .widths ≡ widthsOf net
   pub limits : withinLimits (l .widths) ≡ true
   pub links : ofKind 2 net ≡ take (l .misses - 1) (drop 1 net)
   pub misses : ofKind 3 net ≡ take (l .rules - l .misses) (drop (l .misses) net)
   pub rules : ofKind 4 net ≡ take (l .nodes - l .rules) (drop (l .rules) net)
-  pub nodes : ofKind 5 net ≡ drop (l .nodes) net
+  pub nodes : ofKind 5 net ≡ take (l .groups - l .nodes) (drop (l .nodes) net)
+  pub groups : ofKind 9 net ≡ drop (l .groups) net
   pub some-widths : 1 ≤ l .misses
   pub switches : l .rules ≡ l .misses + 2 ^ l .widths .w
   pub few-rules : (l .rules ≤ l .nodes) × (l .nodes ≤ l .rules + mostRules)
-  pub within : l .nodes ≤ length net
+  pub within : (l .nodes ≤ l .groups) × (l .groups ≤ length net)
   pub policies : l .policies ≡ policyCount net
   pub few-policies : l .policies ≤ mostPolicies
   pub longest : l .longest ≡ longest net

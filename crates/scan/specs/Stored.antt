@@ -9,8 +9,8 @@ use Rattle.records.specs.Fields.{fieldsGood}
 use Rattle.scan.specs.Layout.{LayoutOf}
 use Rattle.scan.specs.declared.Layout.{Layout}
 
--- a store holds n records that stand as the layout says, and the fields of its links, misses and rules are good
+-- a store holds n records that stand as the layout says, and the fields of all but the first are good
 pub record Stored (n : ℕ) (l : Layout) (store : List ℕ) : Type 0 where
   pub room : n * 24 ≤ length store
   pub laid : LayoutOf (records n store) l
-  pub fields : (i : ℕ) → 1 ≤ i → i < l .nodes → fieldsGood (l .widths) (getD (records n store) i []) ≡ true
+  pub fields : (i : ℕ) → 1 ≤ i → i < n → fieldsGood (l .widths) (getD (records n store) i []) ≡ true

@@ -17,12 +17,13 @@ use turns::Turn;
 mod turns;
 
 // Where the parts of a network stand, the widths record being number 0 and the links beginning at 1: where the misses, the
-// rules and the nodes begin; how many policies there are, and the nodes of the longest.
+// rules, the nodes and the groups begin; how many policies there are, and the nodes of the longest.
 pub struct Layout {
     pub widths: Widths,
     pub misses: usize,
     pub rules: usize,
     pub nodes: usize,
+    pub groups: usize,
     pub policies: usize,
     pub longest: usize,
 }

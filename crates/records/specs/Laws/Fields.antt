@@ -12,9 +12,11 @@ use lib.ListN.{length, getD, take, drop, length-drop}
 use lib.Seq.{length-take-le, getD-take, getD-drop, slice-cons, slice-empty}
 use Rattle.planes.specs.Laws.Tests.{and-left, and-right}
 use Rattle.records.specs.Lists.{all}
-use Rattle.records.specs.Record.{Rec, mostPolicies, at, kind, recordKind, commandKind, kNoAction, actionKind}
+use Rattle.records.specs.Record.{Rec, mostPolicies, at, kind, kNoRecord, recordKind, commandKind, kNoAction, actionKind}
+use Rattle.records.specs.Group.{bucketValue, bucketCare, bucketKind, bucketTarget, kNoTarget, targetKind}
 use Rattle.records.specs.Policy.{nodeKind}
-use Rattle.records.specs.Fields.{zeros, usedGood, unusedGood, actionBytesGood, actionGood, actionsGood, pointGood, matchGood, nodeGood, fieldsGood, commandGood}
+use Rattle.records.specs.Fields.{zeros, usedGood, unusedGood, actionBytesGood, actionGood, actionsGood, pointGood, matchGood, nodeGood, usedBucket, bucketGood, bucketsGood, fieldsGood, commandGood}
+use Rattle.records.specs.Laws.Lists.{from-fails, from-passes}
 use Rattle.records.specs.declared.Widths.{Widths}
 
 -- a byte after the kind byte
@@ -97,14 +99,41 @@ module _ (w : Widths) (r : Rec) where
   actions-pass l h f =
       simp (le-leb 1 (at r 8) l, le-leb (at r 8) 4 h, f 0 (lit< tt), f 1 (lit< tt), f 2 (lit< tt), f 3 (lit< tt))
 
--- no action has another kind than 1, 2 and 3
-pub no-action : (k : ℕ) → (k ≡ 1 → ⊥) → (k ≡ 2 → ⊥) → (k ≡ 3 → ⊥) → actionKind k ≡ kNoAction
+-- no action has another kind than 1, 2, 3 and 4
+pub no-action : (k : ℕ) → (k ≡ 1 → ⊥) → (k ≡ 2 → ⊥) → (k ≡ 3 → ⊥) → (k ≡ 4 → ⊥) → actionKind k ≡ kNoAction
 unfolding actionKind
-no-action zero a b c = refl
-no-action (suc zero) a b c = absurd (a refl)
-no-action (suc (suc zero)) a b c = absurd (b refl)
-no-action (suc (suc (suc zero))) a b c = absurd (c refl)
-no-action (suc (suc (suc (suc k)))) a b c = refl
+no-action zero a b c d = refl
+no-action (suc zero) a b c d = absurd (a refl)
+no-action (suc (suc zero)) a b c d = absurd (b refl)
+no-action (suc (suc (suc zero))) a b c d = absurd (c refl)
+no-action (suc (suc (suc (suc zero)))) a b c d = absurd (d refl)
+no-action (suc (suc (suc (suc (suc k))))) a b c d = refl
+
+-- no target has another kind than 1 and 2
+pub no-target : (k : ℕ) → (k ≡ 1 → ⊥) → (k ≡ 2 → ⊥) → targetKind k ≡ kNoTarget
+unfolding targetKind
+no-target zero a b = refl
+no-target (suc zero) a b = absurd (a refl)
+no-target (suc (suc zero)) a b = absurd (b refl)
+no-target (suc (suc (suc k))) a b = refl
+
+-- the buckets fail by their count or by one of them, and pass where all pass
+module _ (w : Widths) (r : Rec) where
+  pub buckets-low : at r 8 < 1 → bucketsGood w r ≡ false
+  unfolding bucketsGood
+  buckets-low h = rw (lt-leb 1 (at r 8) h)
+
+  pub buckets-high : 3 < at r 8 → bucketsGood w r ≡ false
+  unfolding bucketsGood
+  buckets-high h = rw (lt-leb (at r 8) 3 h, and-false)
+
+  pub bucket-fails : (j : ℕ) → j < 3 → bucketGood w r (at r 8) j ≡ false → bucketsGood w r ≡ false
+  unfolding bucketsGood
+  bucket-fails j h e = rw (from-fails (bucketGood w r (at r 8)) 0 3 j (omega arith) h e, and-false)
+
+  pub buckets-pass : 1 ≤ at r 8 → at r 8 ≤ 3 → ((j : ℕ) → j < 3 → bucketGood w r (at r 8) j ≡ true) → bucketsGood w r ≡ true
+  unfolding bucketsGood
+  buckets-pass l h f = rw (le-leb 1 (at r 8) l, le-leb (at r 8) 3 h) (from-passes (bucketGood w r (at r 8)) 0 3 (λ j l h. f j h))
 
 -- no node has a kind above 8
 pub no-node : (w : Widths) (k a b : ℕ) → 9 ≤ k → nodeGood w k a b ≡ false
@@ -113,7 +142,32 @@ no-node w k a b h =
     let e : k ≡ suc (suc (suc (suc (suc (suc (suc (suc (suc (k - 9))))))))) = omega arith in
     ap (λ (n : ℕ). nodeGood w n a b) e
 
--- the fields of a record by its kind; none has a kind above 5
+-- a bucket that is used, and one that is not
+module _ (w : Widths) (r : Rec) (count j : ℕ) where
+  pub bucket-used : j < count → bucketGood w r count j ≡ usedBucket w (at r 2) (bucketValue r j) (bucketCare r j) (bucketKind r j) (bucketTarget r j)
+  unfolding bucketGood
+  bucket-used h = rw (lt-ltb j count h, bucketGood)
+
+  pub bucket-unused : count ≤ j → bucketGood w r count j ≡ zeros (9 + 4 * j) (12 + 4 * j) r
+  unfolding bucketGood
+  bucket-unused h = rw (le-ltb j count h, bucketGood)
+
+-- no record of a network has a kind from 6 on but 9
+no-kind : (k : ℕ) → 6 ≤ k → (k ≡ 9 → ⊥) → recordKind k ≡ kNoRecord
+unfolding recordKind
+no-kind zero h n = absurd (omega arith)
+no-kind (suc zero) h n = absurd (omega arith)
+no-kind (suc (suc zero)) h n = absurd (omega arith)
+no-kind (suc (suc (suc zero))) h n = absurd (omega arith)
+no-kind (suc (suc (suc (suc zero)))) h n = absurd (omega arith)
+no-kind (suc (suc (suc (suc (suc zero))))) h n = absurd (omega arith)
+no-kind (suc (suc (suc (suc (suc (suc zero)))))) h n = refl
+no-kind (suc (suc (suc (suc (suc (suc (suc zero))))))) h n = refl
+no-kind (suc (suc (suc (suc (suc (suc (suc (suc zero)))))))) h n = refl
+no-kind (suc (suc (suc (suc (suc (suc (suc (suc (suc zero))))))))) h n = absurd (n refl)
+no-kind (suc (suc (suc (suc (suc (suc (suc (suc (suc (suc k)))))))))) h n = refl
+
+-- the fields of a record by its kind
 module _ (w : Widths) (r : Rec) where
   pub widths-fields : kind r ≡ 1 → fieldsGood w r ≡ zeros 4 23 r
   unfolding fieldsGood recordKind
@@ -144,9 +198,13 @@ module _ (w : Widths) (r : Rec) where
   unfolding fieldsGood recordKind
   node-fields e = rw e
 
-  pub no-record : 6 ≤ kind r → fieldsGood w r ≡ false
+  pub group-fields : kind r ≡ 9 → fieldsGood w r ≡ (ltb (at r 1) (2 ^ w .w) && leb (at r 2) 15 && zeros 3 7 r && bucketsGood w r && zeros 21 23 r)
   unfolding fieldsGood recordKind
-  no-record h = let e : kind r ≡ suc (suc (suc (suc (suc (suc (kind r - 6)))))) = omega arith in rw e
+  group-fields e = rw e
+
+  pub no-record : 6 ≤ kind r → (kind r ≡ 9 → ⊥) → fieldsGood w r ≡ false
+  unfolding fieldsGood
+  no-record h n = rw (no-kind (kind r) h n)
 
 -- the fields of a command by its kind
 module _ (w : Widths) (c : Rec) where

@@ -1,14 +1,15 @@
 -- Laws of lists by a test: what joining two lists, and one element more, do to them.
 use borrow.Author.Tests.{eq-eqb, eqb-true}
 use mathlib.Core.Path.{_≡_, refl, sym, ap, ap₂, subst, _∙_}
-use mathlib.Core.Bool.{Bool, true, false, cond, _&&_, _||_, or-assoc, or-false, false≢true}
+use mathlib.Core.Bool.{Bool, true, false, cond, _&&_, _||_, and-false, or-assoc, or-false, false≢true}
 use mathlib.Core.List.{List, [], _∷_, _++_, append-nil}
-use Prim.Native.Nat.{ℕ, suc, _+_, _-_, _<_, _≤_}
+use Prim.Native.Nat.{ℕ, zero, suc, _+_, _-_, _<_, _≤_}
+use native.Mathlib.Decide.{ℕ-discrete}
 use native.Mathlib.Omega.{arith}
 use lib.ListN.{length, getD, take, drop, replicate, take-append-drop, length-take, length-drop, getD-replicate}
 use lib.Seq.{slice, length-slice, getD-drop, getD-take}
 use Rattle.planes.specs.Laws.Tests.{both}
-use Rattle.records.specs.Lists.{keep, any, sameNumbers}
+use Rattle.records.specs.Lists.{keep, any, all, sameNumbers, from}
 
 module _ {A : Type 0} where
   keep-step : (b : Bool) (x : A) (l m n : List A) → l ≡ m ++ n → cond b (x ∷ l) l ≡ cond b (x ∷ m) m ++ n
@@ -136,3 +137,26 @@ module _ {A : Type 0} (f : A → Bool) (d : A) (l : List A) (a b : ℕ) (ab : a 
       ∙ keep-append f (take a (take b l) ++ slice a b l) (drop b l)
       ∙ ap₂ {C = List A} _++_ (keep-append f (take a (take b l)) (slice a b l) ∙ ap₂ {C = List A} _++_ front middle) tail
       ∙ append-nil (slice a b l)
+
+-- a test of the k numbers from n on fails where one of them fails it, and passes where each passes it
+module _ (f : ℕ → Bool) where
+  pub from-fails : (n k i : ℕ) → n ≤ i → i < n + k → f i ≡ false → all f (from n k) ≡ false
+  unfolding all from
+  from-fails n zero i l h e = absurd (omega arith)
+  from-fails n (suc k) i l h e = go (ℕ-discrete n i) (λ m. from-fails (suc n) k i m (omega arith) e)
+    where
+      go : Dec (n ≡ i) → (suc n ≤ i → all f (from (suc n) k) ≡ false) → (f n && all f (from (suc n) k)) ≡ false
+      go (yes q) ih = ap (λ (b : Bool). b && all f (from (suc n) k)) (ap f q ∙ e)
+      go (no q) ih = ap (λ (b : Bool). f n && b) (ih (omega (arith, q))) ∙ and-false (f n)
+
+  pub from-passes : (n k : ℕ) → ((i : ℕ) → n ≤ i → i < n + k → f i ≡ true) → all f (from n k) ≡ true
+  unfolding all from
+  from-passes n zero h = refl
+  from-passes n (suc k) h = rw (h n (omega arith) (omega arith)) (from-passes (suc n) k (λ i l t. h i (omega arith) (omega arith)))
+
+  pub from-passed : (n k i : ℕ) → n ≤ i → i < n + k → all f (from n k) ≡ true → f i ≡ true
+  from-passed n k i l h e = go (f i) refl
+    where
+      go : (b : Bool) → f i ≡ b → b ≡ true
+      go true q = refl
+      go false q = sym (from-fails n k i l h q) ∙ e

@@ -25,12 +25,15 @@ returns c =
     let a = c .before .before .before .before .args in
     c .zeros .ensures ∙ sym (widths-fields (a .w) (now (a .r)) (c .before .match .keys1))
 
-returns-6 : tie.Need-returns-6
-unfolding fieldsGood recordKind
-returns-6 c = rw (c .match .keys6)
-
 returns-7 : tie.Need-returns-7
-returns-7 c = let a = c .before .before .before .args in sym (no-record (a .w) (now (a .r)) (omega arith))
+unfolding fieldsGood recordKind
+returns-7 c = rw (c .match .keys7)
+
+returns-8 : tie.Need-returns-8
+returns-8 c =
+    let a = c .before .before .before .args in
+    let n = c .match .rest in
+    sym (no-record (a .w) (now (a .r)) (omega (arith, n .1, n .0 .0 .1, n .0 .0 .0 .1, n .0 .0 .0 .0 .1, n .0 .0 .0 .0 .0 .1, n .0 .0 .0 .0 .0 .0 .1)) (n .0 .1))
 
 pub fields-good-spec : {M : Type 1} → statement M
 fields-good-spec =
@@ -42,10 +45,12 @@ fields-good-spec =
     (λ c κs. asked _ (now (c .before .before .before .args .r)) 3 (c .before .before .before .pre) (lit< tt) (c .match .keys3))
     (λ c κs. asked _ (now (c .before .before .before .args .r)) 4 (c .before .before .before .pre) (lit< tt) (c .match .keys4))
     (λ c κs. asked _ (now (c .before .before .before .args .r)) 5 (c .before .before .before .pre) (lit< tt) (c .match .keys5))
+    (λ c κs. asked _ (now (c .before .before .before .args .r)) 9 (c .before .before .before .pre) (lit< tt) (c .match .keys6))
     returns
     (λ c. c .link-good .ensures)
     (λ c. c .miss-good .ensures)
     (λ c. c .rule-good .ensures)
     (λ c. c .policy-node-good .ensures)
-    returns-6
-    returns-7)
+    (λ c. c .group-good .ensures)
+    returns-7
+    returns-8)
