@@ -1,6 +1,7 @@
 -- Laws that are cited, and need not be read to believe a promise.
 pub mod Every
 pub mod Fields
+pub mod Groups
 pub mod Kinds
 pub mod Limits
 pub mod Lists

@@ -1,4 +1,4 @@
--- A network that rows 3 to 10 pass has at most 641 records: 1 for the widths, 112 links, 16 misses, 256 rules and 256 nodes.
+-- A network that rows 3 to 10 and 16 pass has at most 657 records: 1 for the widths, 112 links, 16 misses, 256 rules, 256 nodes and 16 groups.
 use mathlib.Core.Path.{_≡_}
 use mathlib.Core.List.{[], _∷_}
 use mathlib.Core.Option.{none}
@@ -6,13 +6,13 @@ use Prim.Native.Nat.{_*_, _≤_}
 use native.Mathlib.Omega.{arith}
 use lib.ListN.{length}
 use Rattle.records.specs.Lists.{keep}
-use Rattle.records.specs.Record.{Net, mostRecords, mostRules, mostPolicies, mostNodes, ofKind}
+use Rattle.records.specs.Record.{Net, mostRecords, mostRules, mostPolicies, mostNodes, mostGroups, ofKind}
 use Rattle.records.specs.Widths.{widthsOf}
 use Rattle.records.specs.Policy.{policyCount, longestOf, longest}
 use Rattle.rows.specs.Refusal.{fileRow}
 use Rattle.records.specs.Laws.Limits.{Limits}
 use Rattle.rows.specs.Laws.Passing.{not-empty}
-use Rattle.rows.specs.Laws.Count.{first-limits, kind-2, kind-3, kind-4, kind-5, few-policies, longest-policy, total-bound}
+use Rattle.rows.specs.Laws.Count.{first-limits, kind-2, kind-3, kind-4, kind-5, kind-9, few-policies, longest-policy, total-bound}
 
 -- at most 112 links, since each takes two of at most 224 ordinary points
 pub links-bound : (net : Net) → fileRow [] net ≡ none → length (ofKind 2 net) ≤ 112
@@ -38,6 +38,12 @@ unfolding ofKind keep
 nodes-bound [] e = omega arith
 nodes-bound (r ∷ rest) e = kind-5 r rest e
 
+-- at most 16 groups
+pub groups-bound : (net : Net) → fileRow [] net ≡ none → length (ofKind 9 net) ≤ mostGroups
+unfolding ofKind keep
+groups-bound [] e = omega arith
+groups-bound (r ∷ rest) e = kind-9 r rest e
+
 -- at most 8 policies, the longest of at most 32 nodes
 pub policies-bound : (net : Net) → fileRow [] net ≡ none → policyCount net ≤ mostPolicies
 unfolding policyCount
@@ -55,7 +61,7 @@ unfolding widthsOf
 widths-bound [] e = absurd (omega (arith, not-empty [] e))
 widths-bound (r ∷ rest) e = first-limits r rest e
 
--- so at most 641 records
+-- so at most 657 records
 pub count-bound : (net : Net) → fileRow [] net ≡ none → length net ≤ mostRecords
 count-bound [] e = omega arith
 count-bound (r ∷ rest) e = total-bound r rest e

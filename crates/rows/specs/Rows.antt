@@ -1,28 +1,29 @@
--- The rows of the table "Where a call stops", in its order. Rows 3 to 10 speak of a record, the records before it and those after it,
+-- The rows of the table "Where a call stops", in its order. Rows 3 to 10 and 16 speak of a record, the records before it and those after it,
 -- and are consulted only where no lower row and no earlier record is at fault.
 use mathlib.Core.Bool.{Bool, true, false, not, _&&_, _||_}
 use mathlib.Core.List.{List, [], _∷_, _++_}
 use Prim.Native.Nat.{ℕ, suc, _+_, _-_, _*_, _^_}
 use lib.Dec.{eqb, leb, ltb}
 use lib.ListN.{length, getD}
-use Rattle.records.specs.Record.{Rec, Net, mostRecords, storeBytes, at, kind, ofKind, present, linked, mostRules, mostPolicies, mostNodes}
+use Rattle.records.specs.Record.{Rec, Net, mostRecords, storeBytes, at, kind, ofKind, present, linked, mostRules, mostPolicies, mostNodes, mostGroups}
+use Rattle.records.specs.Group.{actionsThere, groupsThere}
 use Rattle.records.specs.Widths.{planeBytes, withinLimits, widthsOf}
 use Rattle.records.specs.State.{ordinary}
 use Rattle.records.specs.Policy.{Y, nodesOf, policyCount, formula, longest, free, NodeKind, kBIT, kR, kE, kNOT, kAND, kOR, kSOME, kALL, kTC, kNone, nodeKind}
 use Rattle.records.specs.Fields.{fieldsGood, commandGood}
 
--- row 1: n is 0 or above 641
+-- row 1: n is 0 or above 657
 unfoldable pub row1 : ℕ → Bool
 row1 n = eqb n 0 || ltb mostRecords n
 
--- row 2: store under 15,384 bytes
+-- row 2: store under 15,768 bytes
 unfoldable pub row2 : List ℕ → Bool
 row2 store = ltb (length store) storeBytes
 
--- row 3: kind not 1–5, below the one before, first not 1, second kind 1
+-- row 3: kind not 1–5 or 9, below the one before, first not 1, second kind 1
 unfoldable pub row3 : Net → Rec → Bool
 row3 before r =
-    ltb (kind r) 1 || ltb 5 (kind r)
+    ltb (kind r) 1 || (ltb 5 (kind r) && not (eqb (kind r) 9))
     || ltb (kind r) (kind (getD before (length before - 1) []))
     || (eqb (length before) 0 && not (eqb (kind r) 1))
     || (ltb 0 (length before) && eqb (kind r) 1)
@@ -31,9 +32,9 @@ row3 before r =
 unfoldable pub row4 : Rec → Bool
 row4 r = eqb (kind r) 1 && not (withinLimits (widthsOf (r ∷ [])))
 
--- row 5: field outside its range or width, stray bit, nonzero unnamed byte, bad action
+-- row 5: field outside its range or width, stray bit, nonzero unnamed byte, bad action; a group has row 16 in place of it
 unfoldable pub row5 : Net → Rec → Bool
-row5 before r = not (fieldsGood (widthsOf before) r)
+row5 before r = not (eqb (kind r) 9) && not (fieldsGood (widthsOf before) r)
 
 -- row 6: link with either end at a port not ordinary or at a point already linked, or with both ends the same point
 unfoldable pub row6 : Net → Rec → Bool
@@ -96,6 +97,21 @@ row10 before r =
     (eqb (kind r) 4 && leb mostRules (length (ofKind 4 before)))
     || (eqb (kind r) 5 && (leb mostPolicies (at r 1) || leb mostNodes (length (nodesOf (at r 1) before))))
 
+-- a group stands before another: by switch, then by number
+unfoldable pub ascends : Rec → Rec → Bool
+ascends q r = ltb (at q 1) (at r 1) || (eqb (at q 1) (at r 1) && ltb (at q 2) (at r 2))
+
+-- there is a group before, and the last one does not stand before r
+unfoldable pub outOfOrder : Net → Rec → Bool
+outOfOrder before r = let groups = ofKind 9 before in ltb 0 (length groups) && not (ascends (getD groups (length groups - 1) []) r)
+
+-- row 16: group fields faulty, or out of order, a 17th group, a rule, miss or bucket naming a group that no record of its switch has, or a
+-- bucket one not lower
+unfoldable pub row16 : Net → Rec → Net → Bool
+row16 before r after =
+    (eqb (kind r) 9 && (not (fieldsGood (widthsOf before) r) || outOfOrder before r || leb mostGroups (length (ofKind 9 before))))
+    || not (groupsThere (before ++ (r ∷ after)) r)
+
 -- the work that a verdict needs: a plane for each node of the longest policy, and two more
 unfoldable pub workNeeded : Net → ℕ
 workNeeded net = (longest net + 2) * planeBytes (widthsOf net)
@@ -107,6 +123,10 @@ row11 net work = ltb work (workNeeded net)
 -- row 12: not 24 bytes, kind not 6–8, or field fault as in 5
 unfoldable pub row12 : Net → Rec → Bool
 row12 net c = not (eqb (length c) 24) || ltb (kind c) 6 || ltb 8 (kind c) || not (commandGood (widthsOf net) c)
+
+-- row 16 of a command: it names a group that no record of its switch has
+unfoldable pub row16Command : Net → Rec → Bool
+row16Command net c = not (actionsThere net c)
 
 -- row 13: add of a new rule with 256 present
 unfoldable pub row13 : Net → Rec → Bool

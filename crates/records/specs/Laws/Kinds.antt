@@ -14,12 +14,15 @@ use Rattle.records.specs.Widths.{widthsOf}
 use Rattle.records.specs.Policy.{nodesOf, policyCount, longestOf, longest}
 use Rattle.records.specs.Laws.Lists.{keep-append, any-append}
 
--- a record is a rule, a node
+-- a record is a rule, a node, a group
 abbrev pub isRule : Rec → Bool
 isRule r = eqb (kind r) 4
 
 abbrev pub isNode : Rec → Bool
 isNode r = eqb (kind r) 5
+
+abbrev pub isGroupRecord : Rec → Bool
+isGroupRecord r = eqb (kind r) 9
 
 -- the kind of the last record
 abbrev pub lastKind : Net → ℕ

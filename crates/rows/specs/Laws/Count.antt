@@ -1,4 +1,4 @@
--- How many records of each kind a network has that rows 3 to 10 pass.
+-- How many records of each kind a network has that rows 3 to 10 and 16 pass.
 use mathlib.Core.Path.{_≡_, refl, sym, subst, subst⁻¹, subst₂, _∙_}
 use mathlib.Core.Bool.{Bool, true, false, _&&_}
 use mathlib.Core.List.{[], _∷_, _++_}
@@ -12,7 +12,7 @@ use lib.ListN.{length, getD, length-append}
 use lib.Pow.{pow-mono}
 use Rattle.planes.specs.Laws.Tests.{both}
 use Rattle.records.specs.Lists.{keep, all}
-use Rattle.records.specs.Record.{Rec, Net, mostRecords, at, kind, ofKind, mostRules, mostPolicies, mostNodes}
+use Rattle.records.specs.Record.{Rec, Net, mostRecords, at, kind, ofKind, mostRules, mostPolicies, mostNodes, mostGroups}
 use Rattle.records.specs.Widths.{widthsOf}
 use Rattle.records.specs.Policy.{nodesOf, policyCount, longestOf, longest}
 use Rattle.rows.specs.Refusal.{fileRow}
@@ -20,7 +20,7 @@ use Rattle.records.specs.declared.Widths.{Widths}
 use Rattle.records.specs.Laws.Lists.{keep-in, keep-out, keep-fewer}
 use Rattle.records.specs.Laws.Policies.{count-other, count-node}
 use Rattle.records.specs.Laws.Kinds.{isNode, widths-append, nodes-kind}
-use Rattle.rows.specs.Laws.Passing.{Passes, ordered, widths-within, miss-next, miss-switch, rule-room, node-room, file-step, clean-all}
+use Rattle.rows.specs.Laws.Passing.{Passes, ordered, widths-within, miss-next, miss-switch, rule-room, node-room, group-room, file-step, clean-all}
 use Rattle.records.specs.Laws.Limits.{Limits}
 use Rattle.rows.specs.Laws.Spread.{all-append, spread}
 use Rattle.rows.specs.Laws.Links.{Apart, apart-none, apart-more, few-links}
@@ -137,28 +137,41 @@ module _ (r₀ : Rec) (rest : Net) (e : fileRow [] (r₀ ∷ rest) ≡ none) whe
       spread (λ r. at r 1) (λ v. mostNodes) mostPolicies (ofKind 5 (r₀ ∷ rest)) policies-within
       (λ v l. subst (λ (n : Net). length n ≤ mostNodes) (nodes-kind v (r₀ ∷ rest)) (policy-nodes v))
 
-  kinds-within : all (λ r. ltb (kind r) 6) (r₀ ∷ rest) ≡ true
+  pub kind-9 : length (ofKind 9 (r₀ ∷ rest)) ≤ mostGroups
+  kind-9 = kind-bounded 9 mostGroups (λ q. omega arith) (λ before r after q s t. group-room before r after s t)
+
+  -- no record has kind 6, 7 or 8
+  kind-none : (k : ℕ) → 5 < k → k < 9 → length (ofKind k (r₀ ∷ rest)) ≤ 0
+  kind-none k l h =
+      kind-bounded k 0 (λ q. omega arith)
+      (λ before r after q s t. let g : 5 < kind r → kind r ≡ 9 = ordered before r (s .not3) .group in absurd (omega (arith, t, g (omega (arith, t)))))
+
+  kinds-within : all (λ r. ltb (kind r) 10) (r₀ ∷ rest) ≡ true
   unfolding all
   kinds-within =
-      clean-all (λ before. all (λ r. ltb (kind r) 6) before ≡ true)
+      clean-all (λ before. all (λ r. ltb (kind r) 10) before ≡ true)
       (λ before r after i s.
       let m = ordered before r (s .not3) .high in
-      all-append (λ r. ltb (kind r) 6) before (r ∷ []) ∙ rw (i, lt-ltb (kind r) 6 (omega arith)))
+      all-append (λ r. ltb (kind r) 10) before (r ∷ []) ∙ rw (i, lt-ltb (kind r) 10 (omega arith)))
       [] (r₀ ∷ rest) refl e
 
   -- at most so many of each kind
   abbrev most : ℕ → ℕ
-  most k = getD (0 ∷ 1 ∷ 112 ∷ 16 ∷ mostRules ∷ mostPolicies * mostNodes ∷ []) k 0
+  most k = getD (0 ∷ 1 ∷ 112 ∷ 16 ∷ mostRules ∷ mostPolicies * mostNodes ∷ 0 ∷ 0 ∷ 0 ∷ mostGroups ∷ []) k 0
 
-  by-kind : (k : ℕ) → k < 6 → length (ofKind k (r₀ ∷ rest)) ≤ most k
+  by-kind : (k : ℕ) → k < 10 → length (ofKind k (r₀ ∷ rest)) ≤ most k
   by-kind zero h = kind-0
   by-kind (suc zero) h = kind-1
   by-kind (suc (suc zero)) h = kind-2
   by-kind (suc (suc (suc zero))) h = kind-3
   by-kind (suc (suc (suc (suc zero)))) h = kind-4
   by-kind (suc (suc (suc (suc (suc zero))))) h = kind-5
-  by-kind (suc (suc (suc (suc (suc (suc k)))))) h = absurd (omega arith)
+  by-kind (suc (suc (suc (suc (suc (suc zero)))))) h = kind-none 6 (omega arith) (omega arith)
+  by-kind (suc (suc (suc (suc (suc (suc (suc zero))))))) h = kind-none 7 (omega arith) (omega arith)
+  by-kind (suc (suc (suc (suc (suc (suc (suc (suc zero)))))))) h = kind-none 8 (omega arith) (omega arith)
+  by-kind (suc (suc (suc (suc (suc (suc (suc (suc (suc zero))))))))) h = kind-9
+  by-kind (suc (suc (suc (suc (suc (suc (suc (suc (suc (suc k)))))))))) h = absurd (omega arith)
 
   pub total-bound : length (r₀ ∷ rest) ≤ mostRecords
   unfolding ofKind
-  total-bound = spread kind most 6 (r₀ ∷ rest) kinds-within by-kind
+  total-bound = spread kind most 10 (r₀ ∷ rest) kinds-within by-kind

@@ -1,6 +1,6 @@
--- A network that rows 3 to 10 pass is passed again with a rule replaced, removed or inserted.
+-- A network that rows 3 to 10 and 16 pass is passed again with a rule replaced, removed or inserted.
 use mathlib.Core.Path.{_≡_, refl, sym, ap, subst, _∙_}
-use mathlib.Core.Bool.{Bool, true, false, _&&_, _||_}
+use mathlib.Core.Bool.{Bool, true, false, _&&_, _||_, and-false}
 use mathlib.Core.List.{List, [], _∷_, _++_, append-nil}
 use mathlib.Core.Option.{none}
 use Prim.Native.Nat.{ℕ, _+_, _<_, _≤_}
@@ -11,14 +11,16 @@ use lib.ListN.{length, take, drop}
 use Rattle.planes.specs.Laws.Tests.{not-both, or-none}
 use Rattle.records.specs.Lists.{any, all, sameNumbers}
 use Rattle.records.specs.Record.{Rec, Net, kind, ofKind, sameRule, present, mostRules}
+use Rattle.records.specs.Group.{groupsThere}
 use Rattle.records.specs.Widths.{widthsOf}
-use Rattle.rows.specs.Rows.{row4, row5, row6, row7, row8, row9, row10, missesIncomplete}
+use Rattle.rows.specs.Rows.{row4, row5, row6, row7, row8, row9, row10, row16, missesIncomplete}
 use Rattle.records.specs.Fields.{fieldsGood}
 use Rattle.rows.specs.Refusal.{fileRow}
 use Rattle.records.specs.Laws.Records.{Whole, whole-join, whole-parts}
-use Rattle.records.specs.Laws.Kinds.{isRule, isNode, lastKind, kind-count, present-append, last-kind}
+use Rattle.records.specs.Laws.Groups.{there-alike}
+use Rattle.records.specs.Laws.Kinds.{isRule, isNode, lastKind, kinds-append, kind-count, rules-only, present-append, last-kind}
 use Rattle.rows.specs.Laws.Passing.{Passes, ordered, ordered-later, fields-good, misses-before, rule-new, rule-room, file-step, step-file, file-end, not-empty, no-node-before, no-rule-after}
-use Rattle.rows.specs.Laws.Fronts.{Alike, From, from-last, rest-kept, front-kept, after-front, alike-rules, alike-between}
+use Rattle.rows.specs.Laws.Fronts.{Alike, From, from-last, rest-kept, same-behind, front-kept, after-front, alike-rules, alike-between}
 
 -- what makes two rules the same rule: bytes 1 to 7
 abbrev pub matchOf : Rec → List ℕ
@@ -39,17 +41,18 @@ from-lower j k (r ∷ rest) h f = omega arith
 -- a rule where a rule may stand
 module _ (front : Net) (r : Rec) (back : Net) where
   pub rule-passes : 0 < length front → lastKind front ≤ 4 → kind r ≡ 4 → fieldsGood (widthsOf front) r ≡ true → missesIncomplete front ≡ false
-      → present r front ≡ false → length (ofKind 4 front) < mostRules → Passes front r back
-  unfolding row4 row5 row6 row7 row8 row9 row10
-  rule-passes h l q good misses absent room = record {
-    not3 = ordered-later front r h (omega arith) (omega arith) (omega arith);
+      → present r front ≡ false → length (ofKind 4 front) < mostRules → groupsThere (front ++ (r ∷ back)) r ≡ true → Passes front r back
+  unfolding row4 row5 row6 row7 row8 row9 row10 row16
+  rule-passes h l q good misses absent room there = record {
+    not3 = ordered-later front r h (omega arith) (λ g. absurd (omega arith)) (omega arith);
     not4 = rw q;
-    not5 = rw good;
+    not5 = rw (good, and-false);
     not6 = rw q;
     not7 = rw (misses, q);
     not8 = rw (absent, q);
     not9 = rw q;
     not10 = rw (lt-leb mostRules (length (ofKind 4 front)) room, q);
+    not16 = rw (there, q);
   }
 
   -- what is known of one that stands
@@ -87,6 +90,10 @@ no-rules : all isRule [] ≡ true
 unfolding all
 no-rules = refl
 
+-- rules before them add no group to some records
+groups-after : (rules back : Net) → all isRule rules ≡ true → ofKind 9 (rules ++ back) ≡ ofKind 9 back
+groups-after rules back e = kinds-append 9 rules back ∙ ap (λ (l : Net). l ++ ofKind 9 back) (rules-only 9 (λ q. omega arith) rules e)
+
 one-more : (front : Net) (r : Rec) → kind r ≡ 4 → length (ofKind 4 (front ++ (r ∷ []))) ≡ length (ofKind 4 front) + 1
 one-more front r k = kind-count 4 front r ∙ rw k
 
@@ -101,13 +108,16 @@ module _ (front : Net) (r : Rec) (back : Net) (q : kind r ≡ 4) (whole : Whole 
   no-node : any isNode front ≡ false
   no-node = no-node-before front [] r back q e
 
-  replaced-passes : (r′ : Rec) → kind r′ ≡ 4 → matchOf r′ ≡ matchOf r → fieldsGood (widthsOf front) r′ ≡ true → fileRow [] (front ++ (r′ ∷ back)) ≡ none
-  replaced-passes r′ k m good =
+  replaced-passes : (r′ : Rec) → kind r′ ≡ 4 → matchOf r′ ≡ matchOf r → fieldsGood (widthsOf front) r′ ≡ true → groupsThere (front ++ (r ∷ back)) r′ ≡ true
+      → fileRow [] (front ++ (r′ ∷ back)) ≡ none
+  replaced-passes r′ k m good there =
       let old = stands in
+      let same : ofKind 9 (r′ ∷ back) ≡ ofKind 9 (r ∷ back) = groups-after (r′ ∷ []) back (one-rule r′ k) ∙ sym (groups-after (r ∷ []) back (one-rule r q)) in
       let last : lastKind (front ++ (r ∷ [])) ≡ lastKind (front ++ (r′ ∷ [])) = last-kind front r ∙ q ∙ sym k ∙ sym (last-kind front r′) in
-      front-kept front [] (r ∷ back) (r′ ∷ back) no-node e
+      front-kept front [] (r ∷ back) (r′ ∷ back) no-node same e
       (step-file front r′ back
-      (rule-passes front r′ back (old .some) (old .last) k good (old .misses) (present-match r′ r front m ∙ old .absent) (old .room))
+      (rule-passes front r′ back (old .some) (old .last) k good (old .misses) (present-match r′ r front m ∙ old .absent) (old .room)
+      (there-alike (front ++ (r′ ∷ back)) (front ++ (r ∷ back)) (same-behind front (r′ ∷ back) (r ∷ back) same) r′ ∙ there))
       (rest-kept back (front ++ (r ∷ [])) (front ++ (r′ ∷ [])) (alike-rules front (r ∷ []) (r′ ∷ []) (old .some) (one-rule r q) (one-rule r′ k))
       (subst (λ (n : ℕ). From n back) last (from-last (front ++ (r ∷ [])) back (here .1))) (λ _. record {
         count = omega (arith, one-more front r q, one-more front r′ k);
@@ -116,11 +126,11 @@ module _ (front : Net) (r : Rec) (back : Net) (q : kind r ≡ 4) (whole : Whole 
       }) (here .1)))
 
   pub rule-replaced : (r′ : Rec) → kind r′ ≡ 4 → length r′ ≡ 24 → matchOf r′ ≡ matchOf r → fieldsGood (widthsOf front) r′ ≡ true
-      → PassesStill (front ++ (r ∷ back)) (front ++ (r′ ∷ back))
-  rule-replaced r′ k l m good =
+      → groupsThere (front ++ (r ∷ back)) r′ ≡ true → PassesStill (front ++ (r ∷ back)) (front ++ (r′ ∷ back))
+  rule-replaced r′ k l m good there =
       let t = whole-parts front (r ∷ back) whole in
       record {
-        passes = replaced-passes r′ k m good;
+        passes = replaced-passes r′ k m good there;
         alike = alike-between front (r ∷ []) (r′ ∷ []) back (stands .some) (one-rule r q) (one-rule r′ k);
         whole = whole-join front (r′ ∷ back) (t .0) (l, t .1 .1);
       }
@@ -128,7 +138,7 @@ module _ (front : Net) (r : Rec) (back : Net) (q : kind r ≡ 4) (whole : Whole 
   removed-passes : fileRow [] (front ++ back) ≡ none
   removed-passes =
       let old = stands in
-      front-kept front [] (r ∷ back) back no-node e
+      front-kept front [] (r ∷ back) back no-node (sym (groups-after (r ∷ []) back (one-rule r q))) e
       (rest-kept back (front ++ (r ∷ [])) front
       (subst (Alike (front ++ (r ∷ []))) (append-nil front) (alike-rules front (r ∷ []) [] (old .some) (one-rule r q) no-rules))
       (from-lower (lastKind front) (lastKind (front ++ (r ∷ []))) back (omega (arith, old .last, q, last-kind front r)) (from-last (front ++ (r ∷ [])) back (here .1)))
@@ -146,7 +156,7 @@ module _ (front : Net) (r : Rec) (back : Net) (q : kind r ≡ 4) (whole : Whole 
         whole = whole-join front back (t .0) (t .1 .1);
       }
 
--- a new rule where no node stands before it, and nodes alone after it
+-- a new rule where no node stands before it, and none but nodes and groups after it
 module _ (front back : Net) (no-node : any isNode front ≡ false) (last : lastKind front ≤ 4) (nodes : From 5 back) (whole : Whole (front ++ back))
     (e : fileRow [] (front ++ back) ≡ none) where
   after : fileRow front back ≡ none
@@ -171,21 +181,23 @@ module _ (front back : Net) (no-node : any isNode front ≡ false) (last : lastK
   some-front = first-there front back nodes e
 
   inserted-passes : (r : Rec) → kind r ≡ 4 → fieldsGood (widthsOf front) r ≡ true → present r front ≡ false → length (ofKind 4 front) < mostRules
-      → fileRow [] (front ++ (r ∷ back)) ≡ none
-  inserted-passes r k good absent room =
-      front-kept front [] back (r ∷ back) no-node e
-      (step-file front r back (rule-passes front r back some-front last k good (complete back nodes after) absent room)
+      → groupsThere (front ++ back) r ≡ true → fileRow [] (front ++ (r ∷ back)) ≡ none
+  inserted-passes r k good absent room there =
+      let same : ofKind 9 (r ∷ back) ≡ ofKind 9 back = groups-after (r ∷ []) back (one-rule r k) in
+      front-kept front [] back (r ∷ back) no-node same e
+      (step-file front r back (rule-passes front r back some-front last k good (complete back nodes after) absent room
+      (there-alike (front ++ (r ∷ back)) (front ++ back) (same-behind front (r ∷ back) back same) r ∙ there))
       (rest-kept back front (front ++ (r ∷ []))
       (subst (λ (l : Net). Alike l (front ++ (r ∷ []))) (append-nil front) (alike-rules front [] (r ∷ []) some-front no-rules (one-rule r k)))
       (from-lower (lastKind (front ++ (r ∷ []))) 5 back (omega (arith, k, last-kind front r)) nodes)
       (λ t. not-both t (no-rule back nodes after)) after))
 
   pub rule-inserted : (r : Rec) → kind r ≡ 4 → length r ≡ 24 → fieldsGood (widthsOf front) r ≡ true → present r front ≡ false → length (ofKind 4 front) < mostRules
-      → PassesStill (front ++ back) (front ++ (r ∷ back))
-  rule-inserted r k l good absent room =
+      → groupsThere (front ++ back) r ≡ true → PassesStill (front ++ back) (front ++ (r ∷ back))
+  rule-inserted r k l good absent room there =
       let t = whole-parts front back whole in
       record {
-        passes = inserted-passes r k good absent room;
+        passes = inserted-passes r k good absent room there;
         alike = alike-between front [] (r ∷ []) back some-front no-rules (one-rule r k);
         whole = whole-join front (r ∷ back) (t .0) (l, t .1);
       }

@@ -13,8 +13,9 @@ use Rattle.records.specs.Lists.{any, all}
 use Rattle.records.specs.Record.{Rec, Net, at, kind, ofKind, present, linked, mostRules, mostPolicies, mostNodes}
 use Rattle.records.specs.Widths.{widthsOf}
 use Rattle.records.specs.Policy.{nodesOf}
-use Rattle.rows.specs.Rows.{row5, row6, row7, row8, row9, row10, missesIncomplete, freeAt}
+use Rattle.rows.specs.Rows.{row5, row6, row7, row8, row9, row10, row16, missesIncomplete, freeAt, outOfOrder}
 use Rattle.rows.specs.Refusal.{fileRow}
+use Rattle.records.specs.Laws.Groups.{there-alike}
 use Rattle.records.specs.Laws.Kinds.{isRule, isNode, lastKind, kinds-append, kind-count, rules-only, nodes-alike, policies-alike, present-append, widths-append, last-kind}
 use Rattle.rows.specs.Laws.Passing.{Passes, ordered, ordered-later, file-step, step-file, file-end, end-file}
 
@@ -48,6 +49,17 @@ module _ (p p′ : Net) (r : Rec) (after : Net) (a : Alike p p′) where
   unfolding row9 freeAt
   kept-9 = let same = a .same 5 (λ q. omega arith) in rw (policies-alike p′ p same, nodes-alike p′ p same (at r 1))
 
+  kept-16 : row16 p′ r after ≡ row16 p r after
+  unfolding row16 outOfOrder
+  kept-16 =
+      let same = a .same 9 (λ q. omega arith) in
+      rw (
+        a .widths,
+        same,
+        there-alike (p′ ++ (r ∷ after)) (p ++ (r ∷ after))
+        (kinds-append 9 p′ (r ∷ after) ∙ ap (λ (l : Net). l ++ ofKind 9 (r ∷ after)) same ∙ sym (kinds-append 9 p (r ∷ after))) r,
+      )
+
   kept-8 : (isRule r ≡ true → Fewer p p′) → row8 p r ≡ false → row8 p′ r ≡ false
   unfolding row8
   kept-8 f e = go (isRule r) f e
@@ -73,7 +85,7 @@ module _ (p p′ : Net) (r : Rec) (after : Net) (a : Alike p p′) where
       let t = ordered p r (s .not3) in
       let one : (kind r ≡ 1 → ⊥) = t .later (a .some) in
       record {
-        not3 = ordered-later p′ r (a .some′) (omega (arith, t .low, one)) (t .high) order;
+        not3 = ordered-later p′ r (a .some′) (omega (arith, t .low, one)) (t .group) order;
         not4 = s .not4;
         not5 = rw (a .widths) (s .not5);
         not6 = kept-6 ∙ s .not6;
@@ -81,6 +93,7 @@ module _ (p p′ : Net) (r : Rec) (after : Net) (a : Alike p p′) where
         not8 = kept-8 f (s .not8);
         not9 = kept-9 ∙ s .not9;
         not10 = kept-10 f (s .not10);
+        not16 = kept-16 ∙ s .not16;
       }
 
 -- fronts stay alike with the same records more
@@ -121,21 +134,35 @@ rest-kept (r ∷ rest) p p′ a l f e =
     (subst (λ (k : ℕ). From k rest) last (from-last (p ++ (r ∷ [])) rest (t .1)))
     (λ q. fewer-more p p′ r (f (or-right (isRule r) (any isRule rest) q))) (t .1))
 
--- only row 9, which is of nodes, looks at what follows
-other-after : (p : Net) (r : Rec) (after after′ : Net) → isNode r ≡ false → Passes p r after → Passes p r after′
-unfolding row9
-other-after p r after after′ n s =
-    record { not3 = s .not3; not4 = s .not4; not5 = s .not5; not6 = s .not6; not7 = s .not7; not8 = s .not8; not9 = rw n; not10 = s .not10 }
+-- networks that differ in what follows have the same groups if that has
+pub same-behind : (xs rest′ rest : Net) → ofKind 9 rest′ ≡ ofKind 9 rest → ofKind 9 (xs ++ rest′) ≡ ofKind 9 (xs ++ rest)
+same-behind xs rest′ rest same = kinds-append 9 xs rest′ ∙ ap (λ (l : Net). ofKind 9 xs ++ l) same ∙ sym (kinds-append 9 xs rest)
 
--- a front without nodes passes whatever follows, if that does
-pub front-kept : (xs p rest rest′ : Net) → any isNode xs ≡ false → fileRow p (xs ++ rest) ≡ none → fileRow (p ++ xs) rest′ ≡ none → fileRow p (xs ++ rest′) ≡ none
+-- of what follows, only row 9, which is of nodes, looks at more than the groups
+other-after : (p : Net) (r : Rec) (after after′ : Net) → isNode r ≡ false → ofKind 9 after′ ≡ ofKind 9 after → Passes p r after → Passes p r after′
+unfolding row9 row16
+other-after p r after after′ n same s = record {
+  not3 = s .not3;
+  not4 = s .not4;
+  not5 = s .not5;
+  not6 = s .not6;
+  not7 = s .not7;
+  not8 = s .not8;
+  not9 = rw n;
+  not10 = s .not10;
+  not16 = rw (there-alike (p ++ (r ∷ after′)) (p ++ (r ∷ after)) (same-behind p (r ∷ after′) (r ∷ after) (same-behind (r ∷ []) after′ after same)) r) (s .not16);
+}
+
+-- a front without nodes passes whatever follows with the same groups, if that does
+pub front-kept : (xs p rest rest′ : Net) → any isNode xs ≡ false → ofKind 9 rest′ ≡ ofKind 9 rest → fileRow p (xs ++ rest) ≡ none → fileRow (p ++ xs) rest′ ≡ none
+    → fileRow p (xs ++ rest′) ≡ none
 unfolding any
-front-kept [] p rest rest′ n e f = subst (λ (l : Net). fileRow l rest′ ≡ none) (append-nil p) f
-front-kept (x ∷ xs) p rest rest′ n e f =
+front-kept [] p rest rest′ n same e f = subst (λ (l : Net). fileRow l rest′ ≡ none) (append-nil p) f
+front-kept (x ∷ xs) p rest rest′ n same e f =
     let t = file-step p x (xs ++ rest) e in
     let m = or-none (isNode x) (any isNode xs) n in
-    step-file p x (xs ++ rest′) (other-after p x (xs ++ rest) (xs ++ rest′) (m .0) (t .0))
-    (front-kept xs (p ++ (x ∷ [])) rest rest′ (m .1) (t .1) (subst⁻¹ (λ (l : Net). fileRow l rest′ ≡ none) (append-assoc p (x ∷ []) xs) f))
+    step-file p x (xs ++ rest′) (other-after p x (xs ++ rest) (xs ++ rest′) (m .0) (same-behind xs rest′ rest same) (t .0))
+    (front-kept xs (p ++ (x ∷ [])) rest rest′ (m .1) same (t .1) (subst⁻¹ (λ (l : Net). fileRow l rest′ ≡ none) (append-assoc p (x ∷ []) xs) f))
 
 -- what follows a front passes after it
 pub after-front : (xs p rest : Net) → fileRow p (xs ++ rest) ≡ none → fileRow (p ++ xs) rest ≡ none

@@ -1,5 +1,4 @@
 -- The fields of a network that no row refuses are good.
-use borrow.Author.Tests.{not-false}
 use mathlib.Core.Path.{_≡_, ap₂, _∙_}
 use mathlib.Core.Bool.{true}
 use mathlib.Core.List.{[], _∷_, _++_}
@@ -11,18 +10,16 @@ use lib.ListN.{length, getD, length-append, List·getD-append}
 use lib.Seq.{getD-at}
 use Rattle.records.specs.Record.{Rec, Net}
 use Rattle.records.specs.Widths.{widthsOf}
-use Rattle.rows.specs.Rows.{row5}
 use Rattle.records.specs.Fields.{fieldsGood}
 use Rattle.rows.specs.Refusal.{fileRow}
 use Rattle.records.specs.Laws.Kinds.{widths-append}
-use Rattle.rows.specs.Laws.Passing.{Passes, clean-all}
+use Rattle.rows.specs.Laws.Passing.{Passes, fields-good, clean-all}
 
 -- the fields of every record after the widths are good
 abbrev pub Good : Net → Type 0
 Good net = (i : ℕ) → 1 ≤ i → i < length net → fieldsGood (widthsOf net) (getD net i []) ≡ true
 
 good-more : (before : Net) (r : Rec) (after : Net) → Good before → Passes before r after → Good (before ++ (r ∷ []))
-unfolding row5
 good-more before r after g p i l h = go (decLt i (length before))
   where
     n : length (before ++ (r ∷ [])) ≡ length before + 1
@@ -32,7 +29,7 @@ good-more before r after g p i l h = go (decLt i (length before))
     go (yes q) = ap₂ fieldsGood (widths-append before (r ∷ []) (omega arith)) (List·getD-append before (r ∷ []) [] i q) ∙ g i l q
     go (no q) =
         let e : length before ≡ i = omega (arith, n) in
-        ap₂ fieldsGood (widths-append before (r ∷ []) (omega arith)) (getD-at before r [] [] i e) ∙ not-false (fieldsGood (widthsOf before) r) (p .not5)
+        ap₂ fieldsGood (widths-append before (r ∷ []) (omega arith)) (getD-at before r [] [] i e) ∙ fields-good before r after p
 
 pub clean-good : (net : Net) → fileRow [] net ≡ none → Good net
 clean-good net e = clean-all Good good-more [] net (λ i l h. absurd (omega arith)) e

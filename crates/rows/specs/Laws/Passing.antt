@@ -1,26 +1,28 @@
--- Laws of networks that rows 3 to 10 do not refuse: what holds of each record, and of records that follow one another.
+-- Laws of networks that rows 3 to 10 and 16 do not refuse: what holds of each record, and of records that follow one another.
 use mathlib.Core.Path.{_≡_, refl, sym, subst, subst⁻¹, _∙_}
-use mathlib.Core.Bool.{Bool, true, false, not, _&&_, _||_}
+use mathlib.Core.Bool.{Bool, true, false, not, _&&_, _||_, and-false}
 use mathlib.Core.List.{[], _∷_, _++_, append-assoc, append-nil}
 use mathlib.Core.Logic.{_⊎_, inl, inr, ⊎-elim}
 use mathlib.Core.Option.{none, some}
 use Prim.Native.Nat.{ℕ, zero, suc, _^_, _<_, _≤_}
 use native.Mathlib.Nat.{not-suc-le-zero, le-of-suc-le-suc}
+use native.Mathlib.Decide.{decLt}
 use native.Mathlib.Omega.{arith}
 use borrow.Author.Tests.{eq-eqb, eqb-true, eqb-false, ne-eqb, ltb-true, ltb-false, le-ltb, lt-ltb, leb-false, not-false}
 use lib.Dec.{eqb, leb, ltb}
 use lib.ListN.{length, getD, take, drop}
 use Rattle.planes.specs.Laws.Tests.{not-both, both, or-none, or-cases}
 use Rattle.records.specs.Lists.{keep, any}
-use Rattle.records.specs.Record.{Rec, Net, at, kind, ofKind, present, mostRules, mostPolicies, mostNodes}
+use Rattle.records.specs.Record.{Rec, Net, at, kind, ofKind, present, mostRules, mostPolicies, mostNodes, mostGroups}
+use Rattle.records.specs.Group.{groupsThere}
 use Rattle.records.specs.Policy.{nodesOf, policyCount}
 use Rattle.records.specs.Widths.{withinLimits, widthsOf}
-use Rattle.rows.specs.Rows.{row3, row4, row5, row6, row7, row8, row9, row10, missesIncomplete, operandsGood, endsPolicy, freeAt}
+use Rattle.rows.specs.Rows.{row3, row4, row5, row6, row7, row8, row9, row10, row16, missesIncomplete, operandsGood, endsPolicy, freeAt, outOfOrder}
 use Rattle.records.specs.Fields.{fieldsGood}
 use Rattle.rows.specs.Refusal.{Refusal, orElse, row, recordRow, fileRow}
 use Rattle.records.specs.Laws.Limits.{Limits, limits}
 use Rattle.records.specs.Laws.Fields.{miss-fields}
-use Rattle.records.specs.Laws.Kinds.{isRule, isNode, lastKind, last-kind}
+use Rattle.records.specs.Laws.Kinds.{isRule, isNode, isGroupRecord, lastKind, last-kind}
 
 -- a record that no row refuses
 pub record Passes (before : Net) (r : Rec) (after : Net) : Type 0 where
@@ -32,23 +34,25 @@ pub record Passes (before : Net) (r : Rec) (after : Net) : Type 0 where
   pub not8 : row8 before r ≡ false
   pub not9 : row9 before r after ≡ false
   pub not10 : row10 before r ≡ false
+  pub not16 : row16 before r after ≡ false
 
 not-some : {A : Type 0} {a : ℕ × ℕ} → some a ≡ none → A
 not-some e = let z : _≡_ {A = ℕ} 0 1 = cc in absurd (omega arith)
 
 -- the lowest of some rows is none if no row is met
-lowest : (a b c d e f g h : Bool) (p : ℕ)
-    → orElse (row a 3 p) (orElse (row b 4 p) (orElse (row c 5 p) (orElse (row d 6 p) (orElse (row e 7 p) (orElse (row f 8 p) (orElse (row g 9 p) (row h 10 p))))))) ≡ none
-    → (a ≡ false) × (b ≡ false) × (c ≡ false) × (d ≡ false) × (e ≡ false) × (f ≡ false) × (g ≡ false) × (h ≡ false)
-lowest true b c d e f g h p q = not-some q
-lowest false true c d e f g h p q = not-some q
-lowest false false true d e f g h p q = not-some q
-lowest false false false true e f g h p q = not-some q
-lowest false false false false true f g h p q = not-some q
-lowest false false false false false true g h p q = not-some q
-lowest false false false false false false true h p q = not-some q
-lowest false false false false false false false true p q = not-some q
-lowest false false false false false false false false p q = (refl, refl, refl, refl, refl, refl, refl, refl)
+lowest : (a b c d e f g h i : Bool) (p : ℕ)
+    → orElse (row a 3 p) (orElse (row b 4 p) (orElse (row c 5 p) (orElse (row d 6 p) (orElse (row e 7 p) (orElse (row f 8 p) (orElse (row g 9 p) (orElse (row h 10 p) (row i 16 p)))))))) ≡ none
+    → (a ≡ false) × (b ≡ false) × (c ≡ false) × (d ≡ false) × (e ≡ false) × (f ≡ false) × (g ≡ false) × (h ≡ false) × (i ≡ false)
+lowest true b c d e f g h i p q = not-some q
+lowest false true c d e f g h i p q = not-some q
+lowest false false true d e f g h i p q = not-some q
+lowest false false false true e f g h i p q = not-some q
+lowest false false false false true f g h i p q = not-some q
+lowest false false false false false true g h i p q = not-some q
+lowest false false false false false false true h i p q = not-some q
+lowest false false false false false false false true i p q = not-some q
+lowest false false false false false false false false true p q = not-some q
+lowest false false false false false false false false false p q = (refl, refl, refl, refl, refl, refl, refl, refl, refl)
 
 pub lowest-two : (a b : Bool) (m n p : ℕ) → orElse (row a m p) (row b n p) ≡ none → (a ≡ false) × (b ≡ false)
 lowest-two true b m n p q = not-some q
@@ -60,12 +64,12 @@ module _ (before : Net) (r : Rec) (after : Net) where
   unfolding recordRow
   passes q =
       let t =
-      lowest (row3 before r) (row4 r) (row5 before r) (row6 before r) (row7 before r) (row8 before r) (row9 before r after) (row10 before r) (length before) q in
-      record { not3 = t .0; not4 = t .1; not5 = t .2; not6 = t .3; not7 = t .4; not8 = t .5; not9 = t .6; not10 = t .7 }
+      lowest (row3 before r) (row4 r) (row5 before r) (row6 before r) (row7 before r) (row8 before r) (row9 before r after) (row10 before r) (row16 before r after) (length before) q in
+      record { not3 = t .0; not4 = t .1; not5 = t .2; not6 = t .3; not7 = t .4; not8 = t .5; not9 = t .6; not10 = t .7; not16 = t .8 }
 
   no-row : Passes before r after → recordRow before r after ≡ none
   unfolding recordRow
-  no-row s = rw (s .not3, s .not4, s .not5, s .not6, s .not7, s .not8, s .not9, s .not10)
+  no-row s = rw (s .not3, s .not4, s .not5, s .not6, s .not7, s .not8, s .not9, s .not10, s .not16)
 
 -- of two refusals neither
 pub neither : (f later : Refusal) → orElse f later ≡ none → (f ≡ none) × (later ≡ none)
@@ -146,7 +150,8 @@ clean-all P step before rest p e = carried (λ b a. P b) (λ b r a s i. step b r
 -- what row 3 leaves of a record's kind
 pub record Ordered (before : Net) (r : Rec) : Type 0 where
   pub low : 1 ≤ kind r
-  pub high : kind r ≤ 5
+  pub high : kind r ≤ 9
+  pub group : 5 < kind r → kind r ≡ 9
   pub ascends : lastKind before ≤ kind r
   pub first : length before ≡ 0 → kind r ≡ 1
   pub later : 0 < length before → kind r ≡ 1 → ⊥
@@ -161,24 +166,39 @@ module _ (before : Net) (r : Rec) where
       let d = or-none _ _ (c .0) in
       record {
         low = ltb-false (kind r) 1 (d .0);
-        high = ltb-false 5 (kind r) (d .1);
+        high = high-kind (group-kind (d .1));
+        group = group-kind (d .1);
         ascends = ltb-false (kind r) (lastKind before) (c .1);
         first = λ z. eqb-true (kind r) 1 (not-false (eqb (kind r) 1) (and-test _ _ (b .1) (eq-eqb (length before) 0 z)));
         later = λ l q. eqb-false (kind r) 1 (and-test _ _ (a .1) (lt-ltb 0 (length before) l)) q;
       }
+    where
+      group-kind : (ltb 5 (kind r) && not (eqb (kind r) 9)) ≡ false → 5 < kind r → kind r ≡ 9
+      group-kind e l = eqb-true (kind r) 9 (not-false (eqb (kind r) 9) (and-test _ _ e (lt-ltb 5 (kind r) l)))
+
+      high-kind : (5 < kind r → kind r ≡ 9) → kind r ≤ 9
+      high-kind g = go (decLt 5 (kind r))
+        where
+          go : Dec (5 < kind r) → kind r ≤ 9
+          go (yes l) = omega (arith, g l)
+          go (no l) = omega arith
 
   -- after some record
-  pub ordered-later : 0 < length before → 1 < kind r → kind r ≤ 5 → lastKind before ≤ kind r → row3 before r ≡ false
+  pub ordered-later : 0 < length before → 1 < kind r → (5 < kind r → kind r ≡ 9) → lastKind before ≤ kind r → row3 before r ≡ false
   unfolding row3
-  ordered-later l low high order =
+  ordered-later l low group order =
       rw (
         le-ltb (kind r) 1 (omega arith),
-        le-ltb 5 (kind r) high,
+        known-kind (decLt 5 (kind r)),
         le-ltb (kind r) (lastKind before) order,
         ne-eqb (length before) 0 (λ q. omega arith),
         lt-ltb 0 (length before) l,
         ne-eqb (kind r) 1 (λ q. omega arith),
       )
+    where
+      known-kind : Dec (5 < kind r) → (ltb 5 (kind r) && not (eqb (kind r) 9)) ≡ false
+      known-kind (yes h) = rw (eq-eqb (kind r) 9 (group h)) (and-false (ltb 5 (kind r)))
+      known-kind (no h) = rw (le-ltb 5 (kind r) (omega arith))
 
 -- what the rows say of a record that passes them
 module _ (before : Net) (r : Rec) (after : Net) (p : Passes before r after) where
@@ -186,9 +206,40 @@ module _ (before : Net) (r : Rec) (after : Net) (p : Passes before r after) wher
   unfolding row4
   widths-within k = limits (widthsOf (r ∷ [])) (not-false (withinLimits (widthsOf (r ∷ []))) (and-test _ _ (p .not4) (eq-eqb (kind r) 1 k)))
 
+  -- what row 16 has of a record: the tests of a group, and the groups that it names
+  row16-tests : ((isGroupRecord r && (not (fieldsGood (widthsOf before) r) || outOfOrder before r || leb mostGroups (length (ofKind 9 before)))) ≡ false)
+      × (groupsThere (before ++ (r ∷ after)) r ≡ true)
+  unfolding row16
+  row16-tests =
+      let t =
+      or-none (isGroupRecord r && (not (fieldsGood (widthsOf before) r) || outOfOrder before r || leb mostGroups (length (ofKind 9 before))))
+      (not (groupsThere (before ++ (r ∷ after)) r)) (p .not16) in
+      (t .0, not-false _ (t .1))
+
+  group-tests : isGroupRecord r ≡ true → (fieldsGood (widthsOf before) r ≡ true) × (outOfOrder before r ≡ false) × (length (ofKind 9 before) < mostGroups)
+  group-tests k =
+      let faulty = not (fieldsGood (widthsOf before) r) in
+      let many = leb mostGroups (length (ofKind 9 before)) in
+      let a = or-none (faulty || outOfOrder before r) many (and-test (isGroupRecord r) (faulty || outOfOrder before r || many) (row16-tests .0) k) in
+      let b = or-none faulty (outOfOrder before r) (a .0) in
+      (not-false _ (b .0), b .1, leb-false mostGroups (length (ofKind 9 before)) (a .1))
+
+  pub named-there : groupsThere (before ++ (r ∷ after)) r ≡ true
+  named-there = row16-tests .1
+
+  pub group-ascends : kind r ≡ 9 → outOfOrder before r ≡ false
+  group-ascends k = group-tests (eq-eqb (kind r) 9 k) .1
+
+  pub group-room : kind r ≡ 9 → length (ofKind 9 before) < mostGroups
+  group-room k = group-tests (eq-eqb (kind r) 9 k) .2
+
   pub fields-good : fieldsGood (widthsOf before) r ≡ true
   unfolding row5
-  fields-good = not-false (fieldsGood (widthsOf before) r) (p .not5)
+  fields-good = go (isGroupRecord r) refl (p .not5)
+    where
+      go : (b : Bool) → isGroupRecord r ≡ b → (not b && not (fieldsGood (widthsOf before) r)) ≡ false → fieldsGood (widthsOf before) r ≡ true
+      go true k e = group-tests k .0
+      go false k e = not-false (fieldsGood (widthsOf before) r) e
 
   pub miss-next : kind r ≡ 3 → at r 1 ≡ length (ofKind 3 before)
   unfolding row7
