@@ -7,6 +7,7 @@ pub mod Formulas
 pub mod Found
 pub mod Fronts
 pub mod Good
+pub mod Groups
 pub mod Links
 pub mod NodeRows
 pub mod Passing

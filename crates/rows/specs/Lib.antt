@@ -1,7 +1,8 @@
--- The rows by which a call is refused, and what a network has that rows 3 to 10 pass.
+-- The rows by which a call is refused, and what a network has that rows 3 to 10 and 16 pass.
 pub mod Rows
 pub mod Refusal
 pub mod Found
 pub mod Policies
+pub mod Groups
 pub mod Count
 pub mod Laws

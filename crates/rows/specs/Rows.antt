@@ -101,9 +101,13 @@ row10 before r =
 unfoldable pub ascends : Rec → Rec → Bool
 ascends q r = ltb (at q 1) (at r 1) || (eqb (at q 1) (at r 1) && ltb (at q 2) (at r 2))
 
+-- the last group
+unfoldable pub lastGroup : Net → Rec
+lastGroup net = let groups = ofKind 9 net in getD groups (length groups - 1) []
+
 -- there is a group before, and the last one does not stand before r
 unfoldable pub outOfOrder : Net → Rec → Bool
-outOfOrder before r = let groups = ofKind 9 before in ltb 0 (length groups) && not (ascends (getD groups (length groups - 1) []) r)
+outOfOrder before r = ltb 0 (length (ofKind 9 before)) && not (ascends (lastGroup before) r)
 
 -- row 16: group fields faulty, or out of order, a 17th group, a rule, miss or bucket naming a group that no record of its switch has, or a
 -- bucket one not lower

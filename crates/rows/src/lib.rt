@@ -1,4 +1,5 @@
-// The rows by which a record is refused that look at the records before it: links, rules and policy nodes.
+// The rows by which a record is refused that look at other records: links, rules, policy nodes and groups.
+pub mod groups;
 pub mod links;
 pub mod nodes;
 pub mod rules;

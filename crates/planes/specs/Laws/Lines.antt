@@ -4,13 +4,15 @@ use mathlib.Core.Bool.{Bool, false, _||_}
 use mathlib.Core.List.{List}
 use mathlib.Core.Logic.{_⊎_, inl, inr}
 use Prim.Native.Nat.{ℕ, zero, suc, _+_, _*_, _/_, _%_, _≤_, _<_}
-use native.Mathlib.Decide.{decLt}
+use native.Mathlib.Decide.{ℕ-discrete, decLt}
 use native.Mathlib.Omega.{arith}
+use borrow.Author.Tests.{eq-eqb, ne-eqb}
+use lib.Dec.{eqb}
 use lib.ListN.{getD, replicate}
 use lib.Bits.{bitOr}
 use Rattle.planes.specs.Bit.{bitOf}
 use Rattle.planes.specs.Plane.{bit, cell, planeSize}
-use Rattle.planes.specs.Lines.{Laid, Cleared, Put, Ored, Loaded}
+use Rattle.planes.specs.Lines.{BitSet, Laid, Cleared, Put, Ored, Loaded}
 use Rattle.planes.specs.Laws.Bits.{bit-or, bit-zero}
 use Rattle.planes.specs.Laws.Places.{bit-at, line-before, in-line}
 
@@ -23,6 +25,14 @@ no-byte (suc n) (suc j) = no-byte n j
 pub no-bit : (n y : ℕ) → bit (replicate n 0) y ≡ false
 unfolding bit
 no-bit n y = ap (λ (c : ℕ). bitOf c (y % 8)) (no-byte n (y / 8)) ∙ bit-zero (y % 8)
+
+-- one bit that was set
+pub set-bit : (k m : ℕ) (a b : List ℕ) → BitSet k a b → bit b m ≡ (eqb m k || bit a m)
+set-bit k m a b S = go (ℕ-discrete m k)
+  where
+    go : Dec (m ≡ k) → bit b m ≡ (eqb m k || bit a m)
+    go (yes e) = ap (bit b) e ∙ S .here ∙ ap (λ (x : Bool). x || bit a m) (sym (eq-eqb m k e))
+    go (no e) = S .others m e ∙ ap (λ (x : Bool). x || bit a m) (sym (ne-eqb m k e))
 
 -- the bits of a line of which each byte is f of its number
 module _ (f : ℕ → ℕ) (at pitch : ℕ) (b : List ℕ) (is : (j : ℕ) → j < pitch → getD b (at + j) 0 ≡ f j) where

@@ -1,19 +1,21 @@
 -- Fields of a record: read from a rule's body, bytes 1 to 20; by the record's kind; action by action; and zero bytes one at a time.
 use mathlib.Core.Path.{_≡_, refl, sym, ap, _∙_}
-use mathlib.Core.Bool.{Bool, true, false, _&&_, and-false}
+use mathlib.Core.Bool.{Bool, true, false, _&&_, and-false, false≢true}
 use mathlib.Core.List.{List, _∷_}
 use mathlib.Core.Logic.{_⊎_, inl, inr}
 use Prim.Native.Nat.{ℕ, zero, suc, _+_, _-_, _*_, _^_, _≤_, _<_}
 use native.Mathlib.Numerals.{one-add}
 use native.Mathlib.Omega.{arith}
-use borrow.Author.Tests.{lt-ltb, le-ltb, le-leb, lt-leb}
+use native.Mathlib.Decide.{decLt}
+use borrow.Author.Tests.{eqb-true, ltb-true, leb-true, lt-ltb, le-ltb, le-leb, lt-leb}
 use lib.Dec.{eqb, leb, ltb, lit<, lit≤}
 use lib.ListN.{length, getD, take, drop, length-drop}
 use lib.Seq.{length-take-le, getD-take, getD-drop, slice-cons, slice-empty}
-use Rattle.planes.specs.Laws.Tests.{and-left, and-right}
+use Rattle.planes.specs.Laws.Tests.{true-of, not-both, and-left, and-right}
 use Rattle.records.specs.Lists.{all}
 use Rattle.records.specs.Record.{Rec, mostPolicies, at, kind, kNoRecord, recordKind, commandKind, kNoAction, actionKind}
 use Rattle.records.specs.Group.{bucketValue, bucketCare, bucketKind, bucketTarget, kNoTarget, targetKind}
+use Rattle.records.specs.Pattern.{patternGood}
 use Rattle.records.specs.Policy.{nodeKind}
 use Rattle.records.specs.Fields.{zeros, usedGood, unusedGood, actionBytesGood, actionGood, actionsGood, pointGood, matchGood, nodeGood, usedBucket, bucketGood, bucketsGood, fieldsGood, commandGood}
 use Rattle.records.specs.Laws.Lists.{from-fails, from-passes}
@@ -225,3 +227,45 @@ zeros-none m r = rw (slice-empty (suc m) r)
 pub zeros-more : (k m : ℕ) (r : Rec) → k ≤ m → m < length r → zeros k m r ≡ (eqb 0 (at r k) && zeros (suc k) m r)
 unfolding zeros all
 zeros-more k m r h l = rw (slice-cons k (suc m) r 0 (omega arith) (omega arith))
+
+-- one of the zero bytes
+pub zero-byte : (d k m : ℕ) (r : Rec) → k + d ≤ m → m < length r → zeros k m r ≡ true → at r (k + d) ≡ 0
+zero-byte zero k m r h l e =
+    let q : k + 0 ≡ k = omega arith in
+    ap (at r) q ∙ sym (eqb-true 0 (at r k) (and-left (eqb 0 (at r k)) (zeros (suc k) m r) (sym (zeros-more k m r (omega arith) l) ∙ e)))
+zero-byte (suc d) k m r h l e =
+    let q : k + suc d ≡ suc k + d = omega arith in
+    ap (at r) q ∙ zero-byte d (suc k) m r (omega arith) l (and-right (eqb 0 (at r k)) (zeros (suc k) m r) (sym (zeros-more k m r (omega arith) l) ∙ e))
+
+-- each action is good where all are, and each bucket
+module _ (w : Widths) (r : Rec) where
+  pub action-each : actionsGood w r ≡ true → (i : ℕ) → i < 4 → actionGood w r (at r 8) i ≡ true
+  action-each e i h = true-of _ (λ q. not-both e (action-fails w r i h q))
+
+  pub bucket-each : bucketsGood w r ≡ true → (j : ℕ) → j < 3 → bucketGood w r (at r 8) j ≡ true
+  bucket-each e j h = true-of _ (λ q. not-both e (bucket-fails w r j h q))
+
+  -- an action that runs a group names one below 16
+  pub action-group : (count i : ℕ) → actionGood w r count i ≡ true → at r (9 + 3 * i) ≡ 4 → at r (10 + 3 * i) < 16
+  unfolding actionGood actionBytesGood actionKind
+  action-group count i e k = go (ltb i count) (rw k at e)
+    where
+      go : (b : Bool)
+          → elim b as (λ x. Bool) [ true ↦ usedGood w 4 (at r (10 + 3 * i)) (at r (11 + 3 * i)) (eqb (suc i) count) | false ↦ unusedGood 4 (at r (10 + 3 * i)) (at r (11 + 3 * i)) ] ≡ true
+          → at r (10 + 3 * i) < 16
+      go true e = let h = leb-true (at r (10 + 3 * i)) 15 (and-left (leb (at r (10 + 3 * i)) 15) (eqb (at r (11 + 3 * i)) 0) e) in omega arith
+      go false e = absurd (false≢true e)
+
+  -- a bucket that goes on to a group goes to one lower than its own
+  pub bucket-lower : length r ≡ 24 → (count j : ℕ) → j < 3 → bucketGood w r count j ≡ true → bucketKind r j ≡ 2 → bucketTarget r j < at r 2
+  unfolding targetKind
+  bucket-lower l count j h e k = go (decLt j count)
+    where
+      go : Dec (j < count) → bucketTarget r j < at r 2
+      go (yes u) =
+          ltb-true (bucketTarget r j) (at r 2)
+          (and-right (patternGood (w .h) (bucketValue r j) (bucketCare r j)) (ltb (bucketTarget r j) (at r 2)) (rw k at (sym (bucket-used w r count j u) ∙ e)))
+      go (no u) =
+          let q : 9 + 4 * j + 2 ≡ 11 + 4 * j = omega arith in
+          let z = sym (ap (at r) q) ∙ zero-byte 2 (9 + 4 * j) (12 + 4 * j) r (omega arith) (omega arith) (sym (bucket-unused w r count j (omega arith)) ∙ e) in
+          absurd (omega (arith, z, k))

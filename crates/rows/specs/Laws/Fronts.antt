@@ -13,7 +13,7 @@ use Rattle.records.specs.Lists.{any, all}
 use Rattle.records.specs.Record.{Rec, Net, at, kind, ofKind, present, linked, mostRules, mostPolicies, mostNodes}
 use Rattle.records.specs.Widths.{widthsOf}
 use Rattle.records.specs.Policy.{nodesOf}
-use Rattle.rows.specs.Rows.{row5, row6, row7, row8, row9, row10, row16, missesIncomplete, freeAt, outOfOrder}
+use Rattle.rows.specs.Rows.{row5, row6, row7, row8, row9, row10, row16, missesIncomplete, freeAt, lastGroup, outOfOrder}
 use Rattle.rows.specs.Refusal.{fileRow}
 use Rattle.records.specs.Laws.Groups.{there-alike}
 use Rattle.records.specs.Laws.Kinds.{isRule, isNode, lastKind, kinds-append, kind-count, rules-only, nodes-alike, policies-alike, present-append, widths-append, last-kind}
@@ -50,14 +50,14 @@ module _ (p p′ : Net) (r : Rec) (after : Net) (a : Alike p p′) where
   kept-9 = let same = a .same 5 (λ q. omega arith) in rw (policies-alike p′ p same, nodes-alike p′ p same (at r 1))
 
   kept-16 : row16 p′ r after ≡ row16 p r after
-  unfolding row16 outOfOrder
+  unfolding row16 outOfOrder lastGroup
   kept-16 =
       let same = a .same 9 (λ q. omega arith) in
       rw (
         a .widths,
         same,
         there-alike (p′ ++ (r ∷ after)) (p ++ (r ∷ after))
-        (kinds-append 9 p′ (r ∷ after) ∙ ap (λ (l : Net). l ++ ofKind 9 (r ∷ after)) same ∙ sym (kinds-append 9 p (r ∷ after))) r,
+            (kinds-append 9 p′ (r ∷ after) ∙ ap (λ (l : Net). l ++ ofKind 9 (r ∷ after)) same ∙ sym (kinds-append 9 p (r ∷ after))) r,
       )
 
   kept-8 : (isRule r ≡ true → Fewer p p′) → row8 p r ≡ false → row8 p′ r ≡ false

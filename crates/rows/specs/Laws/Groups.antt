@@ -1,0 +1,119 @@
+-- The table of the groups that are there, and the last group, record by record.
+use borrow.Author.Tests.{eq-eqb, eqb-true, ne-eqb, ltb-true, leb-true}
+use mathlib.Core.Path.{_≡_, refl, sym, ap, ap₂, subst, _∙_}
+use mathlib.Core.Bool.{Bool, true, false, not, _&&_, _||_, and-false, or-comm}
+use mathlib.Core.List.{List, [], _∷_, _++_}
+use Prim.Native.Nat.{ℕ, _+_, _-_, _*_, _^_, _<_, _≤_}
+use native.Mathlib.Omega.{arith}
+use lib.Dec.{eqb, ltb, leb}
+use lib.ListN.{length, getD, take, drop, replicate, length-append}
+use lib.Pow.{pow-mono}
+use lib.Seq.{getD-at}
+use Rattle.planes.specs.Plane.{bit}
+use Rattle.planes.specs.Lines.{BitSet}
+use Rattle.planes.specs.Laws.Lines.{no-bit, set-bit}
+use Rattle.planes.specs.Laws.Tests.{same-test, and-both, both, and-left}
+use Rattle.records.specs.Lists.{keep, any}
+use Rattle.records.specs.Record.{Rec, Net, at, kind, records, ofKind}
+use Rattle.records.specs.Search.{recordAt}
+use Rattle.records.specs.Group.{isGroup, hasGroup}
+use Rattle.records.specs.Fields.{zeros, actionsGood, bucketsGood, fieldsGood}
+use Rattle.records.specs.Laws.Lists.{keep-in, keep-out}
+use Rattle.records.specs.Laws.Fields.{group-fields, action-each, bucket-each, action-group, bucket-lower}
+use Rattle.records.specs.Laws.Groups.{has-more}
+use Rattle.records.specs.Laws.Kinds.{isGroupRecord}
+use Rattle.records.specs.Laws.Limits.{Limits}
+use Rattle.records.specs.Laws.Records.{records-more, part-is}
+use Rattle.records.specs.declared.Widths.{Widths}
+use Rattle.rows.specs.Rows.{ascends, lastGroup, outOfOrder}
+use Rattle.rows.specs.Groups.{groupBit, There, Noted, ActionsNamed, BucketsNamed, GroupsOf}
+use Rattle.rows.specs.declared.groups.Groups.{Groups}
+
+-- a record that is no group below 16 leaves the table
+module _ (r : Rec) (table : List ℕ) where
+  noted-none : ((sw g : ℕ) → sw < 16 → g < 16 → (isGroupRecord r && isGroup sw g r) ≡ false) → Noted r table table
+  noted-none f = record { is = λ sw g hs hg. rw (f sw g hs hg) }
+
+  pub noted-other : (kind r ≡ 9 → ⊥) → Noted r table table
+  noted-other n = noted-none (λ sw g hs hg. rw (ne-eqb (kind r) 9 n))
+
+  pub noted-switch : 15 < at r 1 → Noted r table table
+  unfolding isGroup
+  noted-switch h = noted-none (λ sw g hs hg. rw (ne-eqb (at r 1) sw (λ e. omega (arith, e)), and-false))
+
+  pub noted-number : 15 < at r 2 → Noted r table table
+  unfolding isGroup
+  noted-number h = noted-none (λ sw g hs hg. rw (ne-eqb (at r 2) g (λ e. omega (arith, e)), and-false, and-false))
+
+-- one that is a group sets its bit
+pub noted-group : (r : Rec) (n : ℕ) (a b : List ℕ) → n ≡ groupBit (at r 1) (at r 2) → kind r ≡ 9 → at r 1 < 16 → at r 2 < 16 → BitSet n a b → Noted r a b
+unfolding isGroup
+noted-group r n a b e k hs hg S = record {
+  is = λ sw g ls lg.
+      set-bit n (groupBit sw g) a b S
+      ∙ ap (λ (x : Bool). x || bit a (groupBit sw g)) (ap (eqb (groupBit sw g)) e ∙ one-bit sw g lg ∙ sym (named sw g));
+}
+  where
+    named : (sw g : ℕ) → (eqb (kind r) 9 && (eqb (at r 1) sw && eqb (at r 2) g)) ≡ (eqb (at r 1) sw && eqb (at r 2) g)
+    named sw g = rw k
+
+    one-bit : (sw g : ℕ) → g < 16 → eqb (groupBit sw g) (groupBit (at r 1) (at r 2)) ≡ (eqb (at r 1) sw && eqb (at r 2) g)
+    one-bit sw g lg =
+        same-test _ _
+        (λ e. let q = eqb-true (groupBit sw g) (groupBit (at r 1) (at r 2)) e in
+        and-both _ _ (eq-eqb (at r 1) sw (omega (arith, q))) (eq-eqb (at r 2) g (omega (arith, q))))
+        (λ e. let q = both (eqb (at r 1) sw) (eqb (at r 2) g) e in
+        eq-eqb _ _ (sym (ap₂ groupBit (eqb-true (at r 1) sw (q .0)) (eqb-true (at r 2) g (q .1)))))
+
+-- the table of the first records of a store: of none, and of one more
+pub there-none : (s : List ℕ) → There (records 0 s) (replicate 32 0)
+unfolding records hasGroup ofKind keep any
+there-none s = record { is = λ sw g hs hg. no-bit 32 (groupBit sw g) }
+
+pub there-more : (s : List ℕ) (i : ℕ) (a b : List ℕ) → There (records i s) a → Noted (take (i * 24 + 24 - i * 24) (drop (i * 24) s)) a b → There (records (i + 1) s) b
+there-more s i a b T N = record {
+  is = λ sw g hs hg.
+      let r = recordAt s i in
+      subst (λ (q : Rec). Noted q a b) (part-is s i) N .is sw g hs hg
+      ∙ or-comm (isGroupRecord r && isGroup sw g r) (bit a (groupBit sw g))
+      ∙ ap (λ (x : Bool). x || (isGroupRecord r && isGroup sw g r)) (T .is sw g hs hg)
+      ∙ sym (has-more (records i s) r sw g)
+      ∙ ap (λ (net : Net). hasGroup net sw g) (sym (records-more s i));
+}
+
+-- good actions and good buckets name groups that have bits
+module _ (w : Widths) (limits : Limits w) (r : Rec) where
+  switch-lt : at r 1 < 2 ^ w .w → at r 1 < 16
+  switch-lt h = let m : 2 ^ w .w ≤ 2 ^ 4 = pow-mono (limits .high-w) in omega arith
+
+  pub actions-named : at r 1 < 2 ^ w .w → actionsGood w r ≡ true → ActionsNamed r
+  actions-named h e = record { switch = switch-lt h; number = λ i l k. action-group w r (at r 8) i (action-each w r e i l) k }
+
+  pub buckets-named : length r ≡ 24 → kind r ≡ 9 → fieldsGood w r ≡ true → BucketsNamed r
+  buckets-named l k e =
+      let a = both (ltb (at r 1) (2 ^ w .w) && leb (at r 2) 15 && zeros 3 7 r && bucketsGood w r) (zeros 21 23 r) (sym (group-fields w r k) ∙ e) in
+      let b = both (ltb (at r 1) (2 ^ w .w) && leb (at r 2) 15 && zeros 3 7 r) (bucketsGood w r) (a .0) in
+      let c = both (ltb (at r 1) (2 ^ w .w)) (leb (at r 2) 15) (and-left (ltb (at r 1) (2 ^ w .w) && leb (at r 2) 15) (zeros 3 7 r) (b .0)) in
+      record {
+        switch = switch-lt (ltb-true _ _ (c .0));
+        number = λ j h q. omega (arith, leb-true (at r 2) 15 (c .1), bucket-lower w r l (at r 8) j h (bucket-each w r (b .1) j h) q);
+      }
+
+-- the last group, with one record more
+module _ (net : Net) (r : Rec) where
+  pub last-group : kind r ≡ 9 → lastGroup (net ++ (r ∷ [])) ≡ r
+  unfolding lastGroup ofKind
+  last-group k =
+      let e = keep-in isGroupRecord net r (eq-eqb (kind r) 9 k) in
+      let n : length (keep isGroupRecord net) ≡ length (keep isGroupRecord net ++ (r ∷ [])) - 1 = omega (arith, length-append (keep isGroupRecord net) (r ∷ [])) in
+      ap (λ (groups : Net). getD groups (length groups - 1) []) e ∙ getD-at (keep isGroupRecord net) r [] [] (length (keep isGroupRecord net ++ (r ∷ [])) - 1) n
+
+  pub last-same : (kind r ≡ 9 → ⊥) → lastGroup (net ++ (r ∷ [])) ≡ lastGroup net
+  unfolding lastGroup ofKind
+  last-same n = ap (λ (groups : Net). getD groups (length groups - 1) []) (keep-out isGroupRecord net r (ne-eqb (kind r) 9 n))
+
+-- the order by what is known of the groups before
+pub order-by : (before : Net) (s : Groups) (r : Rec) → GroupsOf before s
+    → outOfOrder before r ≡ (ltb 0 (s .count) && not (ltb (s .switch) (at r 1) || (eqb (s .switch) (at r 1) && ltb (s .number) (at r 2))))
+unfolding outOfOrder ascends
+order-by before s r G = rw (G .count, G .switch, G .number)
