@@ -48,6 +48,7 @@ pub record Counted (net : Net) (l : Layout) : Type 0 where
   pub misses : l .misses ≡ 1 + length (ofKind 2 net)
   pub rules : l .rules ≡ l .misses + length (ofKind 3 net)
   pub nodes : l .nodes ≡ l .rules + length (ofKind 4 net)
+  pub groups : l .groups ≡ length net - length (ofKind 9 net)
   pub policies : l .policies ≡ policyCount net
   pub longest : l .longest ≡ longest net
 
@@ -62,4 +63,5 @@ pub record Bounded (s : Seen) (n : ℕ) : Type 0 where
   pub links : s .links ≤ n
   pub misses : s .misses ≤ n
   pub rules : s .rules ≤ n
+  pub groups : s .groups .count ≤ n
   pub switch-width : s .widths .w ≤ 4

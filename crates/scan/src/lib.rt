@@ -1,4 +1,4 @@
-// Reading a network: rows 1 to 11, or where its parts stand.
+// Reading a network: rows 1 to 11 and 16, or where its parts stand.
 ghost use mathlib.Core.Path.{_≡_};
 ghost use mathlib.Core.Bool.{true};
 ghost use mathlib.Core.List.{[]};
@@ -10,6 +10,8 @@ ghost use Rattle.rows.specs.Refusal.{fileRow, checkRefusal};
 ghost use Rattle.scan.specs.Scan.{SeenOf};
 ghost use Rattle.scan.specs.Layout.{Bounded, Ended, Read};
 use records::Widths;
+use rows::groups::Groups;
+use rows::groups::groups_there;
 use rows::nodes::Policies;
 use turns::Seen;
 use turns::Turn;
@@ -50,6 +52,11 @@ fn start() -> Seen
             free: 0,
             longest: 0,
         },
+        groups: Groups {
+            count: 0,
+            switch: 0,
+            number: 0,
+        },
     }
 }
 
@@ -60,6 +67,7 @@ fn end(s: Seen, n: usize) -> Reading
 {
     let widths = s.widths;
     let policies = s.policies;
+    let groups = s.groups;
     if turns::incomplete(s.misses, widths.w) {
         return Reading::Refused {
             number: 7,
@@ -74,20 +82,22 @@ fn end(s: Seen, n: usize) -> Reading
         misses,
         rules,
         nodes,
+        groups: n - groups.count,
         policies: policies.count,
         longest: policies.longest,
     })
 }
 
-// The first n records: rows 3 to 10.
+// The first n records: rows 3 to 10 and 16.
 pub fn scan(store: &[u8], n: usize) -> Reading
     requires { ⌜ n * 24 ≤ length (now store) ⌝ }
     ensures { λ r. ⌜ Read (records n (now (store .entry))) (fileRow [] (records n (now (store .entry)))) r ⌝ }
 {
+    let there = groups_there(store, n);
     let mut s = start();
     let mut i = 0;
     while i < n {
-        let t = turns::turn_at(store, n, i, s);
+        let t = turns::turn_at(store, n, i, s, &there);
         match t {
             Turn::Stop(number) => {
                 return Reading::Refused { number, place: i };
@@ -110,7 +120,7 @@ pub fn work_needed(l: Layout) -> usize
     (l.longest + 2) * widths.plane_bytes()
 }
 
-// The network of n records in a store, with so much work: rows 1 to 11.
+// The network of n records in a store, with so much work: rows 1 to 11 and 16.
 pub fn check_rows(store: &[u8], n: usize, work: usize) -> Reading
     ensures { λ r. ⌜ Read (records n (now (store .entry))) (checkRefusal (now (store .entry)) n work) r ⌝ }
 {

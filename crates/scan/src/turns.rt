@@ -1,21 +1,27 @@
 // A turn of the scan at each kind of record: the lowest row that the record meets, or what is known of the records before the next.
 ghost use mathlib.Core.Path.{_≡_};
 ghost use Prim.Native.Nat.{_*_, _^_, _≤_, _<_};
+ghost use mathlib.Core.Bool.{true};
+ghost use mathlib.Core.List.{_∷_, _++_};
 ghost use lib.Dec.{ltb};
 ghost use lib.ListN.{length};
 ghost use Rattle.records.specs.Record.{Net, kind, records};
 ghost use Rattle.records.specs.Search.{recordAt, recordsAfter};
-ghost use Rattle.scan.specs.Scan.{SeenOf, Limited, Formed, Turned, BeforeTurn};
+ghost use Rattle.records.specs.Widths.{withinLimits};
+ghost use Rattle.rows.specs.Groups.{There};
+ghost use Rattle.scan.specs.Scan.{SeenOf, Limited, Placed, Formed, GroupMet, Later, Turned, BeforeTurn};
 use records::Widths;
 use records::fields;
+use rows::groups;
+use rows::groups::Groups;
 use rows::links;
 use rows::nodes;
 use rows::nodes::Entry;
 use rows::nodes::Policies;
 use rows::rules;
 
-// What is known of the records before: the kind of the last one, the widths, how many links, misses and rules there are, and
-// the policies.
+// What is known of the records before: the kind of the last one, the widths, how many links, misses and rules there are, the
+// policies and the groups.
 pub struct Seen {
     pub last: u8,
     pub widths: Widths,
@@ -23,6 +29,7 @@ pub struct Seen {
     pub misses: usize,
     pub rules: usize,
     pub policies: Policies,
+    pub groups: Groups,
 }
 
 // A record meets a row, or it is known what stands before the next.
@@ -31,19 +38,27 @@ pub enum Turn {
     Stop(u8),
 }
 
+// Row 3 of a record that is not the widths record: none of those stands before it, or a higher kind does.
+fn misplaced(r: &[u8], s: Seen) -> bool
+    requires { ⌜ (length (now r) ≡ 24) × Later (now r) ⌝ }
+    ensures { λ b. ⌜ Placed (now (r .entry)) s b ⌝ }
+{
+    let last = s.last;
+    if last == 0 {
+        return true;
+    }
+    r[0] < last
+}
+
 // The lowest of rows 3 and 5 that a record of kind 2 to 5 meets, or 0.
 fn form_row(r: &[u8], s: Seen) -> u8
     requires { ⌜ (length (now r) ≡ 24) × (2 ≤ kind (now r)) × (kind (now r) ≤ 5) × Limited s ⌝ }
     ensures { λ k. ⌜ Formed (now (r .entry)) s k ⌝ }
 {
-    let last = s.last;
+    if misplaced(r, s) {
+        return 3;
+    }
     let w = s.widths;
-    if last == 0 {
-        return 3;
-    }
-    if r[0] < last {
-        return 3;
-    }
     if !fields::fields_good(w, r) {
         return 5;
     }
@@ -100,10 +115,10 @@ fn link_turn(store: &[u8], i: usize, r: &[u8], s: Seen) -> Turn
     Turn::Next(next)
 }
 
-// A miss.
-fn miss_turn(r: &[u8], s: Seen) -> Turn
+// A miss, where these groups are there.
+fn miss_turn(r: &[u8], s: Seen, there: &[u8; 32]) -> Turn
     requires { ⌜ (length (now r) ≡ 24) × (kind (now r) ≡ 3) × Limited s ⌝ }
-    ensures { λ t. ⌜ ((before after : Net) → SeenOf before s → Turned before (now (r .entry)) after t) ⌝ }
+    ensures { λ t. ⌜ ((before after : Net) → SeenOf before s → There (before ++ (now (r .entry) ∷ after)) (now (there .entry)) → Turned before (now (r .entry)) after t) ⌝ }
 {
     let row = form_row(r, s);
     if row != 0 {
@@ -114,16 +129,19 @@ fn miss_turn(r: &[u8], s: Seen) -> Turn
     if sw != misses {
         return Turn::Stop(7);
     }
+    if !groups::actions_there(there, r) {
+        return Turn::Stop(16);
+    }
     let mut next = s;
     next.last = 3;
     next.misses = misses + 1;
     Turn::Next(next)
 }
 
-// A rule, after the first i records.
-fn rule_turn(store: &[u8], i: usize, r: &[u8], s: Seen) -> Turn
+// A rule, after the first i records, where these groups are there.
+fn rule_turn(store: &[u8], i: usize, r: &[u8], s: Seen, there: &[u8; 32]) -> Turn
     requires { ⌜ BeforeTurn (now store) i (now r) s × (kind (now r) ≡ 4) ⌝ }
-    ensures { λ t. ⌜ ((after : Net) → Turned (records i (now (store .entry))) (now (r .entry)) after t) ⌝ }
+    ensures { λ t. ⌜ ((after : Net) → There (records i (now (store .entry)) ++ (now (r .entry) ∷ after)) (now (there .entry)) → Turned (records i (now (store .entry))) (now (r .entry)) after t) ⌝ }
 {
     let row = form_row(r, s);
     if row != 0 {
@@ -139,6 +157,9 @@ fn rule_turn(store: &[u8], i: usize, r: &[u8], s: Seen) -> Turn
     }
     if records::MOST_RULES <= rules {
         return Turn::Stop(10);
+    }
+    if !groups::actions_there(there, r) {
+        return Turn::Stop(16);
     }
     let mut next = s;
     next.last = 4;
@@ -173,9 +194,51 @@ fn node_turn(store: &[u8], n: usize, i: usize, r: &[u8], s: Seen) -> Turn
     }
 }
 
-// Record i of n: the kind byte decides how the other 23 are read.
-pub fn turn_at(store: &[u8], n: usize, i: usize, s: Seen) -> Turn
+// Row 16 of a group's record, where these groups are there.
+fn group_faulty(r: &[u8], s: Seen, there: &[u8; 32]) -> bool
+    requires { ⌜ (length (now r) ≡ 24) × (kind (now r) ≡ 9) × (withinLimits (s .widths) ≡ true) ⌝ }
+    ensures { λ b. ⌜ GroupMet (now (r .entry)) s (now (there .entry)) b ⌝ }
+{
+    let w = s.widths;
+    let known = s.groups;
+    if !fields::fields_good(w, r) {
+        return true;
+    }
+    if known.out_of_order(r) {
+        return true;
+    }
+    if records::MOST_GROUPS <= known.count {
+        return true;
+    }
+    !groups::buckets_there(there, r)
+}
+
+// A group, where these groups are there.
+fn group_turn(r: &[u8], s: Seen, there: &[u8; 32]) -> Turn
+    requires { ⌜ (length (now r) ≡ 24) × (kind (now r) ≡ 9) × Limited s ⌝ }
+    ensures { λ t. ⌜ ((before after : Net) → SeenOf before s → There (before ++ (now (r .entry) ∷ after)) (now (there .entry)) → Turned before (now (r .entry)) after t) ⌝ }
+{
+    if misplaced(r, s) {
+        return Turn::Stop(3);
+    }
+    let w = s.widths;
+    if incomplete(s.misses, w.w) {
+        return Turn::Stop(7);
+    }
+    if group_faulty(r, s, there) {
+        return Turn::Stop(16);
+    }
+    let known = s.groups;
+    let mut next = s;
+    next.last = 9;
+    next.groups = known.with_group(r);
+    Turn::Next(next)
+}
+
+// Record i of n, where these groups are there: the kind byte decides how the other 23 are read.
+pub fn turn_at(store: &[u8], n: usize, i: usize, s: Seen, there: &[u8; 32]) -> Turn
     requires { ⌜ (n * 24 ≤ length (now store)) × (i < n) × SeenOf (records i (now store)) s ⌝ }
+    requires { ⌜ There (records n (now store)) (now there) ⌝ }
     ensures { λ t. ⌜ Turned (records i (now (store .entry))) (recordAt (now (store .entry)) i) (recordsAfter n (now (store .entry)) i) t ⌝ }
 {
     let a = i * 24;
@@ -186,9 +249,10 @@ pub fn turn_at(store: &[u8], n: usize, i: usize, s: Seen) -> Turn
         0 => Turn::Stop(3),
         1 => widths_turn(r, s),
         2 => link_turn(store, i, r, s),
-        3 => miss_turn(r, s),
-        4 => rule_turn(store, i, r, s),
+        3 => miss_turn(r, s, there),
+        4 => rule_turn(store, i, r, s, there),
         5 => node_turn(store, n, i, r, s),
-        6..=255 => Turn::Stop(3),
+        9 => group_turn(r, s, there),
+        6..=8 | 10..=255 => Turn::Stop(3),
     }
 }

@@ -17,11 +17,12 @@ use Rattle.records.specs.Lists.{keep, any}
 use Rattle.records.specs.Record.{Rec, Net, at, kind, records, ofKind}
 use Rattle.records.specs.Search.{recordAt}
 use Rattle.records.specs.Group.{isGroup, hasGroup}
-use Rattle.records.specs.Fields.{zeros, actionsGood, bucketsGood, fieldsGood}
+use Rattle.records.specs.Fields.{zeros, matchGood, actionsGood, bucketsGood, fieldsGood}
+use Rattle.records.specs.Pattern.{patternGood}
 use Rattle.records.specs.Laws.Lists.{keep-in, keep-out}
-use Rattle.records.specs.Laws.Fields.{group-fields, action-each, bucket-each, action-group, bucket-lower}
+use Rattle.records.specs.Laws.Fields.{miss-fields, rule-fields, miss-actions, rule-actions, group-fields, action-each, bucket-each, action-group, bucket-lower}
 use Rattle.records.specs.Laws.Groups.{has-more}
-use Rattle.records.specs.Laws.Kinds.{isGroupRecord}
+use Rattle.records.specs.Laws.Kinds.{isGroupRecord, kind-count}
 use Rattle.records.specs.Laws.Limits.{Limits}
 use Rattle.records.specs.Laws.Records.{records-more, part-is}
 use Rattle.records.specs.declared.Widths.{Widths}
@@ -89,6 +90,17 @@ module _ (w : Widths) (limits : Limits w) (r : Rec) where
   pub actions-named : at r 1 < 2 ^ w .w → actionsGood w r ≡ true → ActionsNamed r
   actions-named h e = record { switch = switch-lt h; number = λ i l k. action-group w r (at r 8) i (action-each w r e i l) k }
 
+  pub miss-named : kind r ≡ 3 → fieldsGood w r ≡ true → ActionsNamed r
+  miss-named k e =
+      actions-named (ltb-true _ _ (and-left (ltb (at r 1) (2 ^ w .w)) (zeros 2 7 r) (and-left _ (actionsGood w r) (and-left _ (zeros 21 23 r) (sym (miss-fields w r k) ∙ e))))) (miss-actions w r k e)
+
+  pub match-switch : matchGood w r ≡ true → at r 1 < 2 ^ w .w
+  unfolding matchGood
+  match-switch e = ltb-true _ _ (and-left (ltb (at r 1) (2 ^ w .w)) (patternGood (w .p) (at r 4) (at r 5)) (and-left _ (patternGood (w .h) (at r 6) (at r 7)) e))
+
+  pub rule-named : kind r ≡ 4 → fieldsGood w r ≡ true → ActionsNamed r
+  rule-named k e = actions-named (match-switch (and-left (matchGood w r) (actionsGood w r) (and-left _ (zeros 21 23 r) (sym (rule-fields w r k) ∙ e)))) (rule-actions w r k e)
+
   pub buckets-named : length r ≡ 24 → kind r ≡ 9 → fieldsGood w r ≡ true → BucketsNamed r
   buckets-named l k e =
       let a = both (ltb (at r 1) (2 ^ w .w) && leb (at r 2) 15 && zeros 3 7 r && bucketsGood w r) (zeros 21 23 r) (sym (group-fields w r k) ∙ e) in
@@ -117,3 +129,13 @@ pub order-by : (before : Net) (s : Groups) (r : Rec) → GroupsOf before s
     → outOfOrder before r ≡ (ltb 0 (s .count) && not (ltb (s .switch) (at r 1) || (eqb (s .switch) (at r 1) && ltb (s .number) (at r 2))))
 unfolding outOfOrder ascends
 order-by before s r G = rw (G .count, G .switch, G .number)
+
+-- another record leaves what is known of the groups
+pub groups-other : (before : Net) (s : Groups) → GroupsOf before s → (r : Rec) → (kind r ≡ 9 → ⊥) → GroupsOf (before ++ (r ∷ [])) s
+groups-other before s G r n =
+    let last = last-same before r n in
+    record {
+      count = G .count ∙ sym (kind-count 9 before r ∙ rw (ne-eqb (kind r) 9 n) (omega arith));
+      switch = G .switch ∙ ap (λ (q : Rec). at q 1) (sym last);
+      number = G .number ∙ ap (λ (q : Rec). at q 2) (sym last);
+    }

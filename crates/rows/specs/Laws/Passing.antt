@@ -147,6 +147,14 @@ pub clean-all : (P : Net → Type 0) → ((before : Net) (r : Rec) (after : Net)
     → (before rest : Net) → P before → fileRow before rest ≡ none → P (before ++ rest)
 clean-all P step before rest p e = carried (λ b a. P b) (λ b r a s i. step b r a i s) rest before e p
 
+-- a kind that a record may have
+pub kind-known : (k : ℕ) → (5 < k → k ≡ 9) → (ltb 5 k && not (eqb k 9)) ≡ false
+kind-known k group = go (decLt 5 k)
+  where
+    go : Dec (5 < k) → (ltb 5 k && not (eqb k 9)) ≡ false
+    go (yes h) = rw (eq-eqb k 9 (group h)) (and-false (ltb 5 k))
+    go (no h) = rw (le-ltb 5 k (omega arith))
+
 -- what row 3 leaves of a record's kind
 pub record Ordered (before : Net) (r : Rec) : Type 0 where
   pub low : 1 ≤ kind r
@@ -189,16 +197,12 @@ module _ (before : Net) (r : Rec) where
   ordered-later l low group order =
       rw (
         le-ltb (kind r) 1 (omega arith),
-        known-kind (decLt 5 (kind r)),
+        kind-known (kind r) group,
         le-ltb (kind r) (lastKind before) order,
         ne-eqb (length before) 0 (λ q. omega arith),
         lt-ltb 0 (length before) l,
         ne-eqb (kind r) 1 (λ q. omega arith),
       )
-    where
-      known-kind : Dec (5 < kind r) → (ltb 5 (kind r) && not (eqb (kind r) 9)) ≡ false
-      known-kind (yes h) = rw (eq-eqb (kind r) 9 (group h)) (and-false (ltb 5 (kind r)))
-      known-kind (no h) = rw (le-ltb 5 (kind r) (omega arith))
 
 -- what the rows say of a record that passes them
 module _ (before : Net) (r : Rec) (after : Net) (p : Passes before r after) where

@@ -17,11 +17,14 @@ returns c net known len = record {
 
 returns-2 : tie.Need-returns-2
 unfolding fileRow
-returns-2 c net known len = record {
-  answer = rw (misses-known net _ known ∙ sym (c .before .before .before .before .incomplete .ensures) ∙ c .before .before .before .if1 .left);
-  layout = λ l e. counted net (c .before .before .before .before .before .before .before .args .s) l known e;
-}
+returns-2 c net known len =
+    let d = c .before .before .before .before in
+    record {
+      answer = rw (misses-known net _ known ∙ sym (d .before .incomplete .ensures) ∙ d .if1 .left);
+      layout = λ l e. let a = d .before .before .before .before .before .args in counted net (a .s) (a .n) l known len e;
+    }
 
 pub end-spec : {M : Type 1} → statement M
 end-spec =
-    tie.close (tie.spec (λ c. search needs) returns (λ c. search needs) (λ c. search needs) (λ c. search needs) returns-2)
+    tie.close
+    (tie.spec (λ c. search needs) returns (λ c. search needs) (λ c. search needs) (λ c. search needs) (λ c. search needs) returns-2)

@@ -1,5 +1,5 @@
 -- The kinds of a network that no row refuses stand one after the other.
-use mathlib.Core.Path.{_≡_, refl, sym, ap, subst, _∙_}
+use mathlib.Core.Path.{_≡_, refl, sym, ap, ap₂, subst, _∙_}
 use mathlib.Core.Bool.{true}
 use mathlib.Core.List.{[], _∷_, _++_, append-assoc, append-nil}
 use mathlib.Core.Logic.{⊎-elim}
@@ -39,7 +39,7 @@ kind-out k before r h = keep-out (λ x. eqb (kind x) k) before r (ne-eqb (kind r
 
 -- the widths record, then the records of each kind
 abbrev pub inParts : Net → Net
-inParts net = take 1 net ++ (ofKind 2 net ++ (ofKind 3 net ++ (ofKind 4 net ++ ofKind 5 net)))
+inParts net = take 1 net ++ (ofKind 2 net ++ (ofKind 3 net ++ (ofKind 4 net ++ (ofKind 5 net ++ ofKind 9 net))))
 
 pub record Sorted (net : Net) : Type 0 where
   pub parts : net ≡ inParts net
@@ -50,18 +50,21 @@ unfolding ofKind keep
 sorted-none = record { parts = refl; above = λ k h. refl }
 
 -- one record more at the end of each part, where those after it are empty
-module _ (a b c d e x : Net) where
-  at-two : c ≡ [] → d ≡ [] → e ≡ [] → (a ++ (b ++ (c ++ (d ++ e)))) ++ x ≡ a ++ ((b ++ x) ++ (c ++ (d ++ e)))
-  at-two p q s = rw (p, q, s) (simp (append-assoc, append-nil))
+module _ (a b c d e f x : Net) where
+  at-two : c ≡ [] → d ≡ [] → e ≡ [] → f ≡ [] → (a ++ (b ++ (c ++ (d ++ (e ++ f))))) ++ x ≡ a ++ ((b ++ x) ++ (c ++ (d ++ (e ++ f))))
+  at-two p q s t = rw (p, q, s, t) (simp (append-assoc, append-nil))
 
-  at-three : d ≡ [] → e ≡ [] → (a ++ (b ++ (c ++ (d ++ e)))) ++ x ≡ a ++ (b ++ ((c ++ x) ++ (d ++ e)))
-  at-three q s = rw (q, s) (simp (append-assoc, append-nil))
+  at-three : d ≡ [] → e ≡ [] → f ≡ [] → (a ++ (b ++ (c ++ (d ++ (e ++ f))))) ++ x ≡ a ++ (b ++ ((c ++ x) ++ (d ++ (e ++ f))))
+  at-three q s t = rw (q, s, t) (simp (append-assoc, append-nil))
 
-  at-four : e ≡ [] → (a ++ (b ++ (c ++ (d ++ e)))) ++ x ≡ a ++ (b ++ (c ++ ((d ++ x) ++ e)))
-  at-four s = rw s (simp (append-assoc, append-nil))
+  at-four : e ≡ [] → f ≡ [] → (a ++ (b ++ (c ++ (d ++ (e ++ f))))) ++ x ≡ a ++ (b ++ (c ++ ((d ++ x) ++ (e ++ f))))
+  at-four s t = rw (s, t) (simp (append-assoc, append-nil))
 
-  at-five : (a ++ (b ++ (c ++ (d ++ e)))) ++ x ≡ a ++ (b ++ (c ++ (d ++ (e ++ x))))
-  at-five = simp append-assoc
+  at-five : f ≡ [] → (a ++ (b ++ (c ++ (d ++ (e ++ f))))) ++ x ≡ a ++ (b ++ (c ++ (d ++ ((e ++ x) ++ f))))
+  at-five t = rw t (simp (append-assoc, append-nil))
+
+  at-nine : (a ++ (b ++ (c ++ (d ++ (e ++ f))))) ++ x ≡ a ++ (b ++ (c ++ (d ++ (e ++ (f ++ x)))))
+  at-nine = simp append-assoc
 
 module _ (before : Net) (r : Rec) (after : Net) (s : Sorted before) (p : Passes before r after) where
   o : Ordered before r
@@ -83,27 +86,34 @@ module _ (before : Net) (r : Rec) (after : Net) (s : Sorted before) (p : Passes 
     front : take 1 (before ++ (r ∷ [])) ≡ take 1 before
     front = take-append-le 1 before (r ∷ []) some
 
-    parts-are : (x y z w : Net) → ofKind 2 (before ++ (r ∷ [])) ≡ x → ofKind 3 (before ++ (r ∷ [])) ≡ y → ofKind 4 (before ++ (r ∷ [])) ≡ z → ofKind 5 (before ++ (r ∷ [])) ≡ w
-        → (take 1 before ++ (ofKind 2 before ++ (ofKind 3 before ++ (ofKind 4 before ++ ofKind 5 before)))) ++ (r ∷ []) ≡ take 1 before ++ (x ++ (y ++ (z ++ w)))
+    parts-are : (x y z w v : Net) → ofKind 2 (before ++ (r ∷ [])) ≡ x → ofKind 3 (before ++ (r ∷ [])) ≡ y → ofKind 4 (before ++ (r ∷ [])) ≡ z → ofKind 5 (before ++ (r ∷ [])) ≡ w → ofKind 9 (before ++ (r ∷ [])) ≡ v
+        → (take 1 before ++ (ofKind 2 before ++ (ofKind 3 before ++ (ofKind 4 before ++ (ofKind 5 before ++ ofKind 9 before))))) ++ (r ∷ []) ≡ take 1 before ++ (x ++ (y ++ (z ++ (w ++ v))))
         → before ++ (r ∷ []) ≡ inParts (before ++ (r ∷ []))
-    parts-are x y z w e2 e3 e4 e5 q = ap (λ (l : Net). l ++ (r ∷ [])) (s .parts) ∙ q ∙ sym (rw (front, e2, e3, e4, e5))
+    parts-are x y z w v e2 e3 e4 e5 e9 q = ap (λ (l : Net). l ++ (r ∷ [])) (s .parts) ∙ q ∙ sym (rw (front, e2, e3, e4, e5, e9))
 
-    by-kind : (k : ℕ) → kind r ≡ k → 2 ≤ k → k ≤ 5 → before ++ (r ∷ []) ≡ inParts (before ++ (r ∷ []))
+    -- the records of another kind stay, and none is of a higher kind
+    out : (k : ℕ) → (kind r ≡ k → ⊥) → ofKind k (before ++ (r ∷ [])) ≡ ofKind k before
+    out k h = kind-out k before r h
+
+    by-kind : (k : ℕ) → kind r ≡ k → 2 ≤ k → (5 < k → k ≡ 9) → before ++ (r ∷ []) ≡ inParts (before ++ (r ∷ []))
     by-kind zero e l h = absurd (omega arith)
     by-kind (suc zero) e l h = absurd (omega arith)
     by-kind (suc (suc zero)) e l h =
-        parts-are _ _ _ _ (kind-in 2 before r e) (kind-out 3 before r (λ q. omega arith)) (kind-out 4 before r (λ q. omega arith)) (kind-out 5 before r (λ q. omega arith))
-        (at-two (take 1 before) (ofKind 2 before) (ofKind 3 before) (ofKind 4 before) (ofKind 5 before) (r ∷ []) (none-above 3 (omega arith)) (none-above 4 (omega arith)) (none-above 5 (omega arith)))
+        parts-are _ _ _ _ _ (kind-in 2 before r e) (out 3 (λ q. omega arith)) (out 4 (λ q. omega arith)) (out 5 (λ q. omega arith)) (out 9 (λ q. omega arith))
+        (at-two (take 1 before) (ofKind 2 before) (ofKind 3 before) (ofKind 4 before) (ofKind 5 before) (ofKind 9 before) (r ∷ []) (none-above 3 (omega arith)) (none-above 4 (omega arith)) (none-above 5 (omega arith)) (none-above 9 (omega arith)))
     by-kind (suc (suc (suc zero))) e l h =
-        parts-are _ _ _ _ (kind-out 2 before r (λ q. omega arith)) (kind-in 3 before r e) (kind-out 4 before r (λ q. omega arith)) (kind-out 5 before r (λ q. omega arith))
-        (at-three (take 1 before) (ofKind 2 before) (ofKind 3 before) (ofKind 4 before) (ofKind 5 before) (r ∷ []) (none-above 4 (omega arith)) (none-above 5 (omega arith)))
+        parts-are _ _ _ _ _ (out 2 (λ q. omega arith)) (kind-in 3 before r e) (out 4 (λ q. omega arith)) (out 5 (λ q. omega arith)) (out 9 (λ q. omega arith))
+        (at-three (take 1 before) (ofKind 2 before) (ofKind 3 before) (ofKind 4 before) (ofKind 5 before) (ofKind 9 before) (r ∷ []) (none-above 4 (omega arith)) (none-above 5 (omega arith)) (none-above 9 (omega arith)))
     by-kind (suc (suc (suc (suc zero)))) e l h =
-        parts-are _ _ _ _ (kind-out 2 before r (λ q. omega arith)) (kind-out 3 before r (λ q. omega arith)) (kind-in 4 before r e) (kind-out 5 before r (λ q. omega arith))
-        (at-four (take 1 before) (ofKind 2 before) (ofKind 3 before) (ofKind 4 before) (ofKind 5 before) (r ∷ []) (none-above 5 (omega arith)))
+        parts-are _ _ _ _ _ (out 2 (λ q. omega arith)) (out 3 (λ q. omega arith)) (kind-in 4 before r e) (out 5 (λ q. omega arith)) (out 9 (λ q. omega arith))
+        (at-four (take 1 before) (ofKind 2 before) (ofKind 3 before) (ofKind 4 before) (ofKind 5 before) (ofKind 9 before) (r ∷ []) (none-above 5 (omega arith)) (none-above 9 (omega arith)))
     by-kind (suc (suc (suc (suc (suc zero))))) e l h =
-        parts-are _ _ _ _ (kind-out 2 before r (λ q. omega arith)) (kind-out 3 before r (λ q. omega arith)) (kind-out 4 before r (λ q. omega arith)) (kind-in 5 before r e)
-        (at-five (take 1 before) (ofKind 2 before) (ofKind 3 before) (ofKind 4 before) (ofKind 5 before) (r ∷ []))
-    by-kind (suc (suc (suc (suc (suc (suc k)))))) e l h = absurd (omega arith)
+        parts-are _ _ _ _ _ (out 2 (λ q. omega arith)) (out 3 (λ q. omega arith)) (out 4 (λ q. omega arith)) (kind-in 5 before r e) (out 9 (λ q. omega arith))
+        (at-five (take 1 before) (ofKind 2 before) (ofKind 3 before) (ofKind 4 before) (ofKind 5 before) (ofKind 9 before) (r ∷ []) (none-above 9 (omega arith)))
+    by-kind (suc (suc (suc (suc (suc (suc k)))))) e l h =
+        let q : kind r ≡ 9 = e ∙ h (omega arith) in
+        parts-are _ _ _ _ _ (out 2 (λ x. omega (arith, x, q))) (out 3 (λ x. omega (arith, x, q))) (out 4 (λ x. omega (arith, x, q))) (out 5 (λ x. omega (arith, x, q))) (kind-in 9 before r q)
+        (at-nine (take 1 before) (ofKind 2 before) (ofKind 3 before) (ofKind 4 before) (ofKind 5 before) (ofKind 9 before) (r ∷ []))
 
   pub sorted-more : Sorted (before ++ (r ∷ []))
   sorted-more = record { parts = go before refl; above = still-above }
@@ -112,7 +122,7 @@ module _ (before : Net) (r : Rec) (after : Net) (s : Sorted before) (p : Passes 
       go [] e = alone e
       go (x ∷ b) e =
           let l : 0 < length before = omega (arith, ap length e) in
-          by-kind l (kind r) refl (go2 (o .low) (o .later l)) (o .high)
+          by-kind l (kind r) refl (go2 (o .low) (o .later l)) (o .group)
         where
           go2 : 1 ≤ kind r → (kind r ≡ 1 → ⊥) → 2 ≤ kind r
           go2 a b = omega arith
@@ -208,25 +218,27 @@ pub part-of : (net a b c : Net) (i j : ℕ) → net ≡ a ++ (b ++ c) → length
 part-of net a b c i j e l m = sym (ap (λ (x : Net). take j (drop i x)) e ∙ ap (take j) (drop-at a (b ++ c) i l) ∙ take-at b c j m)
 
 -- the layout by what is known at the end
-abbrev pub layoutBy : Seen → Layout
-layoutBy s = record {
+abbrev pub layoutBy : Seen → ℕ → Layout
+layoutBy s n = record {
   widths = s .widths;
   misses = 1 + s .links;
   rules = 1 + s .links + s .misses;
   nodes = 1 + s .links + s .misses + s .rules;
+  groups = n - s .groups .count;
   policies = s .policies .count;
   longest = s .policies .longest;
 }
 
-pub counted : (net : Net) (s : Seen) (l : Layout) → SeenOf net s → Clean (layoutBy s) ≡ Clean l → Counted net l
-counted net s l known e =
-    let q : layoutBy s ≡ l = cc in
+pub counted : (net : Net) (s : Seen) (n : ℕ) (l : Layout) → SeenOf net s → length net ≡ n → Clean (layoutBy s n) ≡ Clean l → Counted net l
+counted net s n l known len e =
+    let q : layoutBy s n ≡ l = cc in
     subst (Counted net) q
     (record {
       widths = known .widths;
       misses = ap (λ (k : ℕ). 1 + k) (known .links);
       rules = ap (λ (k : ℕ). 1 + s .links + k) (known .misses);
       nodes = ap (λ (k : ℕ). 1 + s .links + s .misses + k) (known .rules);
+      groups = ap₂ _-_ (sym len) (known .groups .count);
       policies = known .policies .count;
       longest = known .policies .longest;
     })
@@ -245,28 +257,33 @@ layout-of net l clean c =
     let k3 = ofKind 3 net in
     let k4 = ofKind 4 net in
     let k5 = ofKind 5 net in
+    let k9 = ofKind 9 net in
     let n = numbers net clean in
     let some = not-empty net clean in
-    let e2 : net ≡ a ++ (k2 ++ (k3 ++ (k4 ++ k5))) = sorted net clean .parts in
-    let e3 : net ≡ (a ++ k2) ++ (k3 ++ (k4 ++ k5)) = e2 ∙ sym (append-assoc a k2 (k3 ++ (k4 ++ k5))) in
-    let e4 : net ≡ (a ++ k2 ++ k3) ++ (k4 ++ k5) = e3 ∙ sym (append-assoc (a ++ k2) k3 (k4 ++ k5)) in
-    let e5 : net ≡ (a ++ k2 ++ k3 ++ k4) ++ k5 = e4 ∙ sym (append-assoc (a ++ k2 ++ k3) k4 k5) in
+    let e2 : net ≡ a ++ (k2 ++ (k3 ++ (k4 ++ (k5 ++ k9)))) = sorted net clean .parts in
+    let e3 : net ≡ (a ++ k2) ++ (k3 ++ (k4 ++ (k5 ++ k9))) = e2 ∙ sym (append-assoc a k2 (k3 ++ (k4 ++ (k5 ++ k9)))) in
+    let e4 : net ≡ (a ++ k2 ++ k3) ++ (k4 ++ (k5 ++ k9)) = e3 ∙ sym (append-assoc (a ++ k2) k3 (k4 ++ (k5 ++ k9))) in
+    let e5 : net ≡ (a ++ k2 ++ k3 ++ k4) ++ (k5 ++ k9) = e4 ∙ sym (append-assoc (a ++ k2 ++ k3) k4 (k5 ++ k9)) in
+    let e9 : net ≡ (a ++ k2 ++ k3 ++ k4 ++ k5) ++ k9 = e5 ∙ sym (append-assoc (a ++ k2 ++ k3 ++ k4) k5 k9) in
     let l1 : length a ≡ 1 = length-take-le 1 net some in
     let l2 : length (a ++ k2) ≡ l .misses = length-append a k2 ∙ omega (arith, l1, c .misses) in
     let l3 : length (a ++ k2 ++ k3) ≡ l .rules = length-append (a ++ k2) k3 ∙ omega (arith, l2, c .rules) in
     let l4 : length (a ++ k2 ++ k3 ++ k4) ≡ l .nodes = length-append (a ++ k2 ++ k3) k4 ∙ omega (arith, l3, c .nodes) in
+    let l5 : length (a ++ k2 ++ k3 ++ k4 ++ k5) ≡ l .groups = omega (arith, ap length e9 ∙ length-append (a ++ k2 ++ k3 ++ k4 ++ k5) k9, c .groups) in
+    let l6 : l .nodes + length k5 ≡ l .groups = omega (arith, length-append (a ++ k2 ++ k3 ++ k4) k5, l4, l5) in
     let w : l .widths ≡ widthsOf net = c .widths in
     record {
       widths = w;
       limits = ap withinLimits w ∙ n .0 some;
-      links = part-of net a k2 (k3 ++ (k4 ++ k5)) 1 (l .misses - 1) e2 l1 (omega (arith, c .misses));
-      misses = part-of net (a ++ k2) k3 (k4 ++ k5) (l .misses) (l .rules - l .misses) e3 l2 (omega (arith, c .rules));
-      rules = part-of net (a ++ k2 ++ k3) k4 k5 (l .rules) (l .nodes - l .rules) e4 l3 (omega (arith, c .nodes));
-      nodes = sym (ap (drop (l .nodes)) e5 ∙ drop-at (a ++ k2 ++ k3 ++ k4) k5 (l .nodes) l4);
+      links = part-of net a k2 (k3 ++ (k4 ++ (k5 ++ k9))) 1 (l .misses - 1) e2 l1 (omega (arith, c .misses));
+      misses = part-of net (a ++ k2) k3 (k4 ++ (k5 ++ k9)) (l .misses) (l .rules - l .misses) e3 l2 (omega (arith, c .rules));
+      rules = part-of net (a ++ k2 ++ k3) k4 (k5 ++ k9) (l .rules) (l .nodes - l .rules) e4 l3 (omega (arith, c .nodes));
+      nodes = part-of net (a ++ k2 ++ k3 ++ k4) k5 k9 (l .nodes) (l .groups - l .nodes) e5 l4 (omega (arith, l6));
+      groups = sym (ap (drop (l .groups)) e9 ∙ drop-at (a ++ k2 ++ k3 ++ k4 ++ k5) k9 (l .groups) l5);
       some-widths = omega (arith, c .misses);
       switches = c .rules ∙ ap (λ (k : ℕ). l .misses + k) (clean-misses net clean ∙ ap (λ (v : Widths). 2 ^ v .w) (sym w));
       few-rules = (omega (arith, c .nodes), omega (arith, c .nodes, n .2));
-      within = omega (arith, ap length e5 ∙ length-append (a ++ k2 ++ k3 ++ k4) k5, l4);
+      within = (omega (arith, l6), omega (arith, c .groups));
       policies = c .policies;
       few-policies = omega (arith, c .policies, n .3);
       longest = c .longest;

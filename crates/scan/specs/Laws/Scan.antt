@@ -12,8 +12,9 @@ use Rattle.records.specs.Lists.{keep}
 use Rattle.records.specs.Record.{Rec, Net, kind, records, ofKind}
 use Rattle.records.specs.Widths.{withinLimits, widthsOf}
 use Rattle.records.specs.Policy.{nodesOf, policyCount, longestOf, longest, free}
-use Rattle.rows.specs.Rows.{missesIncomplete}
+use Rattle.rows.specs.Rows.{missesIncomplete, lastGroup}
 use Rattle.rows.specs.Policies.{PoliciesOf}
+use Rattle.rows.specs.Groups.{GroupsOf}
 use Rattle.scan.specs.Scan.{SeenOf}
 use Rattle.records.specs.declared.Widths.{Widths}
 use Rattle.scan.specs.declared.turns.Seen.{Seen}
@@ -21,6 +22,8 @@ use Rattle.records.specs.Laws.Kinds.{kind-count, widths-append, last-kind}
 use Rattle.records.specs.Laws.Lists.{keep-fewer}
 use Rattle.records.specs.Laws.Records.{length-records}
 use Rattle.rows.specs.declared.nodes.Policies.{Policies}
+use Rattle.rows.specs.declared.groups.Groups.{Groups}
+use Rattle.rows.specs.Laws.Groups.{groups-other}
 use Rattle.rows.specs.Laws.Formulas.{marks-none, same-or-not}
 use Rattle.records.specs.Laws.Limits.{limits}
 use Rattle.rows.specs.Laws.Entered.{policies-other}
@@ -41,8 +44,8 @@ module _ (before : Net) (s : Seen) (known : SeenOf before s) where
   -- what is known after one record more, whose kind is the last
   pub seen-more : (r : Rec) (t : Seen) → t .last ≡ kind r → (kind r ≡ 0 → ⊥) → t .widths ≡ widthsOf (before ++ (r ∷ [])) → withinLimits (t .widths) ≡ true
       → t .links ≡ s .links + cond (eqb (kind r) 2) 1 0 → t .misses ≡ s .misses + cond (eqb (kind r) 3) 1 0 → t .rules ≡ s .rules + cond (eqb (kind r) 4) 1 0
-      → PoliciesOf (before ++ (r ∷ [])) (t .policies) → SeenOf (before ++ (r ∷ [])) t
-  seen-more r t last some-kind widths limits links misses rules policies = record {
+      → PoliciesOf (before ++ (r ∷ [])) (t .policies) → GroupsOf (before ++ (r ∷ [])) (t .groups) → SeenOf (before ++ (r ∷ [])) t
+  seen-more r t last some-kind widths limits links misses rules policies groups = record {
     last = last ∙ sym (last-kind before r);
     started = ne-eqb (length (before ++ (r ∷ []))) 0 (λ q. omega (arith, length-append before (r ∷ []))) ∙ sym (ne-eqb (t .last) 0 (λ q. some-kind (sym last ∙ q)));
     widths = widths;
@@ -51,48 +54,57 @@ module _ (before : Net) (s : Seen) (known : SeenOf before s) where
     misses = misses ∙ ap (λ (k : ℕ). k + cond (eqb (kind r) 3) 1 0) (known .misses) ∙ sym (kind-count 3 before r);
     rules = rules ∙ ap (λ (k : ℕ). k + cond (eqb (kind r) 4) 1 0) (known .rules) ∙ sym (kind-count 4 before r);
     policies = policies;
+    groups = groups;
   }
 
-  -- after the widths record, a link, a miss, a rule and a node
+  -- after the widths record, a link, a miss, a rule, a node and a group
   pub seen-widths : (r : Rec) (w : Widths) → kind r ≡ 1 → s .last ≡ 0 → w ≡ widthsOf (r ∷ []) → withinLimits w ≡ true
-      → SeenOf (before ++ (r ∷ [])) (record { last = 1; widths = w; links = s .links; misses = s .misses; rules = s .rules; policies = s .policies })
+      → SeenOf (before ++ (r ∷ [])) (record { last = 1; widths = w; links = s .links; misses = s .misses; rules = s .rules; policies = s .policies; groups = s .groups })
   seen-widths r w k z e l =
       let q : before ≡ [] = nothing-yet z in
-      seen-more r (record { last = 1; widths = w; links = s .links; misses = s .misses; rules = s .rules; policies = s .policies }) (sym k) (λ q. omega arith)
+      seen-more r (record { last = 1; widths = w; links = s .links; misses = s .misses; rules = s .rules; policies = s .policies; groups = s .groups }) (sym k) (λ q. omega arith)
       (e ∙ ap (λ (b : Net). widthsOf (b ++ (r ∷ []))) (sym q)) l
       (rw k (omega arith)) (rw k (omega arith)) (rw k (omega arith))
-      (policies-other before (s .policies) (known .policies) r (λ q. omega arith))
+      (policies-other before (s .policies) (known .policies) r (λ q. omega arith)) (groups-other before (s .groups) (known .groups) r (λ q. omega arith))
 
   module _ (r : Rec) (later : s .last ≡ 0 → ⊥) where
     same-widths : s .widths ≡ widthsOf (before ++ (r ∷ []))
     same-widths = known .widths ∙ sym (widths-append before (r ∷ []) (begun later))
 
     pub seen-link : kind r ≡ 2
-        → SeenOf (before ++ (r ∷ [])) (record { last = 2; widths = s .widths; links = s .links + 1; misses = s .misses; rules = s .rules; policies = s .policies })
+        → SeenOf (before ++ (r ∷ [])) (record { last = 2; widths = s .widths; links = s .links + 1; misses = s .misses; rules = s .rules; policies = s .policies; groups = s .groups })
     seen-link k =
-        seen-more r (record { last = 2; widths = s .widths; links = s .links + 1; misses = s .misses; rules = s .rules; policies = s .policies }) (sym k) (λ q. omega arith)
+        seen-more r (record { last = 2; widths = s .widths; links = s .links + 1; misses = s .misses; rules = s .rules; policies = s .policies; groups = s .groups }) (sym k) (λ q. omega arith)
         same-widths (known .limits later) (rw k refl) (rw k (omega arith)) (rw k (omega arith))
-        (policies-other before (s .policies) (known .policies) r (λ q. omega arith))
+        (policies-other before (s .policies) (known .policies) r (λ q. omega arith)) (groups-other before (s .groups) (known .groups) r (λ q. omega arith))
 
     pub seen-miss : kind r ≡ 3
-        → SeenOf (before ++ (r ∷ [])) (record { last = 3; widths = s .widths; links = s .links; misses = s .misses + 1; rules = s .rules; policies = s .policies })
+        → SeenOf (before ++ (r ∷ [])) (record { last = 3; widths = s .widths; links = s .links; misses = s .misses + 1; rules = s .rules; policies = s .policies; groups = s .groups })
     seen-miss k =
-        seen-more r (record { last = 3; widths = s .widths; links = s .links; misses = s .misses + 1; rules = s .rules; policies = s .policies }) (sym k) (λ q. omega arith)
+        seen-more r (record { last = 3; widths = s .widths; links = s .links; misses = s .misses + 1; rules = s .rules; policies = s .policies; groups = s .groups }) (sym k) (λ q. omega arith)
         same-widths (known .limits later) (rw k (omega arith)) (rw k refl) (rw k (omega arith))
-        (policies-other before (s .policies) (known .policies) r (λ q. omega arith))
+        (policies-other before (s .policies) (known .policies) r (λ q. omega arith)) (groups-other before (s .groups) (known .groups) r (λ q. omega arith))
 
     pub seen-rule : kind r ≡ 4
-        → SeenOf (before ++ (r ∷ [])) (record { last = 4; widths = s .widths; links = s .links; misses = s .misses; rules = s .rules + 1; policies = s .policies })
+        → SeenOf (before ++ (r ∷ [])) (record { last = 4; widths = s .widths; links = s .links; misses = s .misses; rules = s .rules + 1; policies = s .policies; groups = s .groups })
     seen-rule k =
-        seen-more r (record { last = 4; widths = s .widths; links = s .links; misses = s .misses; rules = s .rules + 1; policies = s .policies }) (sym k) (λ q. omega arith)
+        seen-more r (record { last = 4; widths = s .widths; links = s .links; misses = s .misses; rules = s .rules + 1; policies = s .policies; groups = s .groups }) (sym k) (λ q. omega arith)
         same-widths (known .limits later) (rw k (omega arith)) (rw k (omega arith)) (rw k refl)
-        (policies-other before (s .policies) (known .policies) r (λ q. omega arith))
+        (policies-other before (s .policies) (known .policies) r (λ q. omega arith)) (groups-other before (s .groups) (known .groups) r (λ q. omega arith))
 
     pub seen-node : (p : Policies) → kind r ≡ 5 → PoliciesOf (before ++ (r ∷ [])) p
-        → SeenOf (before ++ (r ∷ [])) (record { last = 5; widths = s .widths; links = s .links; misses = s .misses; rules = s .rules; policies = p })
+        → SeenOf (before ++ (r ∷ [])) (record { last = 5; widths = s .widths; links = s .links; misses = s .misses; rules = s .rules; policies = p; groups = s .groups })
     seen-node p k q =
-        seen-more r (record { last = 5; widths = s .widths; links = s .links; misses = s .misses; rules = s .rules; policies = p }) (sym k) (λ q. omega arith)
+        seen-more r (record { last = 5; widths = s .widths; links = s .links; misses = s .misses; rules = s .rules; policies = p; groups = s .groups }) (sym k) (λ q. omega arith)
         same-widths (known .limits later) (rw k (omega arith)) (rw k (omega arith)) (rw k (omega arith)) q
+        (groups-other before (s .groups) (known .groups) r (λ q. omega arith))
+
+    pub seen-group : (g : Groups) → kind r ≡ 9 → GroupsOf (before ++ (r ∷ [])) g
+        → SeenOf (before ++ (r ∷ [])) (record { last = 9; widths = s .widths; links = s .links; misses = s .misses; rules = s .rules; policies = s .policies; groups = g })
+    seen-group g k q =
+        seen-more r (record { last = 9; widths = s .widths; links = s .links; misses = s .misses; rules = s .rules; policies = s .policies; groups = g }) (sym k) (λ q. omega arith)
+        same-widths (known .limits later) (rw k (omega arith)) (rw k (omega arith)) (rw k (omega arith))
+        (policies-other before (s .policies) (known .policies) r (λ q. omega arith)) q
 
   -- the switch width is small, and the misses are complete or not by their number
   pub misses-known : missesIncomplete before ≡ ltb (s .misses) (2 ^ s .widths .w)
@@ -114,6 +126,9 @@ module _ (store : List ℕ) (i : ℕ) (s : Seen) (known : SeenOf (records i stor
   pub few-rules : s .rules ≤ i
   few-rules = omega (arith, known .rules, few 4)
 
+  pub few-groups : s .groups .count ≤ i
+  few-groups = omega (arith, known .groups .count, few 9)
+
 -- the switch width is small, before the widths record too
 pub narrow : (before : Net) (s : Seen) → SeenOf before s → s .widths .w ≤ 4
 unfolding widthsOf
@@ -125,9 +140,9 @@ narrow before s known =
 
 -- before the first record
 pub seen-none : SeenOf [] (
-    record { last = 0; widths = record { h = 0; p = 0; w = 0 }; links = 0; misses = 0; rules = 0; policies = record { count = 0; nodes = 0; free = 0; longest = 0 } }
+    record { last = 0; widths = record { h = 0; p = 0; w = 0 }; links = 0; misses = 0; rules = 0; policies = record { count = 0; nodes = 0; free = 0; longest = 0 }; groups = record { count = 0; switch = 0; number = 0 } }
     )
-unfolding ofKind nodesOf keep policyCount longest longestOf widthsOf
+unfolding ofKind nodesOf keep policyCount longest longestOf widthsOf lastGroup
 seen-none = record {
   last = refl;
   started = refl;
@@ -137,4 +152,5 @@ seen-none = record {
   misses = refl;
   rules = refl;
   policies = record { count = refl; nodes = refl; marks = marks-none; longest = refl };
+  groups = record { count = refl; switch = refl; number = refl };
 }

@@ -1,50 +1,64 @@
 use borrow.Author.Needs.{needs}
-use borrow.Author.Tests.{eq-eqb, ne-eqb, lt-ltb, le-ltb, not-true, not-false}
-use mathlib.Core.Path.{sym, _∙_}
+use borrow.Author.Tests.{not-true, not-false}
+use denote.Ref.{now}
+use mathlib.Core.Path.{_≡_, sym, _∙_}
 use mathlib.Core.Logic.{inr}
+use Prim.Native.Nat.{_≤_}
 use native.Mathlib.Omega.{arith}
-use Rattle.scan.specs.Laws.RecordRows.{later-order, fields-row}
+use Rattle.records.specs.Record.{Rec, kind}
+use Rattle.scan.specs.Scan.{Later}
+use Rattle.scan.specs.Laws.RecordRows.{fields-row}
 use Rattle.scan.proofs.turns.form_row.Statement.{statement}
 use Rattle.scan.proofs.turns.form_row.Tie as tie
 
-returns : tie.Need-returns
-returns c =
-    let p = c .before .before .before .pre in
-    record {
-      first = λ before known. rw (later-order before _ known _ (p .1) (p .2), eq-eqb _ _ (c .if1 .taken));
-      later = λ q. absurd (omega arith);
-    }
+-- the kinds 2 to 5 come after the widths, and are no group
+later : (r : Rec) → 2 ≤ kind r → kind r ≤ 5 → Later r
+later r l h = (l, λ g. absurd (omega arith))
 
-returns-2 : tie.Need-returns-2
-returns-2 c =
-    let p = c .before .before .before .before .before .pre in
-    record {
-      first = λ before known. rw (later-order before _ known _ (p .1) (p .2), ne-eqb _ _ (c .before .before .if1 .left), lt-ltb _ _ (c .if2 .taken));
-      later = λ q. absurd (omega arith);
-    }
+no-group : (r : Rec) → kind r ≤ 5 → kind r ≡ 9 → ⊥
+no-group r h e = omega arith
+
+returns : tie.Need-returns
+returns c = record {
+  first = λ before known. rw (sym (c .before .misplaced .ensures .is before known) ∙ c .if1 .taken);
+  later = λ q. absurd (omega arith);
+  good = λ q. absurd (omega arith);
+}
 
 fields-good-requires : tie.Need-fields-good-requires
 fields-good-requires c κs =
-    let p = c .before .before .before .before .before .pre in
-    (p .0, inr (p .3 (c .before .before .if1 .left)))
+    let p = c .before .before .before .before .pre in
+    (p .0, inr (p .3 (c .before .before .misplaced .ensures .later (c .before .if1 .left))))
+
+returns-2 : tie.Need-returns-2
+returns-2 c =
+    let p = c .before .before .before .before .before .before .pre in
+    let r = now (c .before .before .before .before .before .before .args .r) in
+    let d = c .before .before .before in
+    record {
+      first = λ before known. rw (sym (d .before .misplaced .ensures .is before known) ∙ d .if1 .left, fields-row before _ known r (no-group r (p .2)), sym (c .before .fields-good .ensures) ∙ not-true _ (c .if2 .taken));
+      later = λ q. absurd (omega arith);
+      good = λ q. absurd (omega arith);
+    }
 
 returns-3 : tie.Need-returns-3
 returns-3 c =
-    let p = c .before .before .before .before .before .before .before .pre in
+    let p = c .before .before .before .before .before .before .pre in
+    let r = now (c .before .before .before .before .before .before .args .r) in
+    let d = c .before .before .before in
+    let good = sym (c .before .fields-good .ensures) ∙ not-false _ (c .if2 .left) in
     record {
-      first = λ before known. rw (later-order before _ known _ (p .1) (p .2), ne-eqb _ _ (c .before .before .before .before .if1 .left), le-ltb _ _ (c .before .before .if2 .left), fields-row before _ known _, sym (c .before .fields-good .ensures) ∙ not-true _ (c .if3 .taken));
-      later = λ q. absurd (omega arith);
-    }
-
-returns-4 : tie.Need-returns-4
-returns-4 c =
-    let p = c .before .before .before .before .before .before .before .pre in
-    record {
-      first = λ before known. rw (later-order before _ known _ (p .1) (p .2), ne-eqb _ _ (c .before .before .before .before .if1 .left), le-ltb _ _ (c .before .before .if2 .left), fields-row before _ known _, sym (c .before .fields-good .ensures) ∙ not-false _ (c .if3 .left));
-      later = λ q. c .before .before .before .before .if1 .left;
+      first = λ before known. rw (sym (d .before .misplaced .ensures .is before known) ∙ d .if1 .left, fields-row before _ known r (no-group r (p .2)), good);
+      later = λ q. d .before .misplaced .ensures .later (d .if1 .left);
+      good = λ q. good;
     }
 
 pub form-row-spec : {M : Type 1} → statement M
 form-row-spec =
     tie.close
-    (tie.spec returns (λ c. search needs) returns-2 fields-good-requires returns-3 returns-4)
+    (tie.spec
+    (λ c κs. let s = c .before in (s .pre .0, later (now (s .args .r)) (s .pre .1) (s .pre .2)))
+    returns
+    fields-good-requires
+    returns-2
+    returns-3)
