@@ -1,4 +1,4 @@
--- Rows 12 and 13 by what a command fails, and the first that refuses it.
+-- Rows 12, 16 and 13 by what a command fails, and the first that refuses it.
 use borrow.Author.Tests.{eq-eqb, ne-eqb, lt-ltb, le-ltb, le-leb, lt-leb}
 use mathlib.Core.Path.{_≡_}
 use mathlib.Core.Bool.{true, false, not, and-true, and-false, or-true}
@@ -7,7 +7,7 @@ use Prim.Native.Nat.{_≤_, _<_}
 use lib.ListN.{length}
 use Rattle.records.specs.Record.{Rec, Net, kind, ofKind, present}
 use Rattle.records.specs.Widths.{widthsOf}
-use Rattle.rows.specs.Rows.{row12, row13}
+use Rattle.rows.specs.Rows.{row12, row13, row16Command}
 use Rattle.records.specs.Fields.{commandGood}
 use Rattle.rows.specs.Refusal.{commandRow}
 
@@ -44,10 +44,14 @@ module _ (net : Net) (c : Rec) where
   unfolding commandRow
   refused-12 e = rw e
 
-  pub refused-13 : row12 net c ≡ false → row13 net c ≡ true → some (13, 0) ≡ commandRow net c
+  pub refused-16 : row12 net c ≡ false → row16Command net c ≡ true → some (16, 0) ≡ commandRow net c
   unfolding commandRow
-  refused-13 d e = rw (d, e)
+  refused-16 d e = rw (d, e)
 
-  pub passed-both : row12 net c ≡ false → row13 net c ≡ false → none ≡ commandRow net c
+  pub refused-13 : row12 net c ≡ false → row16Command net c ≡ false → row13 net c ≡ true → some (13, 0) ≡ commandRow net c
   unfolding commandRow
-  passed-both d e = rw (d, e)
+  refused-13 d e f = rw (d, e, f)
+
+  pub passed-all : row12 net c ≡ false → row16Command net c ≡ false → row13 net c ≡ false → none ≡ commandRow net c
+  unfolding commandRow
+  passed-all d e f = rw (d, e, f)

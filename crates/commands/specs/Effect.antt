@@ -13,11 +13,11 @@ use Rattle.records.specs.declared.Widths.{Widths}
 use Rattle.commands.specs.declared.Admission.{Admission}
 use Rattle.commands.specs.declared.Admission.the-variants.{Refused, Passed}
 
--- bytes, then zeros to byte 15,384
+-- bytes, then zeros to byte 15,768
 unfoldable pub padded : List ℕ → List ℕ
 padded bytes = bytes ++ replicate (storeBytes - length bytes) 0
 
--- the records of a network, then zeros to byte 15,384
+-- the records of a network, then zeros to byte 15,768
 abbrev pub filled : Net → List ℕ
 filled net = padded (flat net)
 
@@ -33,7 +33,7 @@ joined net i j = take i net ++ drop j net
 abbrev pub aboveRules : Rec → Bool
 aboveRules r = ltb 4 (kind r)
 
--- a buffer of 15,384 bytes for `count` records that are made from the n records of a store
+-- a buffer of 15,768 bytes for `count` records that are made from the n records of a store
 pub record BufferRoom (next store : List ℕ) (n count : ℕ) : Type 0 where
   pub wide : length next ≡ storeBytes
   pub stored : n * 24 ≤ length store

@@ -8,7 +8,8 @@ ghost use Prim.Native.Nat.{_+_, _-_, _*_, _≤_};
 ghost use lib.ListN.{length, take, drop};
 ghost use Rattle.records.specs.Record.{Net, storeBytes, records, flat, ofKind};
 ghost use Rattle.records.specs.Widths.{withinLimits, widthsOf};
-ghost use Rattle.rows.specs.Rows.{row12, row13};
+ghost use Rattle.rows.specs.Rows.{row12, row13, row16Command};
+ghost use Rattle.rows.specs.Groups.{ActionsNamed};
 ghost use Rattle.rows.specs.Refusal.{commandRow};
 ghost use Rattle.records.specs.Search.{firstAt};
 ghost use Rattle.commands.specs.Apply.{asRule, withActions, changed, added, removed, applied};
@@ -174,6 +175,15 @@ fn is_faulty(w: Widths, given: &[u8]) -> bool
     }
 }
 
+// Admission 16: it names a group that no record of its switch has.
+fn names_absent(store: &[u8], n: usize, given: &[u8]) -> bool
+    requires { ⌜ (n * 24 ≤ length (now store)) × (length (now given) ≡ 24) × ActionsNamed (now given) ⌝ }
+    ensures { λ r. ⌜ r ≡ row16Command (records n (now (store .entry))) (now (given .entry)) ⌝ }
+{
+    let there = rows::groups::groups_there(store, n);
+    !rows::groups::actions_there(&there, given)
+}
+
 // Admission 13: add of a new rule with 256 present.
 fn is_full(store: &[u8], n: usize, rules: usize, given: &[u8]) -> bool
     requires { ⌜ (n * 24 ≤ length (now store)) × (length (now given) ≡ 24) × (rules ≡ length (ofKind 4 (records n (now store)))) ⌝ }
@@ -194,13 +204,16 @@ pub enum Admission {
     Passed,
 }
 
-// The first of rows 12 and 13 that refuses a command.
+// The first of rows 12, 16 and 13 that refuses a command.
 pub fn command_row(w: Widths, store: &[u8], n: usize, rules: usize, given: &[u8]) -> Admission
     requires { ⌜ Known w (now store) n rules ⌝ }
     ensures { λ r. ⌜ admissionRefusal r ≡ commandRow (records n (now (store .entry))) (now (given .entry)) ⌝ }
 {
     if is_faulty(w, given) {
         return Admission::Refused { number: 12 };
+    }
+    if names_absent(store, n, given) {
+        return Admission::Refused { number: 16 };
     }
     if is_full(store, n, rules, given) {
         return Admission::Refused { number: 13 };

@@ -10,9 +10,9 @@ use lib.ListN.{length, drop, replicate, length-append, length-replicate}
 use Rattle.planes.specs.Laws.Tests.{or-none}
 use Rattle.records.specs.Record.{Net, mostRecords, storeBytes, records, flat}
 use Rattle.rows.specs.Rows.{row1, row2}
-use Rattle.rows.specs.Refusal.{Refusal, argumentsRow, checkRefusal}
+use Rattle.rows.specs.Refusal.{Refusal, row, argumentsRow, checkRefusal}
 use Rattle.records.specs.Laws.Records.{Whole, records-whole, flat-back}
-use Rattle.rows.specs.Laws.Passing.{lowest-two}
+use Rattle.rows.specs.Laws.Passing.{not-met, neither}
 use Rattle.verdict.specs.Judgement.{verdict}
 use Rattle.calls.specs.Answer.{CheckAnswer}
 use Rattle.calls.specs.Check.{unless, ofVerdict, checkAnswer}
@@ -28,10 +28,10 @@ module _ (store : List ℕ) (n : ℕ) where
   pub arguments : argumentsRow store n ≡ none → Arguments store n
   unfolding argumentsRow row1 row2
   arguments e =
-      let t = lowest-two (row1 n) (row2 store) 1 2 0 e in
-      let a = or-none (eqb n 0) (ltb mostRecords n) (t .0) in
+      let t = neither (row (row1 n) 1 0) (row (row2 store) 2 0) e in
+      let a = or-none (eqb n 0) (ltb mostRecords n) (not-met (row1 n) 1 0 (t .0)) in
       let z : (n ≡ 0 → ⊥) = eqb-false n 0 (a .0) in
-      record { some = omega (arith, z); few = ltb-false mostRecords n (a .1); long = ltb-false (length store) storeBytes (t .1) }
+      record { some = omega (arith, z); few = ltb-false mostRecords n (a .1); long = ltb-false (length store) storeBytes (not-met (row2 store) 2 0 (t .1)) }
 
   pub arguments-pass : Arguments store n → argumentsRow store n ≡ none
   unfolding argumentsRow row1 row2

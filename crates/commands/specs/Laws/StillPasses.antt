@@ -1,4 +1,4 @@
--- A network that rows 3 to 10 pass, and a command that rows 12 and 13 pass: what the command would leave passes again.
+-- A network that rows 3 to 10 and 16 pass, and a command that rows 12, 16 and 13 pass: what the command would leave passes again.
 use mathlib.Core.Path.{_≡_, refl, sym, ap, subst, subst₂, _∙_}
 use mathlib.Core.Bool.{Bool, true, false}
 use mathlib.Core.List.{[], _∷_, _++_}
@@ -9,6 +9,7 @@ use native.Mathlib.Omega.{arith}
 use lib.ListN.{length, length-append}
 use Rattle.planes.specs.Laws.Tests.{or-none}
 use Rattle.records.specs.Record.{Rec, Net, kind, ofKind, present}
+use Rattle.records.specs.Group.{groupsThere}
 use Rattle.records.specs.Widths.{widthsOf}
 use Rattle.records.specs.Fields.{fieldsGood}
 use Rattle.rows.specs.Refusal.{fileRow}
@@ -20,7 +21,7 @@ use Rattle.rows.specs.Laws.Edits.{matchOf, present-match, PassesStill, stands, 
 use Rattle.commands.specs.Apply.{asRule, withActions, changed, inserted, removed, added, applied}
 use Rattle.commands.specs.Laws.Applied.{applied-add, applied-modify, applied-delete}
 use Rattle.commands.specs.Laws.RulePlace.{RuleIn, rule-in, changed-none, removed-none, Place, place}
-use Rattle.commands.specs.Laws.StoredRule.{Command, same-rule, as-rule-kind, as-rule-match, as-rule-bytes, as-rule-good, with-actions-bytes, with-actions-kind, with-actions-match, with-actions-good}
+use Rattle.commands.specs.Laws.StoredRule.{Command, same-rule, as-rule-kind, as-rule-match, as-rule-bytes, as-rule-good, as-rule-there, with-actions-bytes, with-actions-kind, with-actions-match, with-actions-good, with-actions-there}
 
 module _ (net : Net) (c : Rec) (whole : Whole net) (e : fileRow [] net ≡ none) (cmd : Command net c) where
   -- nothing changed
@@ -45,16 +46,17 @@ module _ (net : Net) (c : Rec) (whole : Whole net) (e : fileRow [] net ≡ none)
         ap widthsOf (f .parts) ∙ widths-append (f .front) (f .rule ∷ f .back) (stands (f .front) (f .rule) (f .back) rule-kind whole-there passes-there .some)
 
     changed-kept : (g : Rec → Rec) → kind (g (f .rule)) ≡ 4 → length (g (f .rule)) ≡ 24 → matchOf (g (f .rule)) ≡ matchOf (f .rule)
-        → fieldsGood (widthsOf net) (g (f .rule)) ≡ true → PassesStill net (changed g c net)
-    changed-kept g k l m good =
+        → fieldsGood (widthsOf net) (g (f .rule)) ≡ true → groupsThere net (g (f .rule)) ≡ true → PassesStill net (changed g c net)
+    changed-kept g k l m good there =
         subst₂ PassesStill (sym (f .parts)) (sym (f .changed-is g))
         (rule-replaced (f .front) (f .rule) (f .back) rule-kind whole-there passes-there (g (f .rule)) k l m
-        (subst (λ (w : Widths). fieldsGood w (g (f .rule)) ≡ true) widths-there good))
+        (subst (λ (w : Widths). fieldsGood w (g (f .rule)) ≡ true) widths-there good)
+        (subst (λ (n : Net). groupsThere n (g (f .rule)) ≡ true) (f .parts) there))
 
     replaced-kept : kind c ≡ 6 → PassesStill net (changed (λ r. asRule c) c net)
     replaced-kept q =
         changed-kept (λ r. asRule c) (as-rule-kind c) (as-rule-bytes c (cmd .bytes)) (as-rule-match c ∙ same-rule c (f .rule) (f .same) .1)
-        (as-rule-good (widthsOf net) c (cmd .bytes) q (cmd .good))
+        (as-rule-good (widthsOf net) c (cmd .bytes) q (cmd .good)) (as-rule-there net c (cmd .there))
 
     modified-kept : kind c ≡ 7 → PassesStill net (changed (withActions c) c net)
     modified-kept q =
@@ -63,6 +65,7 @@ module _ (net : Net) (c : Rec) (whole : Whole net) (e : fileRow [] net ≡ none)
         let good = stands (f .front) (f .rule) (f .back) rule-kind whole-there passes-there .good in
         changed-kept (withActions c) (with-actions-kind c (f .rule) b l ∙ rule-kind) (with-actions-bytes c (f .rule) b l) (with-actions-match c (f .rule) b l)
         (with-actions-good c (f .rule) b l (widthsOf net) q rule-kind (cmd .good) (subst (λ (w : Widths). fieldsGood w (f .rule) ≡ true) (sym widths-there) good))
+        (with-actions-there c (f .rule) b l net rule-kind (same-rule c (f .rule) (f .same) .1) (cmd .there))
 
     removed-kept : PassesStill net (removed c net)
     removed-kept = subst₂ PassesStill (sym (f .parts)) (sym (f .removed-is)) (rule-removed (f .front) (f .rule) (f .back) rule-kind whole-there passes-there)
@@ -80,7 +83,8 @@ module _ (net : Net) (c : Rec) (whole : Whole net) (e : fileRow [] net ≡ none)
       subst₂ PassesStill (sym (p .parts)) (sym (p .inserted-is))
       (rule-inserted (p .front) (p .back) (p .no-node) last (p .high) w passes (asRule c) (as-rule-kind c) (as-rule-bytes c (cmd .bytes))
       (subst (λ (v : Widths). fieldsGood v (asRule c) ≡ true) widths (as-rule-good (widthsOf net) c (cmd .bytes) q (cmd .good)))
-      (present-match (asRule c) c (p .front) (as-rule-match c) ∙ none-there) (omega (arith, count, cmd .room q absent)))
+      (present-match (asRule c) c (p .front) (as-rule-match c) ∙ none-there) (omega (arith, count, cmd .room q absent))
+      (subst (λ (n : Net). groupsThere n (asRule c) ≡ true) (p .parts) (as-rule-there net c (cmd .there))))
 
   added-kept : kind c ≡ 6 → PassesStill net (added c net)
   unfolding added

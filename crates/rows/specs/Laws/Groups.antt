@@ -84,7 +84,7 @@ there-more s i a b T N = record {
 
 -- good actions and good buckets name groups that have bits
 module _ (w : Widths) (limits : Limits w) (r : Rec) where
-  switch-lt : at r 1 < 2 ^ w .w → at r 1 < 16
+  pub switch-lt : at r 1 < 2 ^ w .w → at r 1 < 16
   switch-lt h = let m : 2 ^ w .w ≤ 2 ^ 4 = pow-mono (limits .high-w) in omega arith
 
   pub actions-named : at r 1 < 2 ^ w .w → actionsGood w r ≡ true → ActionsNamed r

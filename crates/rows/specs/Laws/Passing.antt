@@ -39,6 +39,11 @@ pub record Passes (before : Net) (r : Rec) (after : Net) : Type 0 where
 not-some : {A : Type 0} {a : ℕ × ℕ} → some a ≡ none → A
 not-some e = let z : _≡_ {A = ℕ} 0 1 = cc in absurd (omega arith)
 
+-- a row that refuses nothing is not met
+pub not-met : (b : Bool) (n p : ℕ) → row b n p ≡ none → b ≡ false
+not-met true n p e = not-some e
+not-met false n p e = refl
+
 -- the lowest of some rows is none if no row is met
 lowest : (a b c d e f g h i : Bool) (p : ℕ)
     → orElse (row a 3 p) (orElse (row b 4 p) (orElse (row c 5 p) (orElse (row d 6 p) (orElse (row e 7 p) (orElse (row f 8 p) (orElse (row g 9 p) (orElse (row h 10 p) (row i 16 p)))))))) ≡ none
@@ -53,11 +58,6 @@ lowest false false false false false false true h i p q = not-some q
 lowest false false false false false false false true i p q = not-some q
 lowest false false false false false false false false true p q = not-some q
 lowest false false false false false false false false false p q = (refl, refl, refl, refl, refl, refl, refl, refl, refl)
-
-pub lowest-two : (a b : Bool) (m n p : ℕ) → orElse (row a m p) (row b n p) ≡ none → (a ≡ false) × (b ≡ false)
-lowest-two true b m n p q = not-some q
-lowest-two false true m n p q = not-some q
-lowest-two false false m n p q = (refl, refl)
 
 module _ (before : Net) (r : Rec) (after : Net) where
   pub passes : recordRow before r after ≡ none → Passes before r after
@@ -95,11 +95,7 @@ module _ (before : Net) (r : Rec) (after : Net) where
 -- and at the end, if the misses are complete
 pub file-end : (before : Net) → fileRow before [] ≡ none → missesIncomplete before ≡ false
 unfolding fileRow
-file-end before e = go (missesIncomplete before) e
-  where
-    go : (b : Bool) → row b 7 (length before) ≡ none → b ≡ false
-    go true e = not-some e
-    go false e = refl
+file-end before e = not-met (missesIncomplete before) 7 (length before) e
 
 pub end-file : (before : Net) → missesIncomplete before ≡ false → fileRow before [] ≡ none
 unfolding fileRow
