@@ -11,6 +11,7 @@ use Rattle.scan.specs.declared.Layout.{Layout}
 use Rattle.actions.specs.Chosen.{Arrival, ruleMatches, best, orMiss, chosen}
 use Rattle.actions.specs.ByPlace.{rankOf, ActsAt}
 use Rattle.scan.specs.Stored.{Stored}
+use Rattle.actions.specs.Laws.GoodRecords.{in-net}
 use Rattle.actions.proofs.HighestRank.{leader, leader-takes, leader-stays, leader-acts}
 use Rattle.records.specs.Laws.Parts.{part, part-more, part-none, part-at}
 
@@ -57,7 +58,7 @@ module _ (n : ℕ) (l : Layout) (s : List ℕ) (st : Stored n l s) (a : Arrival)
 
     module _ (h : i < l .nodes) where
       left : part net i (l .nodes) ≡ getD net i [] ∷ part net (i + 1) (l .nodes)
-      left = part-more net i (l .nodes) h (st .laid .within)
+      left = part-more net i (l .nodes) h (in-net n l s st)
 
       pub leading-takes : (r : ℕ) → r ≡ rankOf (l .widths) a (getD (records n s) i []) → k < r → Leading n l s a i r (i + 1)
       leading-takes r e t = record {

@@ -6,6 +6,7 @@ pub mod Bounce
 pub mod Chosen
 pub mod CopiesInOrder
 pub mod GoodActions
+pub mod GoodGroups
 pub mod GoodRecords
 pub mod RuleSets
 pub mod SentCopies

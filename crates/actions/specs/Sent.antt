@@ -9,7 +9,8 @@ use Rattle.records.specs.Fields.{actionGood}
 use Rattle.records.specs.State.{ordinary}
 use Rattle.records.specs.Pattern.{matches}
 use Rattle.records.specs.declared.Widths.{Widths}
-use Rattle.actions.specs.Actions.{except, sentBy, headerAfter}
+use Rattle.actions.specs.Departing.{except}
+use Rattle.actions.specs.Actions.{sentBy, headerAfter}
 use Rattle.actions.specs.Adds.{lineBytes, LineRoom, Added}
 
 -- a copy at a switch with a header has its bit in the line

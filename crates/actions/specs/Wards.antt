@@ -50,7 +50,7 @@ wards =
 
 -- what an arrival with a header at a point sends
 abbrev copiesAt : ℕ → ℕ → ℕ → List ℕ
-copiesAt sw p h = flatMap (sent (widthsOf wards) (arrival sw p h)) (chosen wards (arrival sw p h))
+copiesAt sw p h = flatMap (sent wards (widthsOf wards) (arrival sw p h)) (chosen wards (arrival sw p h))
 
 -- the copies of the headers 0 to 3 at ports 1, 2 and 3 of switch 0, then of switch 1, in the order of the actions, then of the ports
 sends :

@@ -5,7 +5,7 @@ use native.Mathlib.Omega.{arith}
 use lib.ListN.{length}
 use Rattle.records.specs.Lists.{keep, from}
 use Rattle.records.specs.Laws.Limits.{limits}
-use Rattle.actions.specs.Actions.{except, departing}
+use Rattle.actions.specs.Departing.{except, departing}
 use Rattle.actions.specs.Adds.{lineBytes, Added}
 use Rattle.actions.specs.Sent.{flooded}
 use Rattle.actions.specs.Laws.AddedBits.{TowardList, list-more, added-none}

@@ -1,7 +1,7 @@
 use borrow.Author.Needs.{needs}
 use denote.Ref.{now}
 use native.Mathlib.Omega.{arith}
-use Rattle.actions.specs.Actions.{departing}
+use Rattle.actions.specs.Departing.{departing}
 use Rattle.actions.specs.Laws.SentCopies.{has-byte, state-added}
 use Rattle.actions.proofs.send.Statement.{statement}
 use Rattle.actions.proofs.send.Tie as tie

@@ -1,5 +1,5 @@
 use borrow.Author.Needs.{needs}
-use Rattle.actions.specs.Actions.{departing}
+use Rattle.actions.specs.Departing.{departing}
 use Rattle.actions.specs.Laws.AddedBits.{added-none}
 use Rattle.actions.specs.Laws.SentCopies.{except-same, except-other}
 use Rattle.actions.proofs.send_on.Statement.{statement}

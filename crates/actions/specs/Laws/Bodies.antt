@@ -6,7 +6,7 @@ use native.Mathlib.Nat.{not-suc-le-zero}
 use native.Mathlib.Omega.{arith}
 use lib.ListN.{length, getD, take, drop, length-drop}
 use lib.Seq.{getD-take, getD-drop, take-take, drop-drop, length-take-le}
-use Rattle.records.specs.Record.{Rec, at, priority, records}
+use Rattle.records.specs.Record.{Rec, Net, at, priority, records}
 use Rattle.records.specs.declared.Widths.{Widths}
 use Rattle.records.specs.Laws.Records.{record-at, byte-of}
 use Rattle.actions.specs.Chosen.{Arrival, ruleMatches}
@@ -65,28 +65,28 @@ module _ (w : Widths) (r q : Rec) (same : SameTo 20 r q) where
       )
 
   module _ (h i : ℕ) (few : i < 4) where
-    sent-by-same : (sw p : ℕ) → sentBy w sw p r h i ≡ sentBy w sw p q h i
+    sent-by-same : (net : Net) (sw p : ℕ) → sentBy net w sw p r h i ≡ sentBy net w sw p q h i
     unfolding sentBy
-    sent-by-same sw p = rw (same (9 + 3 * i) (omega arith) (omega arith), same (10 + 3 * i) (omega arith) (omega arith), same (11 + 3 * i) (omega arith) (omega arith))
+    sent-by-same net sw p = rw (same (9 + 3 * i) (omega arith) (omega arith), same (10 + 3 * i) (omega arith) (omega arith), same (11 + 3 * i) (omega arith) (omega arith))
 
     header-after-same : headerAfter w r h i ≡ headerAfter w q h i
     unfolding headerAfter
     header-after-same = rw (same (9 + 3 * i) (omega arith) (omega arith), same (10 + 3 * i) (omega arith) (omega arith), same (11 + 3 * i) (omega arith) (omega arith))
 
-  copies-same : (a : Arrival) (h i k : ℕ) → i + k ≤ 4 → copies w a r h i k ≡ copies w a q h i k
+  copies-same : (net : Net) (a : Arrival) (h i k : ℕ) → i + k ≤ 4 → copies net w a r h i k ≡ copies net w a q h i k
   unfolding copies
-  copies-same a h i zero l = refl
-  copies-same a h i (suc k) l =
+  copies-same net a h i zero l = refl
+  copies-same net a h i (suc k) l =
       let few : i < 4 = omega arith in
-      copies-cons w a r h i k
-      ∙ ap₂ {C = List ℕ} _++_ (sent-by-same h i few (a .switch) (a .port))
-      (ap (λ (m : ℕ). copies w a r m (suc i) k) (header-after-same h i few) ∙ copies-same a (headerAfter w q h i) (suc i) k (omega arith))
-      ∙ sym (copies-cons w a q h i k)
+      copies-cons net w a r h i k
+      ∙ ap₂ {C = List ℕ} _++_ (sent-by-same h i few net (a .switch) (a .port))
+      (ap (λ (m : ℕ). copies net w a r m (suc i) k) (header-after-same h i few) ∙ copies-same net a (headerAfter w q h i) (suc i) k (omega arith))
+      ∙ sym (copies-cons net w a q h i k)
 
-  pub sent-same : (a : Arrival) → at q 8 ≤ 4 → sent w a r ≡ sent w a q
+  pub sent-same : (net : Net) (a : Arrival) → at q 8 ≤ 4 → sent net w a r ≡ sent net w a q
   unfolding sent
-  sent-same a l =
-      ap (copies w a r (a .header) 0) (same 8 (omega arith) (omega arith)) ∙ copies-same a (a .header) 0 (at q 8) (omega arith)
+  sent-same net a l =
+      ap (copies net w a r (a .header) 0) (same 8 (omega arith) (omega arith)) ∙ copies-same net a (a .header) 0 (at q 8) (omega arith)
 
 -- a byte of a record by its body
 pub body-byte : (b : List ℕ) (j k : ℕ) → k ≡ suc j → at (ofBody b) k ≡ getD b j 0

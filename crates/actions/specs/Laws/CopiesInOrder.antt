@@ -7,13 +7,14 @@ use Prim.Native.Nat.{ℕ, suc, _+_, _-_, _*_, _^_, _<_, _≤_}
 use native.Mathlib.Omega.{arith}
 use lib.Dec.{eqb}
 use Rattle.records.specs.Lists.{keep, from}
-use Rattle.records.specs.Record.{Rec, at, ActionKind, kOutput, kSet, kInPort, kNoAction, actionKind}
+use Rattle.records.specs.Record.{Rec, Net, at, ActionKind, kOutput, kSet, kInPort, kRunGroup, kNoAction, actionKind}
 use Rattle.records.specs.State.{ordinary}
 use Rattle.records.specs.Pattern.{matches}
 use Rattle.records.specs.Laws.Patterns.{put-lt}
 use Rattle.records.specs.declared.Widths.{Widths}
 use Rattle.actions.specs.Chosen.{Arrival}
-use Rattle.actions.specs.Actions.{named, except, reached, departing, copiedTo, headerBy, sentBy, headerAfter, copies}
+use Rattle.actions.specs.Departing.{except}
+use Rattle.actions.specs.Actions.{named, reached, sentAs, headerBy, sentBy, headerAfter, copies}
 use Rattle.actions.specs.Sent.{flooded}
 
 -- the ports of a pattern without stars, and with
@@ -42,9 +43,9 @@ module _ (w : Widths) (value care : ℕ) where
 
 -- what action i of a record does, by its kind
 module _ (w : Widths) (r : Rec) (h i : ℕ) where
-  pub sent-as : (sw p : ℕ) (k : ActionKind) → actionKind (at r (9 + 3 * i)) ≡ k → sentBy w sw p r h i ≡ departing w sw h (copiedTo k w p (at r (10 + 3 * i)) (at r (11 + 3 * i)))
+  pub sent-as : (net : Net) (sw p : ℕ) (k : ActionKind) → actionKind (at r (9 + 3 * i)) ≡ k → sentBy net w sw p r h i ≡ sentAs k net w sw p h (at r (10 + 3 * i)) (at r (11 + 3 * i))
   unfolding sentBy
-  sent-as sw p k e = ap (λ (x : ActionKind). departing w sw h (copiedTo x w p (at r (10 + 3 * i)) (at r (11 + 3 * i)))) e
+  sent-as net sw p k e = ap (λ (x : ActionKind). sentAs x net w sw p h (at r (10 + 3 * i)) (at r (11 + 3 * i))) e
 
   pub header-as : (k : ActionKind) → actionKind (at r (9 + 3 * i)) ≡ k → headerAfter w r h i ≡ headerBy k w (at r (10 + 3 * i)) (at r (11 + 3 * i)) h
   unfolding headerAfter
@@ -58,20 +59,21 @@ module _ (w : Widths) (r : Rec) (h i : ℕ) where
       go kOutput = l
       go kSet = put-lt (at r (10 + 3 * i)) (at r (11 + 3 * i)) h (w .h)
       go kInPort = l
+      go kRunGroup = l
       go kNoAction = l
 
 -- what the actions from i on send
-pub copies-cons : (w : Widths) (a : Arrival) (r : Rec) (h i k : ℕ)
-    → copies w a r h i (suc k) ≡ sentBy w (a .switch) (a .port) r h i ++ copies w a r (headerAfter w r h i) (suc i) k
+pub copies-cons : (net : Net) (w : Widths) (a : Arrival) (r : Rec) (h i k : ℕ)
+    → copies net w a r h i (suc k) ≡ sentBy net w (a .switch) (a .port) r h i ++ copies net w a r (headerAfter w r h i) (suc i) k
 unfolding copies
-copies-cons w a r h i k = refl
+copies-cons net w a r h i k = refl
 
 -- with k of n actions left
-pub copies-left : (w : Widths) (a : Arrival) (r : Rec) (h n k : ℕ) → 0 < k → k ≤ n
-    → copies w a r h (n - k) k ≡ sentBy w (a .switch) (a .port) r h (n - k) ++ copies w a r (headerAfter w r h (n - k)) (n - (k - 1)) (k - 1)
-copies-left w a r h n k l u =
+pub copies-left : (net : Net) (w : Widths) (a : Arrival) (r : Rec) (h n k : ℕ) → 0 < k → k ≤ n
+    → copies net w a r h (n - k) k ≡ sentBy net w (a .switch) (a .port) r h (n - k) ++ copies net w a r (headerAfter w r h (n - k)) (n - (k - 1)) (k - 1)
+copies-left net w a r h n k l u =
     let e : k ≡ suc (k - 1) = omega arith in
     let f : suc (n - k) ≡ n - (k - 1) = omega arith in
-    ap (copies w a r h (n - k)) e
-    ∙ copies-cons w a r h (n - k) (k - 1)
-    ∙ ap (λ (m : ℕ). sentBy w (a .switch) (a .port) r h (n - k) ++ copies w a r (headerAfter w r h (n - k)) m (k - 1)) f
+    ap (copies net w a r h (n - k)) e
+    ∙ copies-cons net w a r h (n - k) (k - 1)
+    ∙ ap (λ (m : ℕ). sentBy net w (a .switch) (a .port) r h (n - k) ++ copies net w a r (headerAfter w r h (n - k)) m (k - 1)) f

@@ -7,7 +7,7 @@ use native.Mathlib.Omega.{arith}
 use lib.Bits.{and-le-r}
 use lib.Dec.{eqb, leb}
 use Rattle.planes.specs.Laws.Tests.{and-left, and-right}
-use Rattle.records.specs.Record.{Rec, at, ActionKind, kOutput, actionKind}
+use Rattle.records.specs.Record.{Rec, at, ActionKind, kOutput, kRunGroup, actionKind}
 use Rattle.records.specs.Pattern.{patternGood}
 use Rattle.records.specs.Fields.{usedFields, usedGood, unusedGood, actionBytesGood, actionGood, actionsGood}
 use Rattle.records.specs.Laws.Patterns.{care-lt, value-within}
@@ -35,8 +35,14 @@ module _ (w : Widths) (r : Rec) (i : ℕ) (U : UsedAction w r i) where
       sym (ap (λ (t : Bool). elim t as (λ x. Bool) [ true ↦ usedGood w kindOf value care (eqb (suc i) (at r 8)) | false ↦ unusedGood kindOf value care ]) (lt-ltb i (at r 8) (U .used)))
       ∙ U .good
 
+  used-as : (k : ActionKind) → actionKind (at r (9 + 3 * i)) ≡ k → usedFields k w value care (eqb (suc i) (at r 8)) ≡ true
+  used-as k e = sym (ap (λ (x : ActionKind). usedFields x w value care (eqb (suc i) (at r 8))) e) ∙ used-good
+
   pub output-pattern : actionKind (at r (9 + 3 * i)) ≡ kOutput → patternGood (w .p) (at r (10 + 3 * i)) (at r (11 + 3 * i)) ≡ true
-  output-pattern e = sym (ap (λ (k : ActionKind). usedFields k w value care (eqb (suc i) (at r 8))) e) ∙ used-good
+  output-pattern e = used-as kOutput e
+
+  pub group-number : actionKind (at r (9 + 3 * i)) ≡ kRunGroup → at r (10 + 3 * i) ≤ 15
+  group-number e = leb-true value 15 (and-left (leb value 15) (eqb care 0) (used-as kRunGroup e))
 
 -- the used actions of a record with good actions
 module _ (w : Widths) (r : Rec) (good : actionsGood w r ≡ true) where

@@ -1,27 +1,39 @@
--- The links, the misses and the rules of a store, by their places.
+-- The links, the misses, the rules and the groups of a store, by their places.
 use mathlib.Core.Path.{_≡_, sym, _∙_}
 use mathlib.Core.Bool.{true, _&&_}
 use mathlib.Core.List.{List, []}
 use Prim.Native.Nat.{ℕ, _+_, _-_, _*_, _<_, _≤_}
 use native.Mathlib.Decide.{decLt}
 use native.Mathlib.Omega.{arith}
-use lib.ListN.{length, getD}
+use lib.ListN.{length, getD, drop, length-drop}
+use lib.Seq.{take-all}
 use Rattle.planes.specs.Laws.Tests.{and-left, both}
-use Rattle.records.specs.Record.{Net, at, mostRules, records}
-use Rattle.records.specs.Fields.{zeros, pointGood, actionsGood, fieldsGood}
+use Rattle.records.specs.Record.{Net, at, mostRules, records, ofKind}
+use Rattle.records.specs.Fields.{zeros, pointGood, actionsGood, bucketsGood, fieldsGood}
 use Rattle.records.specs.Laws.Fields.{link-fields, miss-actions, rule-actions}
 use Rattle.records.specs.Laws.Records.{length-records}
 use Rattle.records.specs.Laws.Parts.{kind-at}
 use Rattle.scan.specs.declared.Layout.{Layout}
 use Rattle.scan.specs.Layout.{LayoutOf}
 use Rattle.scan.specs.Stored.{Stored}
+use Rattle.actions.specs.Laws.GoodGroups.{group-buckets}
 
 module _ (n : ℕ) (l : Layout) (s : List ℕ) (st : Stored n l s) where
   abbrev net : Net
   net = records n s
 
+  -- the groups stand after the nodes, up to the end
+  pub groups-in : (l .nodes ≤ l .groups) × (l .groups ≤ n)
+  groups-in = st .groups-within
+
+  pub groups-at : ofKind 9 (records n s) ≡ drop (l .groups) (records n s)
+  groups-at = st .groups
+
   pub in-store : l .nodes ≤ n
-  in-store = omega (arith, st .laid .within, length-records n s)
+  in-store = omega (arith, groups-in)
+
+  pub in-net : l .nodes ≤ length (records n s)
+  in-net = omega (arith, in-store, length-records n s)
 
   -- a record before the nodes is one of the n, and the store has the whole of it
   pub record-in : (i : ℕ) → i < l .nodes → i < n
@@ -34,14 +46,15 @@ module _ (n : ℕ) (l : Layout) (s : List ℕ) (st : Stored n l s) where
   pub rule-number : (i : ℕ) → i < l .nodes → i - l .rules < mostRules
   rule-number i h = omega (arith, st .laid .few-rules)
 
-  -- the fields of a link, and the actions of a record that may act
+  -- the fields of a link, the actions of a record that may act, and the buckets of a group
   pub link-good : (i : ℕ) → 1 ≤ i → i < l .misses
       → let r = getD (records n s) i [] in (pointGood (l .widths) (at r 1) (at r 2) ≡ true) × (pointGood (l .widths) (at r 3) (at r 4) ≡ true)
   link-good i a b =
       let r = getD net i [] in
       let q = st .laid in
-      let k = kind-at 2 net 1 (l .misses) i (q .links) (omega (arith, q .switches, q .few-rules, q .within)) a b in
-      let g = sym (link-fields (l .widths) r k) ∙ st .fields i a (omega (arith, q .switches, q .few-rules)) in
+      let h : i < l .nodes = omega (arith, q .switches, q .few-rules) in
+      let k = kind-at 2 net 1 (l .misses) i (q .links) (omega (arith, q .switches, q .few-rules, in-net)) a b in
+      let g = sym (link-fields (l .widths) r k) ∙ st .fields i a (record-in i h) in
       both (pointGood (l .widths) (at r 1) (at r 2)) (pointGood (l .widths) (at r 3) (at r 4))
       (and-left (pointGood (l .widths) (at r 1) (at r 2) && pointGood (l .widths) (at r 3) (at r 4)) (zeros 5 23 r) g)
 
@@ -52,8 +65,15 @@ module _ (n : ℕ) (l : Layout) (s : List ℕ) (st : Stored n l s) where
       q = st .laid
 
       good : fieldsGood (l .widths) (getD net i []) ≡ true
-      good = st .fields i (omega (arith, q .some-widths)) b
+      good = st .fields i (omega (arith, q .some-widths)) (record-in i b)
 
       go : Dec (i < l .rules) → actionsGood (l .widths) (getD net i []) ≡ true
-      go (yes h) = miss-actions (l .widths) (getD net i []) (kind-at 3 net (l .misses) (l .rules) i (q .misses) (omega (arith, q .few-rules, q .within)) a h) good
-      go (no h) = rule-actions (l .widths) (getD net i []) (kind-at 4 net (l .rules) (l .nodes) i (q .rules) (q .within) (omega arith) b) good
+      go (yes h) = miss-actions (l .widths) (getD net i []) (kind-at 3 net (l .misses) (l .rules) i (q .misses) (omega (arith, q .few-rules, in-net)) a h) good
+      go (no h) = rule-actions (l .widths) (getD net i []) (kind-at 4 net (l .rules) (l .nodes) i (q .rules) in-net (omega arith) b) good
+
+  pub buckets-good : (i : ℕ) → l .groups ≤ i → i < n → bucketsGood (l .widths) (getD (records n s) i []) ≡ true
+  buckets-good i a b =
+      let q = st .laid in
+      let all = groups-at ∙ sym (take-all (n - l .groups) (drop (l .groups) net) (omega (arith, length-drop (l .groups) net, length-records n s))) in
+      group-buckets (l .widths) (getD net i []) (kind-at 9 net (l .groups) n i all (omega (arith, length-records n s)) a b)
+      (st .fields i (omega (arith, q .some-widths, q .switches, q .few-rules, groups-in)) b)

@@ -17,7 +17,7 @@ use Rattle.records.specs.Laws.Lists.{keep-append}
 use Rattle.records.specs.Laws.States.{state-lt, whole-bytes}
 use Rattle.records.specs.declared.Widths.{Widths}
 use Rattle.actions.specs.Adds.{lineBytes, Added}
-use Rattle.actions.specs.Actions.{except, departing}
+use Rattle.actions.specs.Departing.{except, departing}
 use Rattle.actions.specs.Sent.{Sends, flooded}
 use Rattle.actions.specs.Laws.AddedBits.{added-one}
 
