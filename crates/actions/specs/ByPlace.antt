@@ -1,14 +1,17 @@
--- Which record acts, by its place.
+-- Which record acts, and which is that of a group, by its place.
 use mathlib.Core.Path.{_≡_}
 use mathlib.Core.Bool.{true, cond}
 use mathlib.Core.List.{List, [], _∷_}
 use Prim.Native.Nat.{ℕ, suc, _^_, _<_, _≤_}
-use lib.ListN.{getD}
-use Rattle.records.specs.Record.{Rec, Net, priority}
+use lib.ListN.{length, getD}
+use Rattle.records.specs.Record.{Rec, Net, at, priority}
 use Rattle.records.specs.Widths.{withinLimits}
 use Rattle.records.specs.declared.Widths.{Widths}
+use Rattle.rows.specs.declared.rules.Found.{Found}
+use Rattle.rows.specs.declared.rules.Found.the-variants.{At, Nothing}
 use Rattle.scan.specs.declared.Layout.{Layout}
 use Rattle.actions.specs.Chosen.{Arrival, ruleMatches, chosen}
+use Rattle.actions.specs.Groups.{groupRecord}
 
 -- the arrival at a port of a switch, with a header
 abbrev pub arrival : ℕ → ℕ → ℕ → Arrival
@@ -33,3 +36,15 @@ pub record ActsAt (net : Net) (l : Layout) (a : Arrival) (i : ℕ) : Type 0 wher
   pub acts : chosen net a ≡ getD net i [] ∷ []
   pub low : l .misses ≤ i
   pub high : i < l .nodes
+
+-- the record of group g of a switch stands at place i, among the groups
+pub record GroupAt (net : Net) (l : Layout) (sw g i : ℕ) : Type 0 where
+  pub is : groupRecord net sw g ≡ getD net i []
+  pub number : at (getD net i []) 2 ≡ g
+  pub low : l .groups ≤ i
+  pub high : i < length net
+
+-- it was found at its place, or there is none
+abbrev pub GroupFound : Net → Layout → ℕ → ℕ → Found → Type 0
+GroupFound net l sw g (At i) = GroupAt net l sw g i
+GroupFound net l sw g Nothing = groupRecord net sw g ≡ []

@@ -8,5 +8,8 @@ pub mod CopiesInOrder
 pub mod GoodActions
 pub mod GoodGroups
 pub mod GoodRecords
+pub mod GroupCopies
+pub mod Marking
 pub mod RuleSets
+pub mod Running
 pub mod SentCopies

@@ -8,5 +8,6 @@ pub mod ByPlace
 pub mod RuleSets
 pub mod Wards
 pub mod Adds
+pub mod Marks
 pub mod Sent
 pub mod Laws

@@ -1,17 +1,22 @@
--- What one action of a record does, and where its copies go.
+-- What an action of a record and a group do, and where their copies go.
 use mathlib.Core.Path.{_≡_}
 use mathlib.Core.Bool.{true, _&&_}
 use mathlib.Core.List.{List}
-use Prim.Native.Nat.{ℕ, _^_, _<_}
+use Prim.Native.Nat.{ℕ, _^_, _<_, _≤_}
+use lib.ListN.{length}
 use Rattle.records.specs.Lists.{keep}
-use Rattle.records.specs.Record.{Rec, at}
+use Rattle.records.specs.Record.{Rec, Net, at}
+use Rattle.records.specs.Group.{targetKind}
 use Rattle.records.specs.Fields.{actionGood}
 use Rattle.records.specs.State.{ordinary}
-use Rattle.records.specs.Pattern.{matches}
+use Rattle.records.specs.Pattern.{matches, putBits}
 use Rattle.records.specs.declared.Widths.{Widths}
+use Rattle.records.specs.declared.groups.Bucket.{Bucket}
 use Rattle.actions.specs.Departing.{except}
+use Rattle.actions.specs.Groups.{sentTo, lowerSent, groupSent}
 use Rattle.actions.specs.Actions.{sentBy, headerAfter}
-use Rattle.actions.specs.Adds.{lineBytes, LineRoom, Added}
+use Rattle.actions.specs.Adds.{lineBytes, LineRoom}
+use Rattle.actions.specs.Marks.{Done, Ran}
 
 -- a copy at a switch with a header has its bit in the line
 pub record Sends (w : Widths) (line sw h : ℕ) (work : List ℕ) : Type 0 where
@@ -22,6 +27,20 @@ pub record Sends (w : Widths) (line sw h : ℕ) (work : List ℕ) : Type 0 where
 unfoldable pub flooded : Widths → ℕ → ℕ → ℕ → List ℕ → List ℕ
 flooded w p value care ports = except p (keep (λ q. ordinary w q && matches (w .p) value care q) ports)
 
+-- a frame with header h may run groups: there is room for all marks, and the groups that are marked have their copies in the line
+pub record Ready (net : Net) (w : Widths) (line sw p h : ℕ) (work marks : List ℕ) : Type 0 where
+  pub sends : Sends w line sw h work
+  pub room : 128 ≤ length marks
+  pub done : Done (groupSent net w sw p) line (lineBytes w) work marks
+
+-- the copies in l were added to the line, and the groups that are marked then have theirs in it
+abbrev pub Ended : Net → Widths → ℕ → ℕ → ℕ → List ℕ → List ℕ → List ℕ → List ℕ → List ℕ → Type 0
+Ended net w line sw p l work marks work′ marks′ = Ran (groupSent net w sw p) line (lineBytes w) l work marks work′ marks′
+
+-- what a bucket that was read from the record of group g sends
+abbrev pub bucketSends : Net → Widths → ℕ → ℕ → ℕ → Bucket → ℕ → List ℕ
+bucketSends net w sw p g b h = sentTo (targetKind (b .kind)) w sw p (lowerSent net w sw p g) (b .target) (putBits (w .h) (b .value) (b .care) h)
+
 -- action i of a record is one of those that it uses, and good
 pub record UsedAction (w : Widths) (r : Rec) (i : ℕ) : Type 0 where
   pub few : i < 4
@@ -29,6 +48,6 @@ pub record UsedAction (w : Widths) (r : Rec) (i : ℕ) : Type 0 where
   pub good : actionGood w r (at r 8) i ≡ true
 
 -- action i was run: its copies are added to the line, and the header after it is the result
-pub record Acted (w : Widths) (sw p : ℕ) (r : Rec) (h i line : ℕ) (before after : List ℕ) (result : ℕ) : Type 0 where
-  pub copies : Added (sentBy w sw p r h i) line (lineBytes w) before after
+pub record Acted (net : Net) (w : Widths) (sw p : ℕ) (r : Rec) (h i line : ℕ) (work marks work′ marks′ : List ℕ) (result : ℕ) : Type 0 where
+  pub ran : Ended net w line sw p (sentBy net w sw p r h i) work marks work′ marks′
   pub header : result ≡ headerAfter w r h i

@@ -1,9 +1,11 @@
 // What the actions of a record send.
+use groups::run_group;
 use records::Widths;
 use records::fields::is_ordinary;
 use records::pattern::in_set;
 use records::pattern::matched;
 use records::pattern::put;
+use scan::Layout;
 use state::number;
 use state::values;
 ghost use mathlib.Core.Path.{_≡_};
@@ -12,6 +14,7 @@ ghost use mathlib.Core.List.{[], _∷_};
 ghost use Prim.Native.Nat.{ℕ, _^_, _<_};
 ghost use lib.ListN.{length};
 ghost use Rattle.records.specs.Lists.{from};
+ghost use Rattle.records.specs.Record.{records};
 ghost use Rattle.records.specs.Fields.{actionsGood};
 ghost use Rattle.records.specs.Pattern.{patternGood};
 ghost use Rattle.records.specs.Matched.{MatchedSet};
@@ -19,9 +22,11 @@ ghost use Rattle.actions.specs.Actions.{reached, sent};
 ghost use Rattle.actions.specs.Departing.{except, departing};
 ghost use Rattle.actions.specs.ByPlace.{arrival, ofBody};
 ghost use Rattle.actions.specs.Adds.{lineBytes, Added};
-ghost use Rattle.actions.specs.Sent.{Sends, flooded, UsedAction, Acted};
+ghost use Rattle.actions.specs.Sent.{Sends, flooded, Ready, UsedAction, Acted};
+ghost use Rattle.scan.specs.Stored.{Stored};
 
 pub mod choice;
+mod groups;
 pub mod state;
 
 // Sends a copy to port q.
@@ -86,11 +91,24 @@ fn output(work: &mut [u8], line: usize, w: Widths, sw: u8, p: u8, value: u8, car
 }
 
 // Runs action i of a record by its body, p being the arrival port and h the header of that moment; the header after it.
-fn act(work: &mut [u8], line: usize, w: Widths, sw: u8, p: u8, body: &[u8], h: u8, i: usize) -> u8
-    requires { ⌜ Sends w line sw h (now work) × (p < 2 ^ w .p) ⌝ }
-    requires { ⌜ (length (now body) ≡ 20) × UsedAction w (ofBody (now body)) i ⌝ }
-    ensures { λ r. ⌜ Acted w sw p (ofBody (now (body .entry))) h i line (now (work .entry)) (now (work .exit)) r ⌝ }
+fn act(
+    work: &mut [u8],
+    line: usize,
+    store: &[u8],
+    n: usize,
+    l: Layout,
+    sw: u8,
+    p: u8,
+    body: &[u8],
+    h: u8,
+    i: usize,
+    marks: &mut [u8],
+) -> u8
+    requires { ⌜ Stored n l (now store) × Ready (records n (now store)) (l .widths) line sw p h (now work) (now marks) × (p < 2 ^ l .widths .p) ⌝ }
+    requires { ⌜ (length (now body) ≡ 20) × UsedAction (l .widths) (ofBody (now body)) i ⌝ }
+    ensures { λ r. ⌜ Acted (records n (now (store .entry))) (l .widths) sw p (ofBody (now (body .entry))) h i line (now (work .entry)) (now (marks .entry)) (now (work .exit)) (now (marks .exit)) r ⌝ }
 {
+    let w = l.widths;
     let k = 8 + 3 * i;
     let kind = body[k];
     let value = body[k + 1];
@@ -105,22 +123,37 @@ fn act(work: &mut [u8], line: usize, w: Widths, sw: u8, p: u8, body: &[u8], h: u
             send(work, line, w, sw, h, p);
             h
         }
-        0 | 4..=255 => h,
+        4 => {
+            run_group(work, line, store, n, l, sw, p, value, h, marks);
+            h
+        }
+        0 | 5..=255 => h,
     }
 }
 
-// Runs the actions of a record by its body, in order.
-pub fn run(work: &mut [u8], line: usize, w: Widths, sw: u8, p: u8, body: &[u8], h: u8)
-    requires { ⌜ Sends w line sw h (now work) × (p < 2 ^ w .p) ⌝ }
-    requires { ⌜ (length (now body) ≡ 20) × (actionsGood w (ofBody (now body)) ≡ true) ⌝ }
-    ensures { λ _. ⌜ Added (sent w (arrival sw p h) (ofBody (now (body .entry)))) line (lineBytes w) (now (work .entry)) (now (work .exit)) ⌝ }
+// Runs the actions of a record by its body, in order; they share the marks of the groups that have run.
+pub fn run(
+    work: &mut [u8],
+    line: usize,
+    store: &[u8],
+    n: usize,
+    l: Layout,
+    sw: u8,
+    p: u8,
+    body: &[u8],
+    h: u8,
+)
+    requires { ⌜ Stored n l (now store) × Sends (l .widths) line sw h (now work) × (p < 2 ^ l .widths .p) ⌝ }
+    requires { ⌜ (length (now body) ≡ 20) × (actionsGood (l .widths) (ofBody (now body)) ≡ true) ⌝ }
+    ensures { λ _. ⌜ Added (sent (records n (now (store .entry))) (l .widths) (arrival sw p h) (ofBody (now (body .entry)))) line (lineBytes (l .widths)) (now (work .entry)) (now (work .exit)) ⌝ }
 {
     let count = body[7] as usize;
+    let mut marks = [0u8; 128];
     let mut left = count;
     let mut header = h;
     while 0 < left {
         let i = count - left;
-        header = act(work, line, w, sw, p, body, header, i);
+        header = act(work, line, store, n, l, sw, p, body, header, i, &mut marks);
         left -= 1;
     }
 }

@@ -10,16 +10,21 @@ use lib.Dec.{eqb}
 use Rattle.planes.specs.Plane.{bit}
 use Rattle.planes.specs.Lines.{BitSet}
 use Rattle.planes.specs.Laws.Places.{byte-at}
-use Rattle.planes.specs.Laws.Tests.{same-test}
+use Rattle.planes.specs.Laws.Tests.{same-test, or-left, or-right}
 use Rattle.records.specs.Lists.{any, member}
 use Rattle.records.specs.Laws.Lists.{any-append}
 use Rattle.actions.specs.Adds.{Adds, Added}
+use Rattle.actions.specs.Marks.{Within}
 
 or-swap : (a b c : Bool) → a || (b || c) ≡ (b || a) || c
 or-swap true true c = refl
 or-swap true false c = refl
 or-swap false true c = refl
 or-swap false false c = refl
+
+or-held : (a b : Bool) → (a ≡ true → b ≡ true) → b ≡ (a || b)
+or-held true b f = f refl
+or-held false b f = refl
 
 pub member-append : (t : ℕ) (xs ys : List ℕ) → member t (xs ++ ys) ≡ (member t xs || member t ys)
 unfolding member
@@ -82,6 +87,20 @@ module _ (at n : ℕ) where
   pub added-one : (k : ℕ) (a b : List ℕ) → BitSet (at * 8 + k) a b → k < n * 8 → Added (k ∷ []) at n a b
   unfolding member any
   added-one k a b S h = adds-as (λ t. eqb t k) (λ t. member t (k ∷ [])) a b (λ t l. sym (or-false (eqb t k))) (adds-one k a b S h)
+
+  pub added-both : (l m a b c : List ℕ) → Added l at n a b → Added m at n b c → Added (l ++ m) at n a c
+  added-both l m a b c A B = adds-as (λ t. member t l || member t m) (λ t. member t (l ++ m)) a c (λ t h. sym (member-append t l m)) (adds-both _ _ a b c A B)
+
+  -- copies that are there already are added by doing nothing
+  pub added-within : (l a : List ℕ) → Within l at n a → Added l at n a a
+  added-within l a W = record { len = refl; bits = λ t h. or-held (member t l) (bit a (at * 8 + t)) (W t h); under = λ m h. refl; over = λ m h. refl }
+
+  -- the copies are there afterwards, and bits that were set stay
+  pub added-there : (l a b : List ℕ) → Added l at n a b → Within l at n b
+  added-there l a b A t h m = A .bits t h ∙ or-left (member t l) (bit a (at * 8 + t)) m
+
+  pub added-stays : (l a b : List ℕ) → Added l at n a b → (t : ℕ) → t < n * 8 → bit a (at * 8 + t) ≡ true → bit b (at * 8 + t) ≡ true
+  added-stays l a b A t h m = A .bits t h ∙ or-right (member t l) (bit a (at * 8 + t)) m
 
   abbrev pub TowardList : List ℕ → List ℕ → List ℕ → List ℕ → Type 0
   TowardList all rest a b = Toward (λ t. member t all) (λ t. member t rest) a b

@@ -1,0 +1,103 @@
+-- The buckets of a group run one after the other, as they were read from its record.
+use mathlib.Core.Path.{_≡_, refl, sym, ap, subst, subst⁻¹, _∙_}
+use mathlib.Core.Bool.{true, false}
+use mathlib.Core.List.{List, []}
+use Prim.Native.Nat.{ℕ, _+_, _-_, _*_, _^_, _<_, _≤_}
+use native.Mathlib.Omega.{arith}
+use lib.ListN.{length, getD, take, drop, replicate, length-replicate}
+use Rattle.planes.specs.Plane.{bit}
+use Rattle.planes.specs.Lines.{BitSet}
+use Rattle.records.specs.Record.{Rec, Net, at, records}
+use Rattle.records.specs.Group.{TargetKind, targetKind, IsBucket}
+use Rattle.records.specs.Fields.{bucketsGood}
+use Rattle.records.specs.Pattern.{putBits}
+use Rattle.records.specs.Laws.Limits.{limits}
+use Rattle.records.specs.Laws.Matched.{below-64}
+use Rattle.records.specs.Laws.Patterns.{put-lt}
+use Rattle.records.specs.Laws.Records.{length-records, record-at, part-is, record-length}
+use Rattle.records.specs.declared.Widths.{Widths}
+use Rattle.records.specs.declared.groups.Bucket.{Bucket}
+use Rattle.scan.specs.declared.Layout.{Layout}
+use Rattle.scan.specs.Stored.{Stored}
+use Rattle.actions.specs.Groups.{groupRecord, sentTo, bucketsSent, lowerSent, groupSent}
+use Rattle.actions.specs.ByPlace.{GroupAt}
+use Rattle.actions.specs.Adds.{lineBytes}
+use Rattle.actions.specs.Marks.{mark, Done}
+use Rattle.actions.specs.Sent.{Sends, Ready, Ended, bucketSends}
+use Rattle.actions.specs.Laws.GoodRecords.{buckets-good}
+use Rattle.actions.specs.Laws.GroupCopies.{no-buckets, more-buckets, all-buckets, no-group}
+use Rattle.actions.specs.Laws.Marking.{done-none, ran-none, ran-marked, ran-both, ran-all}
+use Rattle.actions.specs.Laws.SentCopies.{sends-on}
+
+-- the record of group g, as it was read from a store
+pub record GroupRead (net : Net) (w : Widths) (sw g : ℕ) (r : Rec) : Type 0 where
+  pub is : groupRecord net sw g ≡ r
+  pub number : at r 2 ≡ g
+  pub good : bucketsGood w r ≡ true
+  pub whole : length r ≡ 24
+
+pub group-read : (n : ℕ) (l : Layout) (s : List ℕ) → Stored n l s → (sw g i : ℕ) → GroupAt (records n s) l sw g i
+    → GroupRead (records n s) (l .widths) sw g (take (i * 24 + 24 - i * 24) (drop (i * 24) s))
+group-read n l s st sw g i G =
+    let h : i < n = omega (arith, G .high, length-records n s) in
+    let e : getD (records n s) i [] ≡ take (i * 24 + 24 - i * 24) (drop (i * 24) s) = record-at n s i h ∙ sym (part-is s i) in
+    record {
+      is = G .is ∙ e;
+      number = ap (λ (r : Rec). at r 2) (sym e) ∙ G .number;
+      good = ap (bucketsGood (l .widths)) (sym e) ∙ buckets-good n l s st i (G .low) h;
+      whole = ap length (part-is s i) ∙ record-length s i (omega (arith, st .room));
+    }
+
+module _ (net : Net) (w : Widths) (line sw p : ℕ) where
+  -- what the next run asks, with another header, and after a run
+  pub ready-with : (h k : ℕ) (work marks : List ℕ) → k < 2 ^ w .h → Ready net w line sw p h work marks → Ready net w line sw p k work marks
+  ready-with h k work marks lt Q = record { sends = sends-on w line sw h k work work refl lt (Q .sends); room = Q .room; done = Q .done }
+
+  pub ready-on : (h : ℕ) (l a m a₁ m₁ : List ℕ) → Ready net w line sw p h a m → Ended net w line sw p l a m a₁ m₁ → Ready net w line sw p h a₁ m₁
+  ready-on h l a m a₁ m₁ Q R = record {
+    sends = sends-on w line sw h h a a₁ (R .copies .len) (Q .sends .ready .header) (Q .sends);
+    room = omega (arith, Q .room, R .marksLen);
+    done = R .done;
+  }
+
+  -- at the start nothing is marked
+  pub ready-first : (h : ℕ) (work : List ℕ) → Sends w line sw h work → Ready net w line sw p h work (replicate 128 0)
+  ready-first h work S = record { sends = S; room = omega (arith, length-replicate {A = ℕ} 128 0); done = done-none (groupSent net w sw p) line (lineBytes w) 128 work }
+
+  pub few-headers : (h : ℕ) (work marks : List ℕ) → Ready net w line sw p h work marks → h < 64
+  few-headers h work marks Q = below-64 (w .h) h (limits w (Q .sends .ready .limits) .high-h) (Q .sends .ready .header)
+
+  -- a bucket that sends on the header k, by the kind of its target
+  module _ (g h k : ℕ) (b : Bucket) (ek : k ≡ putBits (w .h) (b .value) (b .care) h) where
+    pub header-lt : k < 2 ^ w .h
+    header-lt = subst⁻¹ (λ (x : ℕ). x < 2 ^ w .h) ek (put-lt (b .value) (b .care) h (w .h))
+
+    pub bucket-ran : (x : TargetKind) → targetKind (b .kind) ≡ x → (a m a₁ m₁ : List ℕ)
+        → Ended net w line sw p (sentTo x w sw p (lowerSent net w sw p g) (b .target) k) a m a₁ m₁ → Ended net w line sw p (bucketSends net w sw p g b h) a m a₁ m₁
+    bucket-ran x e a m a₁ m₁ R = rw (e, ← ek) R
+
+  -- group g: its buckets, and its mark
+  module _ (g h : ℕ) where
+    pub group-absent : (a m : List ℕ) → groupRecord net sw g ≡ [] → Done (groupSent net w sw p) line (lineBytes w) a m → Ended net w line sw p (groupSent net w sw p g h) a m a m
+    group-absent a m e D = rw (no-group net w sw p g h e) (ran-none (groupSent net w sw p) line (lineBytes w) a m D)
+
+    module _ (n : ℕ) (en : n ≡ mark g h) where
+      pub group-marked : (a m : List ℕ) → Ready net w line sw p h a m → bit m n ≡ true → Ended net w line sw p (groupSent net w sw p g h) a m a m
+      group-marked a m Q e = ran-marked (groupSent net w sw p) line (lineBytes w) g h a m (few-headers h a m Q) (ap (bit m) (sym en) ∙ e) (Q .done)
+
+    module _ (r : Rec) where
+      pub buckets-start : (a m : List ℕ) → Done (groupSent net w sw p) line (lineBytes w) a m → Ended net w line sw p (bucketsSent w sw p (lowerSent net w sw p g) r h 0) a m a m
+      buckets-start a m D = rw (no-buckets net w sw p g h r) (ran-none (groupSent net w sw p) line (lineBytes w) a m D)
+
+      pub buckets-next : (j : ℕ) (b : Bucket) (a m a₁ m₁ a₂ m₂ : List ℕ) → IsBucket r j b
+          → Ended net w line sw p (bucketsSent w sw p (lowerSent net w sw p g) r h j) a m a₁ m₁ → Ended net w line sw p (bucketSends net w sw p g b h) a₁ m₁ a₂ m₂
+          → Ended net w line sw p (bucketsSent w sw p (lowerSent net w sw p g) r h (j + 1)) a m a₂ m₂
+      buckets-next j b a m a₁ m₁ a₂ m₂ I R S =
+          rw (more-buckets net w sw p g h r j b I) (ran-both (groupSent net w sw p) line (lineBytes w) _ (bucketSends net w sw p g b h) a m a₁ m₁ a₂ m₂ R S)
+
+      pub group-ran : (n j : ℕ) (a m a₁ m₁ m₂ : List ℕ) → n ≡ mark g h → h < 64 → groupRecord net sw g ≡ r → j ≡ at r 8
+          → Ended net w line sw p (bucketsSent w sw p (lowerSent net w sw p g) r h j) a m a₁ m₁ → BitSet n m₁ m₂ → Ended net w line sw p (groupSent net w sw p g h) a m a₁ m₂
+      group-ran n j a m a₁ m₁ m₂ en lh is ej R S =
+          ran-all (groupSent net w sw p) line (lineBytes w) g h a m a₁ m₁ m₂ lh
+          (subst (λ (x : List ℕ). Ended net w line sw p x a m a₁ m₁) (ap (bucketsSent w sw p (lowerSent net w sw p g) r h) ej ∙ sym (all-buckets net w sw p g h r is)) R)
+          (subst (λ (x : ℕ). BitSet x m₁ m₂) en S)

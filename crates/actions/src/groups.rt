@@ -1,0 +1,121 @@
+// What the groups of a switch send.
+use crate::send_on;
+use records::groups::Bucket;
+use records::groups::bucket_at;
+use records::pattern::put;
+use rows::rules::Found;
+use scan::Layout;
+ghost use mathlib.Core.Path.{_≡_};
+ghost use mathlib.Core.Bool.{true};
+ghost use Prim.Native.Nat.{_<_};
+ghost use lib.ListN.{length};
+ghost use Rattle.records.specs.Record.{records};
+ghost use Rattle.records.specs.Group.{isGroup};
+ghost use Rattle.records.specs.Fields.{usedBucket};
+ghost use Rattle.scan.specs.Stored.{Stored};
+ghost use Rattle.actions.specs.Groups.{groupSent};
+ghost use Rattle.actions.specs.ByPlace.{GroupFound};
+ghost use Rattle.actions.specs.Marks.{mark};
+ghost use Rattle.actions.specs.Sent.{Ready, Ended, bucketSends};
+
+// The record of a group is that of number g of a switch.
+fn is_group(r: &[u8], sw: u8, g: u8) -> bool
+    requires { ⌜ length (now r) ≡ 24 ⌝ }
+    ensures { λ b. ⌜ b ≡ isGroup sw g (now (r .entry)) ⌝ }
+{
+    if r[1] != sw {
+        return false;
+    }
+    r[2] == g
+}
+
+// The place of the record of group g of a switch.
+fn find_group(store: &[u8], n: usize, l: Layout, sw: u8, g: u8) -> Found
+    requires { ⌜ Stored n l (now store) ⌝ }
+    ensures { λ r. ⌜ GroupFound (records n (now (store .entry))) l sw g r ⌝ }
+{
+    let mut i = l.groups;
+    while i < n {
+        let a = i * 24;
+        let e = a + 24;
+        if is_group(&store[a..e], sw, g) {
+            return Found::At(i);
+        }
+        i += 1;
+    }
+    Found::Nothing
+}
+
+// The number of the mark of group g and header h.
+fn mark_of(g: u8, h: u8) -> usize
+    ensures { λ r. ⌜ r ≡ mark g h ⌝ }
+{
+    g as usize * 64 + h as usize
+}
+
+// Runs a bucket of group g for a frame that entered the group with header h.
+fn run_bucket(
+    work: &mut [u8],
+    line: usize,
+    store: &[u8],
+    n: usize,
+    l: Layout,
+    sw: u8,
+    p: u8,
+    g: u8,
+    h: u8,
+    b: Bucket,
+    marks: &mut [u8],
+)
+    requires { ⌜ Stored n l (now store) × Ready (records n (now store)) (l .widths) line sw p h (now work) (now marks) ⌝ }
+    requires { ⌜ (g < 16) × (usedBucket (l .widths) g (b .value) (b .care) (b .kind) (b .target) ≡ true) ⌝ }
+    ensures { λ _. ⌜ Ended (records n (now (store .entry))) (l .widths) line sw p (bucketSends (records n (now (store .entry))) (l .widths) sw p g b h) (now (work .entry)) (now (marks .entry)) (now (work .exit)) (now (marks .exit)) ⌝ }
+{
+    let w = l.widths;
+    let header = put(w.h, b.value, b.care, h);
+    let kind = b.kind;
+    let target = b.target;
+    match kind {
+        1 => send_on(work, line, w, sw, p, header, target),
+        2 => run_group(work, line, store, n, l, sw, p, target, header, marks),
+        0 | 3..=255 => {}
+    }
+}
+
+// Runs group g of a switch for a frame that enters it with header h, unless that is marked; marks it when all its buckets have run.
+pub fn run_group(
+    work: &mut [u8],
+    line: usize,
+    store: &[u8],
+    n: usize,
+    l: Layout,
+    sw: u8,
+    p: u8,
+    g: u8,
+    h: u8,
+    marks: &mut [u8],
+)
+    requires { ⌜ Stored n l (now store) × Ready (records n (now store)) (l .widths) line sw p h (now work) (now marks) ⌝ }
+    requires { ⌜ g < 16 ⌝ }
+    ensures { λ _. ⌜ Ended (records n (now (store .entry))) (l .widths) line sw p (groupSent (records n (now (store .entry))) (l .widths) sw p g h) (now (work .entry)) (now (marks .entry)) (now (work .exit)) (now (marks .exit)) ⌝ }
+{
+    let m = mark_of(g, h);
+    if planes::get_bit(marks, m) {
+        return;
+    }
+    let found = find_group(store, n, l, sw, g);
+    let Found::At(i) = found else {
+        return;
+    };
+    let a = i * 24;
+    let e = a + 24;
+    let r = &store[a..e];
+    let count = r[8] as usize;
+    let mut j: usize = 0;
+    while j < count {
+        let b = bucket_at(r, j);
+        run_bucket(work, line, store, n, l, sw, p, g, h, b, marks);
+        j += 1;
+    }
+    planes::set_bit(marks, m);
+}
