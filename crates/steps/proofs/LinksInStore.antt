@@ -19,7 +19,7 @@ use Rattle.steps.specs.Carried.{Ends, crosses}
 use Rattle.scan.specs.Stored.{Stored}
 use Rattle.actions.specs.Laws.Bodies.{bodyAt, SameTo, body-of}
 use Rattle.steps.proofs.LinkCrossings.{crosses-as, links-after}
-use Rattle.actions.specs.Laws.GoodRecords.{in-store, link-good}
+use Rattle.actions.specs.Laws.GoodRecords.{in-store, in-net, link-good}
 
 -- a link by its bytes 1 to 4
 module _ (sw p : ℕ) (r q : Rec) (same : SameTo 4 r q) where
@@ -51,7 +51,7 @@ module _ (n : ℕ) (l : Layout) (s : List ℕ) (st : Stored n l s) (i : ℕ) (lo
       ends-good (l .widths) (ofBody (bodyAt s i 4)) (getD (records n s) i []) link-same (record { one = g .0; other = g .1 })
 
   links-left : part (records n s) i (l .misses) ≡ getD (records n s) i [] ∷ part (records n s) (i + 1) (l .misses)
-  links-left = part-more (records n s) i (l .misses) high (omega (arith, st .laid .within, st .laid .switches, st .laid .few-rules))
+  links-left = part-more (records n s) i (l .misses) high (omega (arith, in-net n l s st, st .laid .switches, st .laid .few-rules))
 
   -- it, and the links after it
   pub links-cross : (x y : ℕ) → crosses (l .widths) (λ sw p. across sw p (part (records n s) i (l .misses))) x y

@@ -39,11 +39,11 @@ module _ (net : Net) (w : Widths) (widths : w ≡ widthsOf net) (s : ℕ) where
 module _ (net : Net) (w : Widths) (a : Arrival) where
   pub dropped : a .port ≡ 0 → relayed net w a ≡ []
   unfolding relayed
-  dropped e = ap (λ (t : Bool). cond t [] (flatMap (sent w a) (chosen net a))) (eq-eqb (a .port) 0 e)
+  dropped e = ap (λ (t : Bool). cond t [] (flatMap (sent net w a) (chosen net a))) (eq-eqb (a .port) 0 e)
 
-  pub one-acts : (a .port ≡ 0 → ⊥) → (r : Rec) → chosen net a ≡ r ∷ [] → relayed net w a ≡ sent w a r
+  pub one-acts : (a .port ≡ 0 → ⊥) → (r : Rec) → chosen net a ≡ r ∷ [] → relayed net w a ≡ sent net w a r
   unfolding relayed flatMap
   one-acts n r e =
-      ap (λ (t : Bool). cond t [] (flatMap (sent w a) (chosen net a))) (ne-eqb (a .port) 0 n)
-      ∙ ap (flatMap (sent w a)) e
-      ∙ append-nil (sent w a r)
+      ap (λ (t : Bool). cond t [] (flatMap (sent net w a) (chosen net a))) (ne-eqb (a .port) 0 n)
+      ∙ ap (flatMap (sent net w a)) e
+      ∙ append-nil (sent net w a r)

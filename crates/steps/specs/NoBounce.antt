@@ -11,7 +11,7 @@ use lib.ListN.{length, getD}
 use Rattle.planes.specs.Laws.Tests.{or-cases}
 use Rattle.records.specs.Lists.{member}
 use Rattle.records.specs.Record.{Rec, Net, kind}
-use Rattle.records.specs.Fields.{actionsGood}
+use Rattle.records.specs.Fields.{actionsGood, fieldsGood}
 use Rattle.records.specs.Widths.{widthsOf}
 use Rattle.records.specs.State.{headerOf, portOf, switchOf, directionOf}
 use Rattle.records.specs.Laws.Every.{Every, in-empty, at-every}
@@ -26,7 +26,8 @@ use Rattle.actions.specs.Actions.{copies, sent}
 use Rattle.actions.specs.ByPlace.{arrival}
 use Rattle.actions.specs.Laws.AddedBits.{member-append}
 use Rattle.actions.specs.Laws.AmongChosen.{every-chosen}
-use Rattle.actions.specs.Laws.Bounce.{NoInPort, no-bounce}
+use Rattle.actions.specs.Laws.Bounce.{NoInPort, GoodGroups, no-bounce}
+use Rattle.actions.specs.Laws.GoodGroups.{group-buckets}
 use Rattle.steps.specs.Step.{Step}
 use Rattle.steps.specs.Relayed.{relayed}
 use Rattle.steps.specs.Laws.ByDirection.{next-arriving}
@@ -45,33 +46,39 @@ module _ (net : Net) (clean : fileRow [] net ≡ none) where
   abbrev w : Widths
   w = widthsOf net
 
-  -- the actions of every miss and every rule are good
+  -- the fields of every record but the widths record are good
+  fields : (k : ℕ) → k < length net → (kind (getD net k []) ≡ 1 → ⊥) → fieldsGood (widthsOf net) (getD net k []) ≡ true
+  fields zero h n = absurd (n (ordered _ _ (clean-at net 0 clean h .not3) .first refl))
+  fields (suc k) h n = clean-good net clean (suc k) (omega arith) h
+
+  -- so are the actions of every miss and every rule, and the buckets of every group
   good : (k : ℕ) → k < length net → (kind (getD net k []) ≡ 3) ⊎ (kind (getD net k []) ≡ 4) → actionsGood (widthsOf net) (getD net k []) ≡ true
-  good zero h e =
-      let one : kind (getD net 0 []) ≡ 1 = ordered _ _ (clean-at net 0 clean h .not3) .first refl in
-      absurd (⊎-elim (λ q. omega (arith, q, one)) (λ q. omega (arith, q, one)) e)
-  good (suc k) h e =
-      let g = clean-good net clean (suc k) (omega arith) h in
-      ⊎-elim (λ q. miss-actions w (getD net (suc k) []) q g) (λ q. rule-actions w (getD net (suc k) []) q g) e
+  good k h =
+      ⊎-elim
+      (λ q. miss-actions w (getD net k []) q (fields k h (λ e. omega (arith, e, q))))
+      (λ q. rule-actions w (getD net k []) q (fields k h (λ e. omega (arith, e, q))))
+
+  groups : GoodGroups (widthsOf net) net
+  groups = at-every _ [] net (λ k h q. group-buckets w (getD net k []) q (fields k h (λ e. omega (arith, e, q))))
 
   module _ (without : WithoutInPort net) (s t : ℕ) (q : portOf (widthsOf net) t ≡ portOf (widthsOf net) s) where
     abbrev a : Arrival
     a = arrival (switchOf w s) (portOf w s) (headerOf w s)
 
     -- no record that acts on the frame sends it there
-    unsent : Every (λ r. member t (sent w a r) ≡ true → ⊥) (chosen net a)
+    unsent : Every (λ r. member t (sent net w a r) ≡ true → ⊥) (chosen net a)
     unfolding sent copies
     unsent =
-        every-chosen (λ r. member t (sent w a r) ≡ true → ⊥) (in-empty t) net
-        (at-every _ [] net (λ k h e m. no-bounce w a (switch-lt w s) (getD net k []) (good k h e) (header-lt w s) (without k h e) t m q)) a
+        every-chosen (λ r. member t (sent net w a r) ≡ true → ⊥) (in-empty t) net
+        (at-every _ [] net (λ k h e m. no-bounce net w groups a (switch-lt w s) (getD net k []) (good k h e) (header-lt w s) (without k h e) t m q)) a
 
     steps-elsewhere : directionOf (widthsOf net) s ≡ 0 → Step net s t → ⊥
     unfolding Step relayed
     steps-elsewhere d m = go (eqb (portOf w s) 0) (ap (member t) (sym (next-arriving net w refl s d)) ∙ m)
       where
-        go : (b : Bool) → member t (cond b [] (flatMap (sent w a) (chosen net a))) ≡ true → ⊥
+        go : (b : Bool) → member t (cond b [] (flatMap (sent net w a) (chosen net a))) ≡ true → ⊥
         go true e = in-empty t e
-        go false e = in-none t (sent w a) (chosen net a) unsent e
+        go false e = in-none t (sent net w a) (chosen net a) unsent e
 
 -- a frame that arrives departs at another port
 pub no-step-back : (net : Net) → fileRow [] net ≡ none → WithoutInPort net

@@ -12,7 +12,7 @@ use Rattle.actions.specs.ByPlace.{arrival}
 
 -- what an arrival steps to: at port 0 nothing, else what the records that act send
 unfoldable pub relayed : Net → Widths → Arrival → List ℕ
-relayed net w a = cond (eqb (a .port) 0) [] (flatMap (sent w a) (chosen net a))
+relayed net w a = cond (eqb (a .port) 0) [] (flatMap (sent net w a) (chosen net a))
 
 -- what a state steps to if it arrives; a departing state is left to the links
 unfoldable pub relays : Net → Widths → ℕ → List ℕ

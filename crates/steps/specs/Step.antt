@@ -27,7 +27,7 @@ next net s =
     let h = headerOf w s in
     let a : Arrival = record { switch = sw; port = p; header = h } in
     elim (eqb (directionOf w s) 0) [
-      | true ↦ elim (eqb p 0) [ true ↦ [] | false ↦ flatMap (sent w a) (chosen net a) ]
+      | true ↦ elim (eqb p 0) [ true ↦ [] | false ↦ flatMap (sent net w a) (chosen net a) ]
       | false ↦ map (λ e. state w 0 (e .0) (e .1) h) (across sw p (ofKind 2 net))
     ]
 

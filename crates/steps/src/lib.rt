@@ -52,11 +52,10 @@ fn relay(
     if p == 0 {
         return;
     }
-    let w = l.widths;
     let i = choose(store, n, l, ports, headers, sw, p, h);
     let a = i * 24 + 1;
     let e = a + 20;
-    run(work, line, w, sw, p, &store[a..e], h);
+    run(work, line, store, n, l, sw, p, &store[a..e], h);
 }
 
 // Adds the states that s steps to, if it arrives, where the patterns of each rule match these ports and headers.

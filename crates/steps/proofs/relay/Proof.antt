@@ -24,24 +24,24 @@ returns c =
 
 choose-requires : tie.Need-choose-requires
 choose-requires c κs =
-    let s = c .before .before .before .before in
+    let s = c .before .before .before in
     let S = s .pre .0 .0 in
     (s .pre .1, (S .switch, record { limits = S .ready .limits; port = s .pre .0 .1; header = S .ready .header }))
 
 -- the record that acts is in the store
-within : (c : tie.After-choose) → c .choose .result < c .before .before .before .before .before .args .n
+within : (c : tie.After-choose) → c .choose .result < c .before .before .before .before .args .n
 within c =
-    let s = c .before .before .before .before .before in
+    let s = c .before .before .before .before in
     record-in (s .args .n) (s .args .l) (now (s .args .store)) (s .pre .1 .0) (c .choose .result) (c .choose .ensures .high)
 
 run-requires : tie.Need-run-requires
 run-requires c κs =
     let k = c .before .before in
-    let s = k .before .before .before .before .before in
+    let s = k .before .before .before .before in
     let a = s .args in
     let b = now (a .store) in
     let i = k .choose .result in (
-      s .pre .0,
+      (s .pre .1 .0, s .pre .0 .0, s .pre .0 .1),
       (
         body-length (a .n) b i (within k) 20 (omega arith) (s .pre .1 .0 .room),
         ap (λ (x : List ℕ). actionsGood (a .l .widths) (ofBody x)) (body-is (a .n) b i (within k) 20 (omega arith) refl)
@@ -53,7 +53,7 @@ run-requires c κs =
 returns-2 : tie.Need-returns-2
 returns-2 c =
     let k = c .before .before .before .before .before in
-    let s = k .before .before .before .before .before in
+    let s = k .before .before .before .before in
     let a = s .args in
     let b = now (a .store) in
     let i = k .choose .result in
@@ -61,8 +61,8 @@ returns-2 c =
     let v = arrival (a .sw) (a .p) (a .h) in
     let few = few-actions (a .l .widths) r (actions-good (a .n) (a .l) b (s .pre .1 .0) i (k .choose .ensures .low) (k .choose .ensures .high)) in
     rw (
-      one-acts (records (a .n) b) (a .l .widths) v (k .before .before .if1 .left) r (k .choose .ensures .acts),
-      ← (sent-same (a .l .widths) (ofBody (bodyAt b i 20)) r (body-of (a .n) b i (within k) 20 (omega arith)) v few),
+      one-acts (records (a .n) b) (a .l .widths) v (k .before .if1 .left) r (k .choose .ensures .acts),
+      ← (sent-same (a .l .widths) (ofBody (bodyAt b i 20)) r (body-of (a .n) b i (within k) 20 (omega arith)) (records (a .n) b) v few),
     )
     (c .before .before .run .ensures)
 
@@ -72,12 +72,12 @@ relay-spec =
     (tie.spec
     returns
     choose-requires
-    (λ c. omega (arith, within c, c .before .before .before .before .before .pre .1 .0 .room))
-    (λ c. omega (arith, within c, c .before .before .before .before .before .pre .1 .0 .room))
-    (λ c. omega (arith, within c, c .before .before .before .before .before .pre .1 .0 .room))
+    (λ c. omega (arith, within c, c .before .before .before .before .pre .1 .0 .room))
+    (λ c. omega (arith, within c, c .before .before .before .before .pre .1 .0 .room))
+    (λ c. omega (arith, within c, c .before .before .before .before .pre .1 .0 .room))
     (λ c. search needs)
     (λ c. search needs)
-    (λ c. omega (arith, within (c .before), c .before .before .before .before .before .before .pre .1 .0 .room))
+    (λ c. omega (arith, within (c .before), c .before .before .before .before .before .pre .1 .0 .room))
     run-requires
     (λ c. search needs)
     returns-2)

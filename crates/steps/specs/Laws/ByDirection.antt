@@ -19,7 +19,7 @@ use Rattle.steps.specs.Carried.{arriving}
 module _ (net : Net) (w : Widths) (widths : w ≡ widthsOf net) (s : ℕ) where
   abbrev arrives : Widths → List ℕ
   arrives v = let a = arrival (switchOf v s) (portOf v s) (headerOf v s) in
-      elim (eqb (portOf v s) 0) as (λ x. List ℕ) [ true ↦ [] | false ↦ flatMap (sent v a) (chosen net a) ]
+      elim (eqb (portOf v s) 0) as (λ x. List ℕ) [ true ↦ [] | false ↦ flatMap (sent net v a) (chosen net a) ]
 
   abbrev departs : Widths → List ℕ
   departs v = map (λ (e : ℕ × ℕ). state v 0 (e .0) (e .1) (headerOf v s)) (across (switchOf v s) (portOf v s) (ofKind 2 net))
@@ -36,7 +36,7 @@ module _ (net : Net) (w : Widths) (widths : w ≡ widthsOf net) (s : ℕ) where
       ∙ go (eqb (portOf w s) 0)
     where
       go : (t : Bool) → let a = arrival (switchOf w s) (portOf w s) (headerOf w s) in
-          (elim t as (λ x. List ℕ) [ true ↦ [] | false ↦ flatMap (sent w a) (chosen net a) ]) ≡ cond t [] (flatMap (sent w a) (chosen net a))
+          (elim t as (λ x. List ℕ) [ true ↦ [] | false ↦ flatMap (sent net w a) (chosen net a) ]) ≡ cond t [] (flatMap (sent net w a) (chosen net a))
       go true = refl
       go false = refl
 
