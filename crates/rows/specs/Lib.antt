@@ -5,4 +5,5 @@ pub mod Found
 pub mod Policies
 pub mod Groups
 pub mod Count
+pub mod Computing
 pub mod Laws

@@ -37,7 +37,7 @@ use Rattle.verdict.specs.Laws.Tabled.{truth-iff}
 
 -- all that a starred case computes with
 unfoldable pub computing : Unit {0}
-unfolding flatMap gridTest orLine addLine round rounds tab grid closed all member sameNumbers recordKind commandKind records flat sameRule present endsAt linked states planeBytes withinLimits headerOf portOf switchOf directionOf patternGood nodeKind nodeSays firstNodes formula nodesOf policyCount forbidden longestOf longest free row1 row2 row3 row4 row5 row6 row7 row8 row9 row10 row11 row12 row13 zeros pointGood actionBytesGood actionGood actionsGood matchGood nodeGood fieldsGood missesIncomplete operandsGood endsPolicy freeAt workNeeded commandGood recordRow fileRow argumentsRow networkRow checkRefusal commandRow commandRefusal sending across next external tableOf anyBelow allBelow truth firstFrom lowestState verdictFrom judgement verdict asRule withActions changed inserted removed added applied checkAnswer outcomeOf judged stored record24 node A B policy0 K inStore addAny addZero addSet addDrop deleteAbsent addD deleteD
+unfolding flatMap gridTest orLine addLine round rounds tab grid closed member flat headerOf portOf switchOf directionOf forbidden refusing sending across next external tableOf anyBelow allBelow truth firstFrom lowestState verdictFrom judgement verdict asRule withActions changed inserted removed added applied checkAnswer outcomeOf judged stored record24 node A B policy0 K inStore addAny addZero addSet addDrop deleteAbsent addD deleteD
 computing = tt
 
 -- the network with the first add's rule and D in the file

@@ -2,22 +2,18 @@
 use mathlib.Core.Path.{_≡_, refl}
 use mathlib.Core.List.{[], _∷_, map, flatMap}
 use mathlib.Core.Option.{none}
-use Rattle.records.specs.Lists.{keep, all, member, sameNumbers, from}
-use Rattle.records.specs.Record.{recordKind, sameRule, present, endsAt, linked}
-use Rattle.records.specs.Widths.{withinLimits}
+use Rattle.records.specs.Lists.{keep, member, from}
 use Rattle.records.specs.State.{headerOf, portOf, switchOf, directionOf}
-use Rattle.records.specs.Pattern.{patternGood}
-use Rattle.rows.specs.Rows.{row3, row4, row5, row6, row7, row8, row9, row10, missesIncomplete}
-use Rattle.records.specs.Fields.{zeros, pointGood, actionBytesGood, actionGood, actionsGood, matchGood, fieldsGood}
-use Rattle.rows.specs.Refusal.{recordRow, fileRow}
 use Rattle.records.specs.NetK.{record24}
+use Rattle.rows.specs.Refusal.{fileRow}
+use Rattle.rows.specs.Computing.{refusing}
 use Rattle.actions.specs.Computing.{sending}
 use Rattle.actions.specs.Wards.{flood, shadowed, mirror, equal, rewrite, back, answer, wards}
 use Rattle.steps.specs.Step.{across, next, external}
 
 -- all that its steps compute with
 unfoldable stepping : Unit {0}
-unfolding flatMap recordKind all member sameNumbers sameRule present endsAt linked withinLimits headerOf portOf switchOf directionOf patternGood row3 row4 row5 row6 row7 row8 row9 row10 zeros pointGood actionBytesGood actionGood actionsGood matchGood fieldsGood missesIncomplete recordRow fileRow sending across next external record24 flood shadowed mirror equal rewrite back answer wards
+unfolding flatMap member headerOf portOf switchOf directionOf refusing sending across next external record24 flood shadowed mirror equal rewrite back answer wards
 stepping = tt
 
 -- no row refuses the network

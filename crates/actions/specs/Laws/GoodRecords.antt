@@ -24,10 +24,10 @@ module _ (n : ℕ) (l : Layout) (s : List ℕ) (st : Stored n l s) where
 
   -- the groups stand after the nodes, up to the end
   pub groups-in : (l .nodes ≤ l .groups) × (l .groups ≤ n)
-  groups-in = st .groups-within
+  groups-in = (st .laid .within .0, omega (arith, st .laid .within, length-records n s))
 
   pub groups-at : ofKind 9 (records n s) ≡ drop (l .groups) (records n s)
-  groups-at = st .groups
+  groups-at = st .laid .groups
 
   pub in-store : l .nodes ≤ n
   in-store = omega (arith, groups-in)
