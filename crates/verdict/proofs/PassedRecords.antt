@@ -25,8 +25,9 @@ module _ (end : ℕ) (l : Layout) (store : List ℕ) (C : CleanStore end l store
   size : length net ≡ end
   size = length-records end store
 
-  pub up-to : l .nodes ≤ end
-  up-to = omega (arith, C .laid .within, size)
+  -- the nodes stand before the groups, and those before the end
+  pub up-to : (l .nodes ≤ l .groups) × (l .groups ≤ end)
+  up-to = (C .laid .within .0, omega (arith, C .laid .within, size))
 
   pub some-first : 1 ≤ l .nodes
   some-first = omega (arith, C .laid .some-widths, C .laid .switches, C .laid .few-rules)
@@ -35,13 +36,17 @@ module _ (end : ℕ) (l : Layout) (store : List ℕ) (C : CleanStore end l store
   fields i h k = ap (λ (w : Widths). fieldsGood w (getD net i [])) (C .laid .widths) ∙ clean-good net (C .passes) i h (omega (arith, size))
 
   pub stored : Stored end l store
-  stored = record { room = C .room; laid = C .laid; fields = λ i h k. fields i h (omega (arith, up-to)) }
+  stored = record { room = C .room; laid = C .laid; fields = fields }
 
-  nodes-part : ofKind 5 net ≡ part net (l .nodes) end
-  nodes-part = C .laid .nodes ∙ sym (take-all (end - l .nodes) (drop (l .nodes) net) (omega (arith, length-drop (l .nodes) net, size)))
+  pub node-kind : (i : ℕ) → l .nodes ≤ i → i < l .groups → kind (getD net i []) ≡ 5
+  node-kind i h k = kind-at 5 net (l .nodes) (l .groups) i (C .laid .nodes) (C .laid .within .1) h k
 
-  pub node-kind : (i : ℕ) → l .nodes ≤ i → i < end → kind (getD net i []) ≡ 5
-  node-kind i h k = kind-at 5 net (l .nodes) end i nodes-part (omega (arith, size)) h k
+  groups-part : ofKind 9 net ≡ part net (l .groups) end
+  groups-part = C .laid .groups ∙ sym (take-all (end - l .groups) (drop (l .groups) net) (omega (arith, length-drop (l .groups) net, size)))
+
+  -- nor behind the last
+  pub group-kind : (i : ℕ) → l .groups ≤ i → i < end → kind (getD net i []) ≡ 5 → ⊥
+  group-kind i h k e = omega (arith, e, kind-at 9 net (l .groups) end i groups-part (omega (arith, size)) h k)
 
   -- no policy node stands before the first
   pub other-kind : (i : ℕ) → i < l .nodes → kind (getD net i []) ≡ 5 → ⊥
@@ -54,12 +59,12 @@ module _ (end : ℕ) (l : Layout) (store : List ℕ) (C : CleanStore end l store
           omega (arith, e, ordered (take i net) (getD net i []) (p .not3) .first none)
       go (no a) (yes b) f = omega (arith, e, kind-at 2 net 1 (l .misses) i (C .laid .links) (omega (arith, C .laid .switches, C .laid .few-rules, C .laid .within)) (omega arith) b)
       go (no a) (no b) (yes c) = omega (arith, e, kind-at 3 net (l .misses) (l .rules) i (C .laid .misses) (omega (arith, C .laid .few-rules, C .laid .within)) (omega arith) c)
-      go (no a) (no b) (no c) = omega (arith, e, kind-at 4 net (l .rules) (l .nodes) i (C .laid .rules) (C .laid .within) (omega arith) h)
+      go (no a) (no b) (no c) = omega (arith, e, kind-at 4 net (l .rules) (l .nodes) i (C .laid .rules) (omega (arith, C .laid .within)) (omega arith) h)
 
   -- rows 9 and 10 of a policy node
-  pub node-rows : (i : ℕ) → l .nodes ≤ i → i < end → NodeRows (take i net) (getD net i [])
+  pub node-rows : (i : ℕ) → l .nodes ≤ i → i < l .groups → NodeRows (take i net) (getD net i [])
   node-rows i h k =
-      let p = clean-at net i (C .passes) (omega (arith, size)) in
+      let p = clean-at net i (C .passes) (omega (arith, C .laid .within)) in
       let q = node-kind i h k in
       record {
         operands = node-operands _ _ _ p q;

@@ -18,7 +18,7 @@ use Rattle.scan.specs.declared.Layout.{Layout}
 use Rattle.records.specs.Laws.Records.{length-records, record-at, byte-of}
 use Rattle.records.specs.Laws.Lists.{keep-slice}
 use Rattle.records.specs.Laws.Limits.{limits}
-use Rattle.records.specs.Laws.Policies.{count-more, count-follows}
+use Rattle.records.specs.Laws.Policies.{count-more, count-other, count-follows}
 use Rattle.verdict.specs.Evaluated.{nodesAt, OperandOf, SoundNodes}
 use Rattle.verdict.specs.Judge.{policyAt, NodeRows, CleanStore, Run}
 use Rattle.verdict.proofs.PassedRecords as clean
@@ -82,21 +82,27 @@ module _ (end : ℕ) (l : Layout) (store : List ℕ) (C : CleanStore end l store
   pub named : (i : ℕ) → i < end → policyAt store i ≡ at (rec i) 1
   named i h = sym (byte-of (end) store i 1 h (omega arith))
 
-  node-kind : (i : ℕ) → l .nodes ≤ i → i < end → kind (rec i) ≡ 5
+  node-kind : (i : ℕ) → l .nodes ≤ i → i < l .groups → kind (rec i) ≡ 5
   node-kind = clean.node-kind end l store C
 
   other-kind : (i : ℕ) → i < l .nodes → kind (rec i) ≡ 5 → ⊥
   other-kind = clean.other-kind end l store C
 
-  rows : (i : ℕ) → l .nodes ≤ i → i < end → NodeRows (take i net) (rec i)
+  group-kind : (i : ℕ) → l .groups ≤ i → i < end → kind (rec i) ≡ 5 → ⊥
+  group-kind = clean.group-kind end l store C
+
+  within : (i : ℕ) → i ≤ l .groups → i ≤ end
+  within i h = omega (arith, clean.up-to end l store C)
+
+  rows : (i : ℕ) → l .nodes ≤ i → i < l .groups → NodeRows (take i net) (rec i)
   rows = clean.node-rows end l store C
 
   -- one record more
   taken : (i : ℕ) → i < end → take (suc i) net ≡ take i net ++ (rec i ∷ [])
   taken i h = take-suc net i [] (omega (arith, size))
 
-  pub counted-at : (i : ℕ) → l .nodes ≤ i → i < end → counted (suc i) ≡ suc (at (rec i) 1)
-  counted-at i h k = ap policyCount (taken i k) ∙ count-follows (take i net) (rec i) (node-kind i h k) (rows i h k .follows)
+  pub counted-at : (i : ℕ) → l .nodes ≤ i → i < l .groups → counted (suc i) ≡ suc (at (rec i) 1)
+  counted-at i h k = ap policyCount (taken i (within (suc i) k)) ∙ count-follows (take i net) (rec i) (node-kind i h k) (rows i h k .follows)
 
   counted-suc : (i : ℕ) → i < end → counted i ≤ counted (suc i)
   counted-suc i h = omega (arith, ap policyCount (taken i h), count-more (take i net) (rec i))
@@ -112,8 +118,19 @@ module _ (end : ℕ) (l : Layout) (store : List ℕ) (C : CleanStore end l store
       let e : i + (j - i) ≡ j = omega arith in
       omega (arith, ap counted e, counted-plus (j - i) i (omega arith))
 
-  pub counted-end : counted (end) ≡ policyCount net
-  counted-end = ap policyCount (take-all (end) net (omega (arith, size)))
+  -- no group counts
+  counted-groups : (d : ℕ) → l .groups + d ≤ end → counted (l .groups + d) ≡ counted (l .groups)
+  counted-groups zero h = let e : l .groups + 0 ≡ l .groups = omega arith in ap counted e
+  counted-groups (suc d) h =
+      let e : l .groups + suc d ≡ suc (l .groups + d) = omega arith in
+      let k : l .groups + d < end = omega arith in
+      ap counted e ∙ ap policyCount (taken (l .groups + d) k)
+      ∙ count-other (take (l .groups + d) net) (rec (l .groups + d)) (group-kind (l .groups + d) (omega arith) k) ∙ counted-groups d (omega arith)
+
+  pub counted-end : counted (l .groups) ≡ policyCount net
+  counted-end =
+      let e : l .groups + (end - l .groups) ≡ end = omega (arith, within (l .groups) (omega arith)) in
+      sym (counted-groups (end - l .groups) (omega (arith, e))) ∙ ap counted e ∙ ap policyCount (take-all end net (omega (arith, size)))
 
   pub counted-first : counted (l .nodes) ≡ 0
   counted-first = count-none (take (l .nodes) net) (λ i h e.
@@ -121,15 +138,15 @@ module _ (end : ℕ) (l : Layout) (store : List ℕ) (C : CleanStore end l store
       other-kind i k (sym (ap kind (getD-take (l .nodes) net i [] k)) ∙ e))
 
   -- the first policy node is of policy 0
-  pub first-named : l .nodes < end → policyAt store (l .nodes) ≡ 0
+  pub first-named : l .nodes < l .groups → policyAt store (l .nodes) ≡ 0
   first-named h =
       let c = counted-first in
-      ⊎-elim (λ q. absurd (omega (arith, q))) (λ q. named (l .nodes) h ∙ q ∙ c) (rows (l .nodes) (omega arith) h .follows)
+      ⊎-elim (λ q. absurd (omega (arith, q))) (λ q. named (l .nodes) (within (suc (l .nodes)) h) ∙ q ∙ c) (rows (l .nodes) (omega arith) h .follows)
 
   -- the nodes of policy p, which stand together
-  module _ (start stop p : ℕ) (R : Run store start (end) stop) (from : l .nodes ≤ start) (count : p ≡ counted start) (fresh : policyAt store start ≡ p) where
+  module _ (start stop p : ℕ) (R : Run store start (l .groups) stop) (from : l .nodes ≤ start) (count : p ≡ counted start) (fresh : policyAt store start ≡ p) where
     inside : (i : ℕ) → start ≤ i → i < stop → at (rec i) 1 ≡ p
-    inside i h k = sym (named i (omega (arith, R .upTo))) ∙ R .same i h k ∙ fresh
+    inside i h k = sym (named i (within (suc i) (omega (arith, R .upTo)))) ∙ R .same i h k ∙ fresh
 
     pub counted-stop : counted stop ≡ suc p
     counted-stop =
@@ -138,22 +155,23 @@ module _ (end : ℕ) (l : Layout) (store : List ℕ) (C : CleanStore end l store
         ∙ counted-at (stop - 1) (omega (arith, R .some)) (omega (arith, R .some, R .upTo))
         ∙ ap suc (inside (stop - 1) (omega (arith, R .some)) (omega (arith, R .some)))
 
-    next : stop < end → at (rec stop) 1 ≡ suc p
+    next : stop < l .groups → at (rec stop) 1 ≡ suc p
     next h =
         let c = counted-stop in
+        let k : stop < end = within (suc stop) h in
         ⊎-elim
-        (λ q. let e : at (rec stop) 1 ≡ p = omega (arith, q) in absurd (R .ends h (named stop h ∙ e ∙ sym fresh)))
+        (λ q. let e : at (rec stop) 1 ≡ p = omega (arith, q) in absurd (R .ends h (named stop k ∙ e ∙ sym fresh)))
         (λ q. q ∙ c)
         (rows stop (omega (arith, R .some)) h .follows)
 
-    pub next-named : stop < end → policyAt store stop ≡ suc p
-    next-named h = named stop h ∙ next h
+    pub next-named : stop < l .groups → policyAt store stop ≡ suc p
+    next-named h = named stop (within (suc stop) h) ∙ next h
 
     under : (i : ℕ) → i < start → l .nodes ≤ i → at (rec i) 1 ≡ p → ⊥
     under i h k e =
-        omega (arith, counted-at i k (omega (arith, R .some, R .upTo)), counted-mono (suc i) start h (omega (arith, R .some, R .upTo)))
+        omega (arith, counted-at i k (omega (arith, R .some, R .upTo)), counted-mono (suc i) start h (within start (omega (arith, R .some, R .upTo))))
 
-    over : (i : ℕ) → stop ≤ i → i < end → at (rec i) 1 ≡ p → ⊥
+    over : (i : ℕ) → stop ≤ i → i < l .groups → at (rec i) 1 ≡ p → ⊥
     over i h k e = go (ℕ-discrete i stop)
       where
         go : Dec (i ≡ stop) → ⊥
@@ -161,7 +179,7 @@ module _ (end : ℕ) (l : Layout) (store : List ℕ) (C : CleanStore end l store
         go (no n) =
             let m : stop < i = omega (arith, n) in
             let c = counted-at stop (omega (arith, R .some)) (omega arith) in
-            let d = counted-mono (suc stop) i m (omega arith) in
+            let d = counted-mono (suc stop) i m (within i (omega arith)) in
             let t = next (omega arith) in
             ⊎-elim (λ q. omega (arith, q)) (λ q. omega (arith, q)) (rows i (omega (arith, R .some)) k .follows)
 
@@ -175,6 +193,14 @@ module _ (end : ℕ) (l : Layout) (store : List ℕ) (C : CleanStore end l store
         go (yes k) = ap (λ (b : Bool). b && eqb (at (rec i) 1) p) (ne-eqb (kind (rec i)) 5 (other-kind i k))
         go (no k) = ap (λ (b : Bool). eqb (kind (rec i)) 5 && b) (ne-eqb (at (rec i) 1) p (h (omega arith))) ∙ and-false (eqb (kind (rec i)) 5)
 
+    -- no record from stop on
+    own-over : (i : ℕ) → stop ≤ i → i < end → own (rec i) ≡ false
+    own-over i h k = go (decLt i (l .groups))
+      where
+        go : Dec (i < l .groups) → own (rec i) ≡ false
+        go (yes m) = own-not i (λ n. over i h m)
+        go (no m) = ap (λ (b : Bool). b && eqb (at (rec i) 1) p) (ne-eqb (kind (rec i)) 5 (group-kind i (omega arith) k))
+
     own-yes : (i : ℕ) → start ≤ i → i < stop → own (rec i) ≡ true
     own-yes i h k =
         ap₂ _&&_ (eq-eqb (kind (rec i)) 5 (node-kind i (omega arith) (omega (arith, R .upTo)))) (eq-eqb (at (rec i) 1) p (inside i h k))
@@ -182,16 +208,16 @@ module _ (end : ℕ) (l : Layout) (store : List ℕ) (C : CleanStore end l store
     pub nodes-are : nodesOf p net ≡ nodesAt store start (stop - start)
     unfolding nodesOf
     nodes-are =
-        keep-slice own [] net start stop (omega (arith, R .some)) (omega (arith, R .upTo, size))
+        keep-slice own [] net start stop (omega (arith, R .some)) (omega (arith, within stop (R .upTo), size))
         (λ i h. own-not i (under i h)) own-yes
-        (λ i h k. own-not i (λ m. over i h (omega (arith, size))))
-        ∙ slice-records (end) store start stop (omega (arith, R .some)) (R .upTo)
+        (λ i h k. own-over i h (omega (arith, size)))
+        ∙ slice-records (end) store start stop (omega (arith, R .some)) (within stop (R .upTo))
 
     -- of the records before one of its nodes
     earlier-nodes : (j : ℕ) → start ≤ j → j < stop → length (nodesOf p (take j net)) ≡ j - start
     unfolding nodesOf
     earlier-nodes j h k =
-        let t : length (take j net) ≡ j = length-take-le j net (omega (arith, R .upTo, size)) in
+        let t : length (take j net) ≡ j = length-take-le j net (omega (arith, within stop (R .upTo), size)) in
         ap length
         (keep-slice own [] (take j net) start j h (omega (arith, t))
         (λ i m. ap own (getD-take j net i [] (omega arith)) ∙ own-not i (under i m))
@@ -208,11 +234,11 @@ module _ (end : ℕ) (l : Layout) (store : List ℕ) (C : CleanStore end l store
         omega (arith, f, q, earlier-nodes (stop - 1) e (omega arith))
 
     pub a-policy : p < policyCount net
-    a-policy = omega (arith, counted-stop, counted-mono stop (end) (R .upTo) (omega arith), counted-end)
+    a-policy = omega (arith, counted-stop, counted-mono stop (l .groups) (R .upTo) (within (l .groups) (omega arith)), counted-end)
 
     node-rec : (i : ℕ) → i < stop - start → getD (nodesAt store start (stop - start)) i [] ≡ rec (start + i)
     node-rec i h =
-        ap (λ (x : Net). getD x i []) (sym (slice-records (end) store start stop (omega (arith, R .some)) (R .upTo)))
+        ap (λ (x : Net). getD x i []) (sym (slice-records (end) store start stop (omega (arith, R .some)) (within stop (R .upTo))))
         ∙ getD-drop start (take stop net) i []
         ∙ getD-take stop net (start + i) [] (omega arith)
 
@@ -231,8 +257,8 @@ module _ (end : ℕ) (l : Layout) (store : List ℕ) (C : CleanStore end l store
       bits = λ i h z.
           let k : i < stop - start = omega (arith, many) in
           let q = node-rec i k in
-          let hi : start + i < end = omega (arith, R .upTo) in
-          let b = bit-field (l .widths) (rec (start + i)) (node-kind (start + i) (omega arith) hi) (clean.fields end l store C (start + i) (omega (arith, clean.some-first end l store C)) hi) (ap (λ (x : Rec). at x 2) (sym q) ∙ z) in
+          let hi : start + i < l .groups = omega (arith, R .upTo) in
+          let b = bit-field (l .widths) (rec (start + i)) (node-kind (start + i) (omega arith) hi) (clean.fields end l store C (start + i) (omega (arith, clean.some-first end l store C)) (within (suc (start + i)) hi)) (ap (λ (x : Rec). at x 2) (sym q) ∙ z) in
           omega (arith, b, ap (λ (x : Rec). at x 4) q, limits (l .widths) (C .laid .limits) .bits);
     }
       where

@@ -27,11 +27,11 @@ use Rattle.verdict.proofs.PolicyRuns.{counted-end, counted-first, first
 use Rattle.verdict.specs.Model.{modelOf}
 
 -- the policies below p, whose nodes stand before record start, are not broken; the buffer keeps its steps and what lies behind its planes
-pub record Passed (store : List ℕ) (first end bytes start p : ℕ) (before after : List ℕ) : Type 0 where
+pub record Passed (store : List ℕ) (first last end bytes start p : ℕ) (before after : List ℕ) : Type 0 where
   pub from : first ≤ start
-  pub upTo : start ≤ end
+  pub upTo : start ≤ last
   pub count : p ≡ policyCount (take start (records end store))
-  pub fresh : start < end → policyAt store start ≡ p
+  pub fresh : start < last → policyAt store start ≡ p
   pub unbroken : (q : ℕ) → q < p → (z : ℕ) → z < states (widthsOf (records end store)) → Breaks (records end store) q z → ⊥
   pub len : length after ≡ length before
   pub steps : (m : ℕ) → m < planeSize bytes → getD after m 0 ≡ getD before m 0
@@ -52,10 +52,10 @@ module _ (end : ℕ) (l : Layout) (bytes : ℕ) (store ext work : List ℕ) (T :
   C : CleanStore end l store
   C = T .clean
 
-  pub passed-none : Passed store (l .nodes) (end) bytes (l .nodes) 0 work work
+  pub passed-none : Passed store (l .nodes) (l .groups) end bytes (l .nodes) 0 work work
   passed-none = record {
     from = omega arith;
-    upTo = up-to end l store C;
+    upTo = up-to end l store C .0;
     count = sym (counted-first end l store C);
     fresh = first-named end l store C;
     unbroken = λ q h. absurd (omega arith);
@@ -67,7 +67,7 @@ module _ (end : ℕ) (l : Layout) (bytes : ℕ) (store ext work : List ℕ) (T :
   pub stored : end * 24 ≤ length store
   stored = C .room
 
-  module _ (start stop p : ℕ) (b : List ℕ) (P : Passed store (l .nodes) (end) bytes start p work b) (h : start < end) (R : Run store start (end) stop) where
+  module _ (start stop p : ℕ) (b : List ℕ) (P : Passed store (l .nodes) (l .groups) end bytes start p work b) (h : start < l .groups) (R : Run store start (l .groups) stop) where
     abbrev nodes : Net
     nodes = nodesAt store start (stop - start)
 
@@ -84,7 +84,7 @@ module _ (end : ℕ) (l : Layout) (bytes : ℕ) (store ext work : List ℕ) (T :
 
     pub ready : PolicyReady store start (stop - start) bytes b
     ready = record {
-      stored = omega (arith, stored, R .some, R .upTo);
+      stored = omega (arith, stored, R .some, R .upTo, up-to end l store C);
       sound = sound-nodes end l store C start stop p R (P .from) (P .count) (P .fresh h);
       few = few-nodes end l store C start stop p R (P .from) (P .count) (P .fresh h);
       small = T .small;
@@ -112,7 +112,7 @@ module _ (end : ℕ) (l : Layout) (bytes : ℕ) (store ext work : List ℕ) (T :
       kept-behind m k = D .behind m (omega (arith, short)) ∙ P .behind m k
 
     -- none breaks policy p: on to the next
-    pub passed-more : (c : List ℕ) → Tested nodes bytes ext b None c → Passed store (l .nodes) (end) bytes stop (p + 1) work c
+    pub passed-more : (c : List ℕ) → Tested nodes bytes ext b None c → Passed store (l .nodes) (l .groups) end bytes stop (p + 1) work c
     passed-more c D = record {
       from = omega (arith, P .from, R .some);
       upTo = R .upTo;
@@ -138,8 +138,8 @@ module _ (end : ℕ) (l : Layout) (bytes : ℕ) (store ext work : List ℕ) (T :
           no-policy-below = P .unbroken;
         }
 
-  pub passed-all : (start p : ℕ) (b : List ℕ) → Passed store (l .nodes) (end) bytes start p work b → end ≤ start → Holds net
+  pub passed-all : (start p : ℕ) (b : List ℕ) → Passed store (l .nodes) (l .groups) end bytes start p work b → l .groups ≤ start → Holds net
   passed-all start p b P h q k =
-      let e : start ≡ end = omega (arith, P .upTo) in
+      let e : start ≡ l .groups = omega (arith, P .upTo) in
       let n : p ≡ policyCount net = P .count ∙ ap (λ (i : ℕ). policyCount (take i net)) e ∙ counted-end end l store C in
       P .unbroken q (omega (arith, n))

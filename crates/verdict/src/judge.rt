@@ -45,10 +45,11 @@ fn search(
     requires { ⌜ Testable end l bytes (now store) ext (now work) ⌝ }
     ensures { λ r. ⌜ Searched (records end (now (store .entry))) bytes (now (work .entry)) r (now (work .exit)) ⌝ }
 {
+    let last = l.groups;
     let mut start = l.nodes;
     let mut p: usize = 0;
-    while start < end {
-        let stop = policy_end(store, start, end);
+    while start < last {
+        let stop = policy_end(store, start, last);
         let found = policy::test(store, start, stop - start, ext, work, bytes);
         if let Offender::State(x) = found {
             return Judged::Violated {

@@ -2,22 +2,27 @@
 use mathlib.Core.Path.{_∙_}
 use Prim.Native.Nat.{_+_, _-_, _*_}
 use borrow.Author.Needs.{needs}
+use denote.Ref.{now}
+use Rattle.verdict.proofs.PassedRecords.{up-to}
 use Rattle.verdict.proofs.PolicySearch.{Passed, tested-as, passed-none, passed-more, passed-all, found-lowest, ready, lens, kept-behind}
 use native.Mathlib.Omega.{arith}
 use Rattle.verdict.proofs.judge.search.Statement.{statement}
 use Rattle.verdict.proofs.judge.search.Tie as tie
 
 abbrev Inv-loop : tie.InvT-loop
-Inv-loop store end ext work₀ bytes start₀ p₀ work start p = Passed store start₀ end bytes start p work₀ work
+Inv-loop store end ext work₀ bytes last start₀ p₀ work start p = Passed store start₀ last end bytes start p work₀ work
 
 abbrev μ-loop : tie.MeasureT-loop
-μ-loop store end ext work₀ bytes start₀ p₀ work start p = end - start
+μ-loop store end ext work₀ bytes last start₀ p₀ work start p = last - start
 
 loop-holds : tie.Need-loop-holds Inv-loop μ-loop
 loop-holds c = passed-none _ _ _ _ _ _ (c .before .before .pre)
 
 policy-end-requires : tie.Need-policy-end-requires Inv-loop μ-loop
-policy-end-requires c κs = (c .before .before .before .before .pre .clean .room, c .loop-test .taken)
+policy-end-requires c κs =
+    let s = c .before .before .before .before in
+    let C = s .pre .clean in
+    (omega (arith, C .room, up-to (s .args .end) (s .args .l) (now (s .args .store)) C), c .loop-test .taken)
 
 sub-test : tie.Need-sub-test Inv-loop μ-loop
 sub-test c = omega (arith, c .policy-end .ensures .some)
