@@ -7,6 +7,7 @@ pub mod Computing
 pub mod ByPlace
 pub mod RuleSets
 pub mod Wards
+pub mod GroupWards
 pub mod Adds
 pub mod Marks
 pub mod Sent

@@ -3,6 +3,7 @@ pub mod Step
 pub mod NoBounce
 pub mod StepsOfK
 pub mod Table
+pub mod GroupTable
 pub mod Relayed
 pub mod Carried
 pub mod Filled
