@@ -84,7 +84,7 @@ pub command-refused : (store : List ℕ) (n : ℕ) (work : List ℕ) (given : Re
 unfolding outcomeOf commandWork
 command-refused store n work given k p e = record { answered = rw (← e) refl; stores = rw (← e) refl; works = rw (← e) refl }
 
--- what is known of a network that rows 1 to 11 pass
+-- what is known of a network that rows 1 to 11 and 16 pass
 pub known : (store : List ℕ) (n work : ℕ) (l : Layout) → checkRefusal store n work ≡ none → LayoutOf (records n store) l
     → Known (l .widths) store n (l .nodes - l .rules)
 known store n work l e laid =

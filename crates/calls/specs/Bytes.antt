@@ -9,12 +9,12 @@ use Rattle.calls.specs.Answer.{CheckAnswer, CommandAnswer, forwarded, bl
 use Rattle.calls.specs.Reference.{network}
 use Rattle.calls.specs.Command.{Call, startOf, left, NotRefused}
 
--- the store after a forwarded command: byte j is the record's byte below 24 times the count, zero up to byte 15,384, and as before behind it
+-- the store after a forwarded command: byte j is the record's byte below 24 times the count, zero up to byte 15,768, and as before behind it
 pub record StoreBytes (net : Net) (count : ℕ) (before after : List ℕ) : Type 0 where
   pub counted : count ≡ length net
   pub len : length after ≡ length before
   pub in-records : (j : ℕ) → j < count * 24 → getD after j 0 ≡ at (getD net (j / 24) []) (j % 24)
-  pub up-to-15384 : (j : ℕ) → count * 24 ≤ j → j < storeBytes → getD after j 0 ≡ 0
+  pub up-to-15768 : (j : ℕ) → count * 24 ≤ j → j < storeBytes → getD after j 0 ≡ 0
   pub behind : (j : ℕ) → storeBytes ≤ j → getD after j 0 ≡ getD before j 0
 
 -- the work buffer after a verdict: byte j is zero below the length that is needed, and as before behind it

@@ -21,7 +21,7 @@ pub record Installed : Type 0 where
 abbrev pub network : Installed → Net
 network i = records (i .count) (i .bytes)
 
--- a network at the start, in a store of 15,384 bytes
+-- a network at the start, in a store of 15,768 bytes
 abbrev pub installedAtStart : Net → Installed
 installedAtStart net = record { count = length net; bytes = inStore net }
 
@@ -30,7 +30,7 @@ pub record Outcome : Type 0 where
   pub answer : CommandAnswer
   pub after : Installed
 
--- the new records, then zeros to byte 15,384, later bytes kept
+-- the new records, then zeros to byte 15,768, later bytes kept
 unfoldable pub stored : Net → List ℕ → List ℕ
 stored net store = let bytes = flat net in bytes ++ (replicate (storeBytes - length bytes) 0 ++ drop storeBytes store)
 

@@ -93,7 +93,7 @@ fn judged_in(
     }
 }
 
-// The same; the buffer is made here, so that no need of it speaks of 15,384 zeros.
+// The same; the buffer is made here, so that no need of it speaks of 15,768 zeros.
 fn judged(store: &mut [u8], n: usize, work: &mut [u8], given: &[u8]) -> Commanded
     requires { ⌜ commandRefusal (now store) n (length (now work)) (now given) ≡ none ⌝ }
     ensures { λ r. ⌜ Promised (call (now (store .entry)) n (now (work .entry)) (now (given .entry)) (commandAnswerOf r) (now (store .exit)) (now (work .exit))) ⌝ }
@@ -102,7 +102,7 @@ fn judged(store: &mut [u8], n: usize, work: &mut [u8], given: &[u8]) -> Commande
     judged_in(&mut next, store, n, work, given)
 }
 
-// A command on a network that rows 1 to 11 pass: rows 12 and 13, and then the verdict.
+// A command on a network that rows 1 to 11 and 16 pass: rows 12, 16 and 13, and then the verdict.
 fn after_check(store: &mut [u8], n: usize, l: Layout, work: &mut [u8], given: &[u8]) -> Commanded
     requires { ⌜ (checkRefusal (now store) n (length (now work)) ≡ none) × LayoutOf (records n (now store)) l ⌝ }
     ensures { λ r. ⌜ Promised (call (now (store .entry)) n (now (work .entry)) (now (given .entry)) (commandAnswerOf r) (now (store .exit)) (now (work .exit))) ⌝ }

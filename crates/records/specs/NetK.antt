@@ -48,7 +48,7 @@ K =
     ∷ record24 (3 ∷ 1 ∷ 0 ∷ 0 ∷ 0 ∷ 0 ∷ 0 ∷ 0 ∷ 1 ∷ 1 ∷ 0 ∷ 3 ∷ [])
     ∷ A ∷ B ∷ policy0
 
--- a network in a store of 15,384 bytes
+-- a network in a store of 15,768 bytes
 unfoldable pub inStore : Net → List ℕ
 inStore net = let bytes = flat net in bytes ++ replicate (storeBytes - length bytes) 0
 

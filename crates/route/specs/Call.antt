@@ -43,7 +43,7 @@ routeCall store n work start end list = record { store = store; count = n; work 
 abbrev pub networkOf : RouteCall → Net
 networkOf c = records (c .count) (c .store)
 
--- what it refuses: rows 1 to 11, 14 and 15
+-- what it refuses: rows 1 to 11, 16, 14 and 15
 unfoldable pub routeRefusal : RouteCall → Refusal
 routeRefusal c =
     let own = routeRow (networkOf c) (c .start) (c .end) (length (c .list)) in

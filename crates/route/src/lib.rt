@@ -51,7 +51,7 @@ fn show(
     Routed::Found { count }
 }
 
-// A route call on a network that rows 1 to 11 pass: rows 14 and 15, and then the route.
+// A route call on a network that rows 1 to 11 and 16 pass: rows 14 and 15, and then the route.
 fn after_check(
     store: &[u8],
     n: usize,

@@ -1,4 +1,4 @@
--- In a series from a network that the check call passed, only rows 11, 12 and 13 ever refuse a command.
+-- In a series from a network that the check call passed, only row 11 and a command's own rows, 12, 16 and 13, ever refuse it.
 use mathlib.Core.Path.{_≡_, refl, subst⁻¹}
 use mathlib.Core.List.{List, [], _∷_}
 use mathlib.Core.Option.{none, some}
@@ -15,7 +15,7 @@ use Rattle.calls.specs.Reference.{Installed, network, judged, outcomeOf, instal
 use Rattle.commands.specs.NeverStuck.{GoesOn, never-stuck}
 use Rattle.calls.specs.Laws.Store.{holds-passes, arguments, arguments-pass, installed-whole, stored-long, stored-records}
 
--- rows 1 to 10 pass what is installed
+-- rows 1 to 10 and 16 pass what is installed
 pub record Sound (i : Installed) : Type 0 where
   pub arguments : argumentsRow (i .bytes) (i .count) ≡ none
   pub file : fileRow [] (network i) ≡ none
@@ -43,7 +43,7 @@ judged-sound i c holds s e =
     }
 judged-sound i c (violated p x) s e = s
 
--- a command that is not refused passes rows 12 and 13
+-- a command that is not refused passes rows 12, 16 and 13
 row-passed : (i : Installed) (c : Rec) (work : ℕ) → commandRefusal (i .bytes) (i .count) work c ≡ none → commandRow (network i) c ≡ none
 unfolding commandRefusal
 row-passed i c work e = neither (checkRefusal (i .bytes) (i .count) work) (commandRow (network i) c) e .1
@@ -63,7 +63,7 @@ unfolding installed
 series-sound [] i s = s
 series-sound (c ∷ cs) i s = series-sound cs (outcomeOf i (c .0) (c .1) .after) (outcome-sound i (c .0) (c .1) s)
 
--- what refuses a command is then row 11, 12 or 13
+-- what refuses a command is then row 11, 12, 16 or 13
 pub refused-late : (i : Installed) (c : Rec) (work : ℕ) → Sound i
     → commandRefusal (i .bytes) (i .count) work c ≡ orElse (row (row11 (network i) work) 11 0) (commandRow (network i) c)
 unfolding commandRefusal checkRefusal networkRow

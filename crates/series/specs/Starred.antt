@@ -11,15 +11,12 @@ use Rattle.planes.specs.Laws.Tests.{not-both}
 use Rattle.closure.specs.Walk.{Walk}
 use Rattle.planes.specs.Tabulated.{gridTest, tab, grid}
 use Rattle.closure.specs.Computed.{orLine, addLine, round, rounds, closed}
-use Rattle.records.specs.Lists.{all, member, sameNumbers}
-use Rattle.records.specs.Record.{Net, recordKind, commandKind, records, flat, sameRule, present, endsAt, linked}
-use Rattle.records.specs.Widths.{states, planeBytes, withinLimits, widthsOf}
+use Rattle.records.specs.Lists.{all, member}
+use Rattle.records.specs.Record.{Net, flat}
+use Rattle.records.specs.Widths.{states, widthsOf}
 use Rattle.records.specs.State.{headerOf, portOf, switchOf, directionOf}
-use Rattle.records.specs.Pattern.{patternGood}
-use Rattle.records.specs.Policy.{X, Y, R, TC, nodeKind, nodeSays, firstNodes, formula, nodesOf, policyCount, forbidden, longestOf, longest, free}
-use Rattle.rows.specs.Rows.{row1, row2, row3, row4, row5, row6, row7, row8, row9, row10, row11, row12, row13, missesIncomplete, operandsGood, endsPolicy, freeAt, workNeeded}
-use Rattle.records.specs.Fields.{zeros, pointGood, actionBytesGood, actionGood, actionsGood, matchGood, nodeGood, fieldsGood, commandGood}
-use Rattle.rows.specs.Refusal.{recordRow, fileRow, argumentsRow, networkRow, checkRefusal, commandRow, commandRefusal}
+use Rattle.records.specs.Policy.{X, Y, R, TC, formula, forbidden}
+use Rattle.rows.specs.Computing.{refusing}
 use Rattle.actions.specs.Computing.{sending}
 use Rattle.steps.specs.Step.{across, next, Step, external}
 use Rattle.truth.specs.Truth.{Truth}

@@ -46,7 +46,7 @@ isCut i = ltb 0 (length (i .rest))
 unfoldable pub commandMet : Input → Bool
 commandMet i = ltb 0 (length (i .commands)) || isCommand (i .rest)
 
--- more than 641 whole network records are answered by row 1 without reading on
+-- more than 657 whole network records are answered by row 1 without reading on
 unfoldable pub tooMany : Input → Bool
 tooMany i = ltb mostRecords (length (i .network))
 

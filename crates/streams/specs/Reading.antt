@@ -75,7 +75,7 @@ pub record Holding (n : ℕ) (store : List ℕ) : Type 0 where
   pub size : length net ≡ n
   pub stored : store ≡ inStore net
 
--- what reading the network leaves, with what came after its records: of more than 641 the store has the first 641
+-- what reading the network leaves, with what came after its records: of more than 657 the store has the first 657
 pub record Loads (met : Next) (n : ℕ) (store : List ℕ) : Type 0 where
   pub held : Holding (min n mostRecords) store
   pub many : met ≡ next.TooMany → mostRecords < n

@@ -1,4 +1,4 @@
--- What rows 3 to 10 leave of the records of a clean network, by their places.
+-- What rows 3 to 10 and 16 leave of the records of a clean network, by their places.
 use mathlib.Core.Path.{_≡_, sym, ap, _∙_}
 use mathlib.Core.Bool.{true}
 use mathlib.Core.List.{List, []}

@@ -11,7 +11,7 @@ use lib.Pow.{pow-mono}
 use Rattle.records.specs.Widths.{states, widthsOf}
 use Rattle.rows.specs.Count.{policies-bound, widths-bound}
 use Rattle.records.specs.Record.{Rec, Net, records, mostRecords}
-use Rattle.rows.specs.Rows.{row1, row2, row3, row4, row5, row6, row7, row8, row9, row10, row11, row12, row13, missesIncomplete}
+use Rattle.rows.specs.Rows.{row1, row2, row3, row4, row5, row6, row7, row8, row9, row10, row11, row12, row13, row16, row16Command, missesIncomplete}
 use Rattle.rows.specs.Refusal.{Refusal, orElse, row, recordRow, fileRow, argumentsRow, networkRow, checkRefusal, commandRow, commandRefusal}
 use Rattle.records.specs.Laws.Records.{length-records}
 use Rattle.verdict.specs.Verdict.{Verdict, holds, violated, Lowest, Is}
@@ -23,20 +23,20 @@ use Rattle.calls.specs.Reference.{Installed, network, unchanged, judged,
 use Rattle.calls.specs.Laws.Store.{arguments}
 use Rattle.calls.specs.Laws.Refusals.{checks, goes-on}
 
--- a refusal's number is at most 13, and its place at most `last`
+-- a refusal's number is at most 16, and its place at most `last`
 pub record Within (last : ℕ) (r : Refusal) : Type 0 where
-  pub bounds : (f : ℕ × ℕ) → r ≡ some f → (f .0 ≤ 13) × (f .1 ≤ last)
+  pub bounds : (f : ℕ × ℕ) → r ≡ some f → (f .0 ≤ 16) × (f .1 ≤ last)
 
 no-refusal : {A : Type 0} {f : ℕ × ℕ} → _≡_ {A = Refusal} none (some f) → A
 no-refusal e = let z : _≡_ {A = ℕ} 0 1 = cc in absurd (omega arith)
 
 -- a row, and a row before others
-last-row : {last : ℕ} (met : Bool) (number place : ℕ) → number ≤ 13 → place ≤ last → Within last (row met number place)
+last-row : {last : ℕ} (met : Bool) (number place : ℕ) → number ≤ 16 → place ≤ last → Within last (row met number place)
 last-row true number place h l =
     record { bounds = λ f e. let p : number ≡ f .0 = cc in let q : place ≡ f .1 = cc in (omega arith, omega arith) }
 last-row false number place h l = record { bounds = λ f e. no-refusal e }
 
-line-before : {last : ℕ} {b : Refusal} (met : Bool) (number place : ℕ) → number ≤ 13 → place ≤ last → Within last b
+line-before : {last : ℕ} {b : Refusal} (met : Bool) (number place : ℕ) → number ≤ 16 → place ≤ last → Within last b
     → Within last (orElse (row met number place) b)
 line-before true number place h l w = last-row true number place h l
 line-before false number place h l w = w
@@ -59,7 +59,8 @@ record-within before r after =
     (line-before (row6 before r) 6 place (lit≤ tt) (omega arith)
     (line-before (row7 before r) 7 place (lit≤ tt) (omega arith)
     (line-before (row8 before r) 8 place (lit≤ tt) (omega arith)
-    (line-before (row9 before r after) 9 place (lit≤ tt) (omega arith) (last-row (row10 before r) 10 place (lit≤ tt) (omega arith))))))))
+    (line-before (row9 before r after) 9 place (lit≤ tt) (omega arith)
+    (line-before (row10 before r) 10 place (lit≤ tt) (omega arith) (last-row (row16 before r after) 16 place (lit≤ tt) (omega arith)))))))))
 
 file-within : (before rest : Net) → Within (length before + length rest) (fileRow before rest)
 unfolding fileRow
@@ -82,7 +83,8 @@ pub command-within : (store : List ℕ) (n work : ℕ) (c : Rec) → Within most
 unfolding commandRefusal commandRow
 command-within store n work c =
     either-within (checkRefusal store n work) (check-within store n work)
-    (λ e. line-before (row12 (records n store) c) 12 0 (lit≤ tt) (omega arith) (last-row (row13 (records n store) c) 13 0 (lit≤ tt) (omega arith)))
+    (λ e. line-before (row12 (records n store) c) 12 0 (lit≤ tt) (omega arith)
+    (line-before (row16Command (records n store) c) 16 0 (lit≤ tt) (omega arith) (last-row (row13 (records n store) c) 13 0 (lit≤ tt) (omega arith))))
 
 -- a number fits in 16 bits
 abbrev pub Fits16 : ℕ → Type 0
@@ -100,7 +102,7 @@ CommandSmall (CommandAnswer.forwarded count) = Fits16 count
 CommandSmall (CommandAnswer.blocked policy state) = Fits16 policy × Fits16 state
 CommandSmall (CommandAnswer.refused number place) = Fits16 number × Fits16 place
 
--- the lowest broken policy of a network that rows 3 to 10 pass, and its state
+-- the lowest broken policy of a network that rows 3 to 10 and 16 pass, and its state
 lowest-small : (net : Net) (p x : ℕ) → fileRow [] net ≡ none → Lowest net p x → Fits16 p × Fits16 x
 unfolding states
 lowest-small net p x e l =

@@ -68,7 +68,7 @@ module _ (net : Net) (store : List ℕ) (whole : Whole net) (few : length net �
             ap (λ (m : ℕ). getD (stored net store) m 0) e
             ∙ sym (byte-of (length net) (stored net store) (j / 24) (j % 24) (omega arith) (omega arith))
             ∙ ap (λ (n : Net). at (getD n (j / 24) []) (j % 24)) (stored-records net store whole);
-        up-to-15384 = λ j h b.
+        up-to-15768 = λ j h b.
             byte-behind (flat net) (zeros-then pad storeBytes store) j (omega (arith, bytes-are))
             ∙ zeros-within pad storeBytes store (j - length (flat net)) (omega (arith, bytes-are));
         behind = λ j h.

@@ -18,7 +18,7 @@ use Rattle.calls.specs.Answer.{CheckAnswer}
 use Rattle.calls.specs.Check.{unless, ofVerdict, checkAnswer}
 use Rattle.calls.specs.Reference.{stored}
 
--- rows 1 and 2 say that the count is from 1 to 641, and the store long enough
+-- rows 1 and 2 say that the count is from 1 to 657, and the store long enough
 pub record Arguments (store : List ℕ) (n : ℕ) : Type 0 where
   pub some : 0 < n
   pub few : n ≤ mostRecords

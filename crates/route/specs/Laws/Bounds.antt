@@ -25,7 +25,7 @@ RouteSmall (found count) = Fits16 count
 RouteSmall noRoute = Unit {0}
 RouteSmall (refused number place) = Fits16 number × Fits16 place
 
--- a route of a network that rows 3 to 10 pass has at most 1025 states
+-- a route of a network that rows 3 to 10 and 16 pass has at most 1025 states
 few : (net : Net) (a b : ℕ) → fileRow [] net ≡ none → (o : Option (List ℕ)) → IsIn net a b o → RouteSmall (ofRoute o)
 unfolding states
 few net a b e none h = tt

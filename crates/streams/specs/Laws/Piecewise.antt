@@ -43,7 +43,7 @@ module _ (net : Net) (commands : List Rec) (rest : List ℕ) where
   unfolding outputOf shortStart
   met e = rw (e, and-false (isCut (parts net commands rest)))
 
-  -- row 1 answers more than 641, whatever else was read
+  -- row 1 answers more than 657, whatever else was read
   pub too-many : mostRecords < length net → outputOf (parts net commands rest) ≡ startLine (CheckAnswer.refused 1 0)
   unfolding outputOf shortStart tooMany started afterStart
   too-many h =

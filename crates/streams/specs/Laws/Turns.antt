@@ -21,7 +21,7 @@ use Rattle.streams.specs.declared.input.Next.the-variants as next
 use Rattle.streams.specs.Reading.{Loads}
 use Rattle.streams.specs.Output.{workBytes, installedWith, startAnswer, OutcomeIs}
 
--- more than 641 records are refused by row 1, whatever the store has
+-- more than 657 records are refused by row 1, whatever the store has
 pub many-refused : (store : List ℕ) (n : ℕ) → mostRecords < n → checkAnswer store n workBytes ≡ CheckAnswer.refused 1 0
 unfolding checkAnswer checkRefusal argumentsRow row1
 many-refused store n h = rw (or-right (eqb n 0) (ltb mostRecords n) (lt-ltb mostRecords n h))
