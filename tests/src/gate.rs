@@ -3,9 +3,9 @@
 /// Bytes of a record.
 pub const RECORD: usize = 24;
 /// Records of the largest network.
-pub const MOST_RECORDS: usize = 641;
+pub const MOST_RECORDS: usize = 657;
 /// Bytes that a store has at least.
-pub const STORE: usize = 15_384;
+pub const STORE: usize = 15_768;
 
 /// The answer of the check call.
 #[derive(Clone, Copy, Debug, PartialEq, Eq)]

@@ -78,14 +78,17 @@ fn routed(
     }
 }
 
-/// The network that a command would leave: rows 1 to 13.
+/// The network that a command would leave: rows 1 to 12, 16 and 13.
 fn result(store: &[u8], n: usize, work: &[u8], given: &[u8]) -> Result<Network, Refusal> {
     let network = admit(store, n, work)?;
     let command = commands::read(network.widths, given).ok_or(refusal(12))?;
+    if !commands::has_groups(&network, &command) {
+        return Err(refusal(16));
+    }
     commands::apply(&network, command).ok_or(refusal(13))
 }
 
-/// The network in the store: rows 1 to 11.
+/// The network in the store: rows 1 to 11, and 16 in a record.
 fn admit(store: &[u8], n: usize, work: &[u8]) -> Result<Network, Refusal> {
     if n == 0 || n > MOST_RECORDS {
         return Err(refusal(1));

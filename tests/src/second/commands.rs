@@ -22,6 +22,16 @@ pub fn read(widths: Widths, given: &[u8]) -> Option<Command> {
     }
 }
 
+/// Whether the network has each group that a command's actions run; if not, that is row 16.
+pub fn has_groups(network: &Network, command: &Command) -> bool {
+    match command {
+        Command::Add(rule) | Command::Modify(rule) => {
+            network.has_groups_of(rule.matching.switch, &rule.actions)
+        }
+        Command::Delete(_) => true,
+    }
+}
+
 /// The network that a command leaves; `None` is row 13.
 pub fn apply(network: &Network, command: Command) -> Option<Network> {
     let mut left = network.clone();

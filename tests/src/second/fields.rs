@@ -1,10 +1,15 @@
-//! Reading the fields of one record; `None` stands for a field fault (row 5, or 12 in a command).
+//! Reading the fields of one record; `None` stands for a field fault (row 5, 16 in a group, or 12 in a
+//! command).
 
-use super::network::{Action, Link, Match, Node, Pattern, Record, Rule, Variable};
+use super::network::{
+    Action, Bucket, Group, Link, Match, Node, Pattern, Record, Rule, Target, Variable,
+};
 use super::states::{Point, Widths};
 
 /// Actions of a rule: their count, then room for four of three bytes.
 const ACTIONS: std::ops::Range<usize> = 8..21;
+/// The highest number of a group.
+const HIGHEST_GROUP: u8 = 15;
 
 /// The fields of a link record.
 pub fn link(widths: Widths, record: &Record) -> Option<Link> {
@@ -54,7 +59,7 @@ fn pattern(width: u8, value: u8, care: u8) -> Option<Pattern> {
     sound.then_some(Pattern { value, care })
 }
 
-/// The used actions, the last of them one that sends; unused ones are zero.
+/// The used actions, the last of them not SET; unused ones are zero.
 fn actions(widths: Widths, count: u8, bytes: &[u8]) -> Option<Vec<Action>> {
     if !(1..=4).contains(&count) {
         return None;
@@ -62,8 +67,8 @@ fn actions(widths: Widths, count: u8, bytes: &[u8]) -> Option<Vec<Action>> {
     let (used, unused) = bytes.split_at(3 * usize::from(count));
     let actions =
         used.chunks(3).map(|bytes| action(widths, bytes)).collect::<Option<Vec<Action>>>()?;
-    let sends = matches!(actions.last(), Some(Action::Output(_) | Action::InPort));
-    (sends && are_zero(unused)).then_some(actions)
+    let ends_in_set = matches!(actions.last(), Some(Action::Set(_)));
+    (!ends_in_set && are_zero(unused)).then_some(actions)
 }
 
 /// One action: kind, value, care.
@@ -72,8 +77,37 @@ fn action(widths: Widths, bytes: &[u8]) -> Option<Action> {
         [1, value, care] => pattern(widths.port, value, care).map(Action::Output),
         [2, value, care] => pattern(widths.header, value, care).map(Action::Set),
         [3, 0, 0] => Some(Action::InPort),
+        [4, number, 0] if number <= HIGHEST_GROUP => Some(Action::Group(number)),
         _ => None,
     }
+}
+
+/// The fields of a group record; that its groups are there is left to the later rows.
+pub fn group(widths: Widths, record: &Record) -> Option<Group> {
+    let [_, switch, number, ..] = *record;
+    let within = usize::from(switch) < widths.switches() && number <= HIGHEST_GROUP;
+    let unnamed = are_zero(&record[3..8]) && are_zero(&record[21..]);
+    let count = usize::from(record[8]);
+    if !within || !unnamed || !(1..=3).contains(&count) {
+        return None;
+    }
+    let (used, unused) = record[9..21].split_at(4 * count);
+    let buckets =
+        used.chunks(4).map(|bytes| bucket(widths, bytes)).collect::<Option<Vec<Bucket>>>()?;
+    are_zero(unused).then_some(Group { switch, number, buckets })
+}
+
+/// One bucket: header value and care, target kind and number.
+fn bucket(widths: Widths, bytes: &[u8]) -> Option<Bucket> {
+    let [value, care, kind, number] = *bytes else {
+        return None;
+    };
+    let target = match kind {
+        1 if number < widths.ports() => Target::Port(number),
+        2 if number <= HIGHEST_GROUP => Target::Group(number),
+        _ => return None,
+    };
+    Some(Bucket { header: pattern(widths.header, value, care)?, target })
 }
 
 /// The policy number and the node of a policy record. Policy 8 is left to the later rows, and so is

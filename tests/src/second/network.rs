@@ -33,6 +33,8 @@ pub enum Action {
     Output(Pattern),
     Set(Pattern),
     InPort,
+    /// Runs the group of this number.
+    Group(u8),
 }
 
 /// What makes two rules the same rule.
@@ -48,6 +50,27 @@ pub struct Match {
 pub struct Rule {
     pub matching: Match,
     pub actions: Vec<Action>,
+}
+
+/// Where a bucket sends its copy.
+#[derive(Clone, Copy, Debug, PartialEq, Eq)]
+pub enum Target {
+    Port(u8),
+    Group(u8),
+}
+
+/// What is put into the header of a copy, and where it goes.
+#[derive(Clone, Copy, Debug, PartialEq, Eq)]
+pub struct Bucket {
+    pub header: Pattern,
+    pub target: Target,
+}
+
+#[derive(Clone, Debug, PartialEq, Eq)]
+pub struct Group {
+    pub switch: u8,
+    pub number: u8,
+    pub buckets: Vec<Bucket>,
 }
 
 /// A two-way link.
@@ -151,11 +174,20 @@ pub struct Network {
     pub misses: Vec<Vec<Action>>,
     pub rules: Vec<Rule>,
     pub policies: Vec<Policy>,
+    /// Ascending by switch and number.
+    pub groups: Vec<Group>,
 }
 
 impl Network {
     pub fn new(widths: Widths) -> Network {
-        Network { widths, links: vec![], misses: vec![], rules: vec![], policies: vec![] }
+        Network {
+            widths,
+            links: vec![],
+            misses: vec![],
+            rules: vec![],
+            policies: vec![],
+            groups: vec![],
+        }
     }
 
     /// The other end of the link at a point.
@@ -180,6 +212,14 @@ impl Network {
         self.rules.iter().position(|rule| rule.matching == matching)
     }
 
+    /// Whether a switch has each group that the actions run.
+    pub fn has_groups_of(&self, switch: u8, actions: &[Action]) -> bool {
+        let has = |number: u8| {
+            self.groups.iter().any(|group| (group.switch, group.number) == (switch, number))
+        };
+        groups_run(actions).all(has)
+    }
+
     /// The bytes of work that a verdict needs.
     pub fn work_needed(&self) -> usize {
         let longest = self.policies.iter().map(|policy| policy.nodes.len()).max();
@@ -199,8 +239,17 @@ impl Network {
                 records.push(node_record(number as u8, *node));
             }
         }
+        records.extend(self.groups.iter().map(group_record));
         records
     }
+}
+
+/// The numbers of the groups that actions run.
+pub fn groups_run(actions: &[Action]) -> impl Iterator<Item = u8> + '_ {
+    actions.iter().filter_map(|action| match action {
+        Action::Group(number) => Some(*number),
+        _ => None,
+    })
 }
 
 fn widths_record(widths: Widths) -> Record {
@@ -241,6 +290,25 @@ fn action_bytes(action: Action) -> [u8; 3] {
         Action::Output(Pattern { value, care }) => [1, value, care],
         Action::Set(Pattern { value, care }) => [2, value, care],
         Action::InPort => [3, 0, 0],
+        Action::Group(number) => [4, number, 0],
+    }
+}
+
+fn group_record(group: &Group) -> Record {
+    let mut written = record(9, &[group.switch, group.number]);
+    written[8] = group.buckets.len() as u8;
+    for (bucket, bytes) in group.buckets.iter().zip(written[9..21].chunks_mut(4)) {
+        bytes.copy_from_slice(&bucket_bytes(*bucket));
+    }
+    written
+}
+
+/// Header value and care, target kind and number.
+fn bucket_bytes(bucket: Bucket) -> [u8; 4] {
+    let Pattern { value, care } = bucket.header;
+    match bucket.target {
+        Target::Port(port) => [value, care, 1, port],
+        Target::Group(number) => [value, care, 2, number],
     }
 }
 

@@ -29,7 +29,7 @@ fn split(input: &[u8]) -> (&[u8], &[u8]) {
     input.split_at(end)
 }
 
-/// The lines for at most 641 whole network records and the commands behind them.
+/// The lines for at most 657 whole network records and the commands behind them.
 fn run(network: &[u8], commands: &[u8]) -> String {
     let mut store = [0; STORE];
     store[..network.len()].copy_from_slice(network);

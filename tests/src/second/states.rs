@@ -125,6 +125,13 @@ impl StateSet {
         self.words[state / 64] |= 1 << (state % 64);
     }
 
+    /// Takes in the members of another set.
+    pub fn extend(&mut self, other: &StateSet) {
+        for (mine, its) in self.words.iter_mut().zip(other.words) {
+            *mine |= its;
+        }
+    }
+
     pub fn contains(&self, state: usize) -> bool {
         self.words[state / 64] >> (state % 64) & 1 == 1
     }

@@ -1,5 +1,6 @@
 //! One step of a packet state.
 
+use super::groups::Tables;
 use super::network::{Action, Network, Pattern, Rule};
 use super::states::{Direction, Point, State, StateSet, DROP};
 use std::cmp::Reverse;
@@ -7,9 +8,10 @@ use std::cmp::Reverse;
 /// For each state number, the numbers of the states it steps to.
 pub fn all_steps(network: &Network) -> Vec<StateSet> {
     let widths = network.widths;
+    let groups = Tables::of(network);
     let steps_of = |number| {
         let mut set = StateSet::empty();
-        for state in steps(network, State::numbered(number, widths)) {
+        for state in steps(network, &groups, State::numbered(number, widths)) {
             set.insert(state.number(widths));
         }
         set
@@ -18,10 +20,10 @@ pub fn all_steps(network: &Network) -> Vec<StateSet> {
 }
 
 /// The states that a state steps to.
-fn steps(network: &Network, state: State) -> Vec<State> {
+fn steps(network: &Network, groups: &Tables, state: State) -> Vec<State> {
     match state.direction {
         Direction::Arriving if state.point.port == DROP => vec![],
-        Direction::Arriving => copies(network, state.point, state.header),
+        Direction::Arriving => copies(network, groups, state.point, state.header),
         Direction::Departing => {
             let end = network.other_end(state.point);
             end.map(|point| arrive(point, state.header)).into_iter().collect()
@@ -38,7 +40,7 @@ fn depart(point: Point, header: u8) -> State {
 }
 
 /// The copies sent by the actions that an arriving packet meets.
-fn copies(network: &Network, point: Point, header: u8) -> Vec<State> {
+fn copies(network: &Network, groups: &Tables, point: Point, header: u8) -> Vec<State> {
     let mut header = header;
     let mut copies = vec![];
     for action in actions_met(network, point, header) {
@@ -50,9 +52,21 @@ fn copies(network: &Network, point: Point, header: u8) -> Vec<State> {
                 }
             }
             Action::InPort => copies.push(depart(point, header)),
+            Action::Group(number) => {
+                let sent = groups.sent(point.switch, *number, header);
+                copies.extend(elsewhere(network, sent, point.port));
+            }
         }
     }
     copies
+}
+
+/// The states of a set but those at the port of arrival.
+fn elsewhere(network: &Network, sent: &StateSet, arrival: u8) -> Vec<State> {
+    let sent = sent.without(&StateSet::empty()).into_iter();
+    sent.map(|number| State::numbered(number, network.widths))
+        .filter(|state| state.point.port != arrival)
+        .collect()
 }
 
 /// The actions of the first rule of highest priority that matches, or of the miss record.

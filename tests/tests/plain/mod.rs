@@ -183,10 +183,30 @@ fn sends(
                 found |= header == sent && port & care == value && allowed;
             }
             2 => header = header - (header & care) + value,
-            _ => found |= header == sent && port == arrival,
+            3 => found |= header == sent && port == arrival,
+            _ => {
+                let copies = group_sends(records, record[1], action[1], header);
+                found |= port != arrival && copies.contains(&[port, sent]);
+            }
         }
     }
     found
+}
+
+/// The ports to which a group sends a frame with a header, each with the header of the copy.
+fn group_sends(records: &[Record], switch: u8, number: u8, header: usize) -> Vec<[usize; 2]> {
+    let group = records.iter().find(|record| record[..3] == [9, switch, number]);
+    let group = group.expect("a group that is run");
+    let mut copies = vec![];
+    for bucket in group[9..21].chunks(4).take(usize::from(group[8])) {
+        let (value, care) = (usize::from(bucket[0]), usize::from(bucket[1]));
+        let set = header - (header & care) + value;
+        match bucket[2] {
+            1 => copies.push([usize::from(bucket[3]), set]),
+            _ => copies.extend(group_sends(records, switch, bucket[3], set)),
+        }
+    }
+    copies
 }
 
 /// The records that a sound command leaves.
