@@ -1,9 +1,12 @@
-//! Random commands against a network: sound ones of each kind, and malformed ones of each kind.
+//! Random commands against a network: sound ones of each kind, malformed ones of each kind, and ones
+//! that run a group that is not there.
 
 use crate::gate::RECORD;
 use crate::networks::{random_actions, random_new_rule, random_rule, Widths};
 use crate::random::Random;
-use crate::records::{add, delete, modify, output, set, with, Action, Record, IN_PORT};
+use crate::records::{
+    add, delete, groups_at, modify, output, run, set, with, Action, Record, IN_PORT,
+};
 
 /// What a random command is to be.
 #[derive(Clone, Copy, Debug, PartialEq, Eq)]
@@ -14,6 +17,8 @@ pub enum Wish {
     ModifyAbsent,
     DeletePresent,
     DeleteAbsent,
+    /// Of any kind but delete; sound where a switch has every group.
+    RunsAbsentGroup,
     Malformed(Fault),
 }
 
@@ -35,6 +40,8 @@ pub enum Fault {
     ActionCare,
     InPortValue,
     InPortCare,
+    GroupValue,
+    GroupCare,
     LastSets,
     UnusedAction,
     UnnamedByte,
@@ -50,7 +57,7 @@ pub const SOUND: [Wish; 6] = [
     Wish::DeleteAbsent,
 ];
 
-pub const FAULTS: [Fault; 19] = [
+pub const FAULTS: [Fault; 21] = [
     Fault::Cut,
     Fault::Overlong,
     Fault::Kind,
@@ -66,17 +73,20 @@ pub const FAULTS: [Fault; 19] = [
     Fault::ActionCare,
     Fault::InPortValue,
     Fault::InPortCare,
+    Fault::GroupValue,
+    Fault::GroupCare,
     Fault::LastSets,
     Fault::UnusedAction,
     Fault::UnnamedByte,
     Fault::DeleteActions,
 ];
 
-/// A random command, one time in eight a malformed one.
+/// A random command, two times in sixteen a malformed one, once one without its group.
 pub fn random_command(random: &mut Random, records: &[Record]) -> Vec<u8> {
-    let wish = match random.one_in(8) {
-        true => Wish::Malformed(random.pick(&FAULTS)),
-        false => random.pick(&SOUND),
+    let wish = match random.below(16) {
+        0 | 1 => Wish::Malformed(random.pick(&FAULTS)),
+        2 => Wish::RunsAbsentGroup,
+        _ => random.pick(&SOUND),
     };
     command(random, records, wish)
 }
@@ -85,10 +95,10 @@ pub fn random_command(random: &mut Random, records: &[Record]) -> Vec<u8> {
 pub fn command(random: &mut Random, records: &[Record], wish: Wish) -> Vec<u8> {
     let of = Widths::of(&records[0]);
     let rules: Vec<Record> = records.iter().copied().filter(|r| r[0] == 4).collect();
-    let absent = random_new_rule(random, of, &rules);
+    let absent = random_new_rule(random, of, records);
     let present = match rules.is_empty() {
         true => absent,
-        false => random_same_rule(random, of, &rules),
+        false => random_same_rule(random, of, records, &rules),
     };
     match wish {
         Wish::AddNew => add(absent).to_vec(),
@@ -97,15 +107,41 @@ pub fn command(random: &mut Random, records: &[Record], wish: Wish) -> Vec<u8> {
         Wish::ModifyAbsent => modify(absent).to_vec(),
         Wish::DeletePresent => delete(present).to_vec(),
         Wish::DeleteAbsent => delete(absent).to_vec(),
-        Wish::Malformed(fault) => malformed(random, of, fault),
+        Wish::RunsAbsentGroup => {
+            let (rule, kind) = (random.pick(&[absent, present]), random.pick(&[add, modify]));
+            kind(running_absent_group(random, records, rule)).to_vec()
+        }
+        Wish::Malformed(fault) => malformed(random, of, records, fault),
     }
 }
 
 /// One of the rules with actions of its own.
-fn random_same_rule(random: &mut Random, of: Widths, rules: &[Record]) -> Record {
+fn random_same_rule(
+    random: &mut Random,
+    of: Widths,
+    records: &[Record],
+    rules: &[Record],
+) -> Record {
     let rule = random.pick(rules);
-    let actions = random_actions(random, of, [rule[4], rule[5]]);
+    let groups = groups_at(records, rule[1]);
+    let actions = random_actions(random, of, [rule[4], rule[5]], &groups);
     with_actions(rule, &actions)
+}
+
+/// The rule with a group in the place of an action that its switch has not, but perhaps another.
+fn running_absent_group(random: &mut Random, records: &[Record], rule: Record) -> Record {
+    let there = groups_at(records, rule[1]);
+    let elsewhere: Vec<u8> = (0..16).flat_map(|switch| groups_at(records, switch)).collect();
+    let any: Vec<u8> = (0..16).collect();
+    let mut absent = [elsewhere, any].concat();
+    absent.retain(|number| !there.contains(number));
+    if absent.is_empty() {
+        return rule;
+    }
+    let action = 9 + 3 * random.below(usize::from(rule[8]));
+    let mut running = rule;
+    running[action..action + 3].copy_from_slice(&run(random.pick(&absent)));
+    running
 }
 
 /// A rule with other actions.
@@ -118,8 +154,8 @@ fn with_actions(rule: Record, actions: &[Action]) -> Record {
 }
 
 /// A command that is sound but for one fault.
-fn malformed(random: &mut Random, of: Widths, fault: Fault) -> Vec<u8> {
-    let rule = random_rule(random, of);
+fn malformed(random: &mut Random, of: Widths, records: &[Record], fault: Fault) -> Vec<u8> {
+    let rule = random_rule(random, of, records);
     let any_kind = random.pick(&[add, modify, delete]);
     let add_or_modify = random.pick(&[add, modify]);
     let sound = any_kind(rule);
@@ -153,7 +189,7 @@ fn with_action_fault(random: &mut Random, of: Widths, rule: Record, fault: Fault
             faulty = with_actions(rule, &[output(0, 0); 4]);
             faulty[8] = 5 + random.below(251) as u8;
         }
-        Fault::ActionKind => faulty[action] = random.pick(&[0, 4, 5, 255]),
+        Fault::ActionKind => faulty[action] = random.pick(&[0, 5, 6, 255]),
         Fault::ActionValue => faulty = stray_value(random, patterned, action + 1, width),
         Fault::ActionCare => faulty = wide_care(random, patterned, action + 2, width),
         Fault::InPortValue => {
@@ -161,6 +197,14 @@ fn with_action_fault(random: &mut Random, of: Widths, rule: Record, fault: Fault
         }
         Fault::InPortCare => {
             faulty[action..action + 3].copy_from_slice(&[3, 0, nonzero(random)]);
+        }
+        Fault::GroupValue => {
+            let above = 16 + random.below(240) as u8;
+            faulty[action..action + 3].copy_from_slice(&run(above));
+        }
+        Fault::GroupCare => {
+            let runs = [4, random.bits(4), nonzero(random)];
+            faulty[action..action + 3].copy_from_slice(&runs);
         }
         Fault::LastSets => {
             let earlier = random.pick(&[output(0, 0), IN_PORT]);
@@ -177,10 +221,11 @@ fn with_action_fault(random: &mut Random, of: Widths, rule: Record, fault: Fault
 
 /// The rule, with OUTPUT in the place of an action that has no pattern.
 fn with_pattern(rule: Record, action: usize) -> Record {
-    match rule[action..action + 3] == IN_PORT {
-        true => with(rule, action, 1),
-        false => rule,
+    let mut patterned = rule;
+    if matches!(rule[action], 3 | 4) {
+        patterned[action..action + 3].copy_from_slice(&output(0, 0));
     }
+    patterned
 }
 
 /// The record with a value bit outside its care, which stands behind it.

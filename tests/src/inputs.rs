@@ -7,7 +7,7 @@ use crate::networks::{guarded_network, random_network, Sizes, Widths};
 use crate::random::Random;
 
 /// Sizes of networks for which the program's work suffices, up to N of 7.
-const SMALL: Sizes = Sizes { links: 4, rules: 6, policies: 2, nodes: 18 };
+const SMALL: Sizes = Sizes { links: 4, rules: 6, policies: 2, nodes: 18, groups: 4 };
 
 /// A network and some commands as one input, sometimes damaged, cut or strange.
 pub fn random_input(random: &mut Random) -> Vec<u8> {

@@ -5,8 +5,10 @@ use crate::formulas::{
 };
 use crate::random::Random;
 use crate::records::{
-    link, miss, output, rule, same_rule, set, widths, Action, Pattern, Record, ANY, IN_PORT,
+    group, groups_at, link, miss, output, rule, run, same_rule, set, to_group, to_port, widths,
+    Action, Bucket, Pattern, Record, ANY, IN_PORT,
 };
+use std::collections::BTreeSet;
 
 /// Header, port and switch widths.
 #[derive(Clone, Copy, Debug, PartialEq, Eq)]
@@ -66,20 +68,27 @@ pub struct Sizes {
     pub rules: usize,
     pub policies: usize,
     pub nodes: usize,
+    pub groups: usize,
 }
 
+/// The most groups of a network.
+pub const MOST_GROUPS: usize = 16;
+
 /// Sizes for networks that are judged quickly.
-pub const MODEST: Sizes = Sizes { links: 6, rules: 12, policies: 3, nodes: 20 };
+pub const MODEST: Sizes = Sizes { links: 6, rules: 12, policies: 3, nodes: 20, groups: 6 };
 
 /// A random network that no row refuses.
 pub fn random_network(random: &mut Random, of: Widths, most: Sizes) -> Vec<Record> {
     let links = random.up_to(most.links.min(most_links(of)));
     let rules = random.up_to(most.rules);
-    let mut records = without_policies(random, of, links, rules);
+    let groups = random.up_to(most.groups);
+    let groups = random_groups(random, of, groups);
+    let mut records = before_policies(random, of, links, rules, &groups);
     for number in 0..random.up_to(most.policies) {
         let formula = random_policy(random, of, most.nodes);
         records.extend(policy(number as u8, &formula));
     }
+    records.extend(groups);
     records
 }
 
@@ -90,43 +99,65 @@ pub fn guarded_network(random: &mut Random, of: Widths) -> Vec<Record> {
     let links = random.up_to(most_links(of) / 2);
     records.extend(random_links(random, of, links));
     let drop = [output(0, (1 << of.p) - 1)];
-    for missed in random_misses(random, of) {
+    let groups = random.pick(&[0, 0, 2, 4]);
+    let groups = random_groups(random, of, groups);
+    for missed in random_misses(random, of, &groups) {
         let dropping = miss(missed[1], &drop);
         records.push(random.pick(&[missed, dropping, dropping, dropping]));
     }
     let rules = random.up_to(4);
-    records.extend(random_rules(random, of, rules));
+    records.extend(random_rules(random, of, rules, &groups));
     for number in 0..1 + random.bits(1) {
         records.extend(policy(number, &random_guard(random, of.bits())));
     }
+    records.extend(groups);
     records
 }
 
-/// The largest network: every ordinary point linked, and the most rules, policies and nodes.
+/// The largest network: every ordinary point linked, and the most rules, policies, nodes and groups.
 pub fn largest(random: &mut Random) -> Vec<Record> {
-    let mut records = largest_without_policies(random);
-    records.extend(most_policies(random, 10));
+    let policies = most_policies(random, 10);
+    largest_with(random, &policies)
+}
+
+/// The 657 records of a largest network with these policies.
+pub fn largest_with(random: &mut Random, policies: &[Record]) -> Vec<Record> {
+    let groups = random_groups(random, LARGEST, MOST_GROUPS);
+    let mut records = before_policies(random, LARGEST, 112, 256, &groups);
+    records.extend(policies);
+    records.extend(groups);
     records
 }
 
-/// The 385 records of a largest network before its policies.
+/// The 385 records of a largest network before its policies, if it has no group.
 pub fn largest_without_policies(random: &mut Random) -> Vec<Record> {
-    without_policies(random, Widths { h: 1, p: 4, w: 4 }, 112, 256)
+    before_policies(random, LARGEST, 112, 256, &[])
 }
 
-/// A network of any widths with the most rules, policies and nodes.
+/// The widths of a largest network.
+const LARGEST: Widths = Widths { h: 1, p: 4, w: 4 };
+
+/// A network of any widths with the most rules, policies, nodes and groups.
 pub fn crowded(random: &mut Random, of: Widths) -> Vec<Record> {
-    let mut records = without_policies(random, of, 0, 256);
+    let groups = random_groups(random, of, MOST_GROUPS);
+    let mut records = before_policies(random, of, 0, 256, &groups);
     records.extend(most_policies(random, of.bits()));
+    records.extend(groups);
     records
 }
 
-/// A random network with so many links and rules and no policy.
-fn without_policies(random: &mut Random, of: Widths, links: usize, rules: usize) -> Vec<Record> {
+/// The records before the policies of a random network with so many links and rules.
+fn before_policies(
+    random: &mut Random,
+    of: Widths,
+    links: usize,
+    rules: usize,
+    groups: &[Record],
+) -> Vec<Record> {
     let mut records = vec![widths(of.h, of.p, of.w)];
     records.extend(random_links(random, of, links));
-    records.extend(random_misses(random, of));
-    records.extend(random_rules(random, of, rules));
+    records.extend(random_misses(random, of, groups));
+    records.extend(random_rules(random, of, rules, groups));
     records
 }
 
@@ -153,39 +184,80 @@ fn random_links(random: &mut Random, of: Widths, count: usize) -> Vec<Record> {
     pairs.map(|pair| link(pair[0].0, pair[0].1, pair[1].0, pair[1].1)).collect()
 }
 
-fn random_misses(random: &mut Random, of: Widths) -> Vec<Record> {
-    (0..1 << of.w).map(|switch| miss(switch, &random_actions(random, of, ANY))).collect()
+fn random_misses(random: &mut Random, of: Widths, groups: &[Record]) -> Vec<Record> {
+    let missed = |switch: u8| {
+        let groups = groups_at(groups, switch);
+        miss(switch, &random_actions(random, of, ANY, &groups))
+    };
+    (0..1 << of.w).map(missed).collect()
 }
 
-fn random_rules(random: &mut Random, of: Widths, count: usize) -> Vec<Record> {
-    let mut rules: Vec<Record> = vec![];
-    while rules.len() < count {
-        rules.push(random_new_rule(random, of, &rules));
+fn random_rules(random: &mut Random, of: Widths, count: usize, groups: &[Record]) -> Vec<Record> {
+    let mut records = groups.to_vec();
+    for _ in 0..count {
+        records.push(random_new_rule(random, of, &records));
     }
-    rules
+    records.split_off(groups.len())
 }
 
-/// A rule that is not the same as any of the records.
+/// A rule that is not the same as any of the records, and runs groups of theirs only.
 pub fn random_new_rule(random: &mut Random, of: Widths, records: &[Record]) -> Record {
     loop {
-        let rule = random_rule(random, of);
-        if !records.iter().any(|other| same_rule(&rule, other)) {
+        let rule = random_rule(random, of, records);
+        if !records.iter().any(|other| other[0] == 4 && same_rule(&rule, other)) {
             return rule;
         }
     }
 }
 
-pub fn random_rule(random: &mut Random, of: Widths) -> Record {
+/// A rule that runs groups of the records only.
+pub fn random_rule(random: &mut Random, of: Widths, records: &[Record]) -> Record {
     let any = random.word() as u16;
     let priority = random.pick(&[0, 1, 1, 2, 0x00FF, 0x0100, 0xFFFF, any]);
     let port = random_pattern(random, of.p);
-    rule(
-        random.bits(of.w),
-        priority,
-        port,
-        random_pattern(random, of.h),
-        &random_actions(random, of, port),
-    )
+    let switch = random.bits(of.w);
+    let header = random_pattern(random, of.h);
+    let groups = groups_at(records, switch);
+    rule(switch, priority, port, header, &random_actions(random, of, port, &groups))
+}
+
+/// So many groups, at one switch or at any.
+fn random_groups(random: &mut Random, of: Widths, count: usize) -> Vec<Record> {
+    let one = random.bits(of.w);
+    let mut names: BTreeSet<(u8, u8)> = BTreeSet::new();
+    while names.len() < count {
+        let any = random.bits(of.w);
+        names.insert((random.pick(&[one, one, any]), random.bits(4)));
+    }
+    let mut groups = vec![];
+    for (switch, number) in names {
+        groups.push(random_group(random, of, switch, number, &groups));
+    }
+    groups
+}
+
+/// A group whose buckets may go on to lower ones of its switch among these.
+pub fn random_group(
+    random: &mut Random,
+    of: Widths,
+    switch: u8,
+    number: u8,
+    others: &[Record],
+) -> Record {
+    let mut lower = groups_at(others, switch);
+    lower.retain(|other| *other < number);
+    let buckets: Vec<Bucket> =
+        (0..1 + random.below(3)).map(|_| random_bucket(random, of, &lower)).collect();
+    group(switch, number, &buckets)
+}
+
+/// A bucket to any port or on to one of these groups.
+fn random_bucket(random: &mut Random, of: Widths, groups: &[u8]) -> Bucket {
+    let header = random_pattern(random, of.h);
+    match groups.is_empty() || random.one_in(2) {
+        true => to_port(header, random.bits(of.p)),
+        false => to_group(header, random.pick(groups)),
+    }
 }
 
 /// A pattern with random stars, now and then with none or with stars only.
@@ -196,22 +268,31 @@ fn random_pattern(random: &mut Random, width: u8) -> Pattern {
     [random.bits(width) & care, care]
 }
 
-/// One to four actions for what arrives at ports of a pattern, the last not SET.
-pub fn random_actions(random: &mut Random, of: Widths, arrival: Pattern) -> Vec<Action> {
+/// One to four actions for what arrives at ports of a pattern, the last not SET; some run one of these
+/// groups.
+pub fn random_actions(
+    random: &mut Random,
+    of: Widths,
+    arrival: Pattern,
+    groups: &[u8],
+) -> Vec<Action> {
     let earlier = random.pick(&[0, 0, 1, 2, 2, 3]);
     let mut actions: Vec<Action> = vec![];
     for _ in 0..earlier {
         actions.push(match random.one_in(2) {
-            true => random_sending(random, of, arrival),
+            true => random_sending(random, of, arrival, groups),
             false => random_set(random, of),
         });
     }
-    actions.push(random_sending(random, of, arrival));
+    actions.push(random_sending(random, of, arrival, groups));
     actions
 }
 
-/// IN_PORT, or OUTPUT by any pattern, by that of the arrival ports or to one of them.
-fn random_sending(random: &mut Random, of: Widths, arrival: Pattern) -> Action {
+/// A group, IN_PORT, or OUTPUT by any pattern, by that of the arrival ports or to one of them.
+fn random_sending(random: &mut Random, of: Widths, arrival: Pattern, groups: &[u8]) -> Action {
+    if !groups.is_empty() && random.one_in(3) {
+        return run(random.pick(groups));
+    }
     let any = random_pattern(random, of.p);
     let [value, care] = arrival;
     let one = [value | random.bits(of.p) & !care, (1 << of.p) - 1];

@@ -7,6 +7,8 @@ pub type Record = [u8; RECORD];
 pub type Action = [u8; 3];
 /// Value and care.
 pub type Pattern = [u8; 2];
+/// Header value and care, kind and number of the target.
+pub type Bucket = [u8; 4];
 
 /// The pattern that fixes nothing.
 pub const ANY: Pattern = [0, 0];
@@ -63,6 +65,33 @@ pub fn output(value: u8, care: u8) -> Action {
 
 pub fn set(value: u8, care: u8) -> Action {
     [2, value, care]
+}
+
+/// The action that runs a group.
+pub fn run(group: u8) -> Action {
+    [4, group, 0]
+}
+
+pub fn group(switch: u8, number: u8, buckets: &[Bucket]) -> Record {
+    let mut group = record(&[9, switch, number]);
+    group[8] = buckets.len() as u8;
+    group[9..9 + 4 * buckets.len()].copy_from_slice(&buckets.concat());
+    group
+}
+
+/// The bucket that sends to a port.
+pub fn to_port([value, care]: Pattern, port: u8) -> Bucket {
+    [value, care, 1, port]
+}
+
+/// The bucket that goes on to a group.
+pub fn to_group([value, care]: Pattern, group: u8) -> Bucket {
+    [value, care, 2, group]
+}
+
+/// The numbers of a switch's groups among some records.
+pub fn groups_at(records: &[Record], switch: u8) -> Vec<u8> {
+    records.iter().filter(|record| record[..2] == [9, switch]).map(|record| record[2]).collect()
 }
 
 /// The command that adds a rule.

@@ -8,8 +8,8 @@ use crate::formulas::{policy, random_formula};
 use crate::gate::{Checked, Commanded, Gate, Lent, Program, Routed, MOST_RECORDS, RECORD, STORE};
 use crate::inputs::random_input;
 use crate::networks::{
-    all_widths, crowded, guarded_network, largest, random_network, random_rule, work_needed, Sizes,
-    Widths, MODEST,
+    all_widths, crowded, guarded_network, largest, random_group, random_network, random_rule,
+    work_needed, Sizes, Widths, MODEST, MOST_GROUPS,
 };
 use crate::random::Random;
 use crate::records::Record;
@@ -26,7 +26,7 @@ pub struct Tally {
     /// States of the longest route.
     pub longest: usize,
     /// By number, from 1.
-    pub refused: [usize; 16],
+    pub refused: [usize; 17],
 }
 
 impl Tally {
@@ -187,7 +187,8 @@ pub fn damaged_networks(
     Ok(tally)
 }
 
-/// Commands on networks with the most rules, policies and nodes, and checks with one record more.
+/// Commands on networks with the most rules, policies, nodes and groups, and checks with one record
+/// more.
 pub fn crowded_networks(
     one: &dyn Gate,
     other: &dyn Gate,
@@ -205,17 +206,32 @@ pub fn crowded_networks(
         let lent = lend(&mut random, &records, work);
         let given = random_command(&mut random, &records);
         tally.commanded(same_command(one, other, &lent, &given)?.0);
-        let rules_end = records.len() - 8 * 32;
-        if random.one_in(2) {
-            records.insert(rules_end, random_rule(&mut random, of));
-        } else {
-            let number = 6 + random.below(3) as u8;
-            records.extend(policy(number, &random_formula(&mut random, of.bits(), 1)));
-        }
+        insert_one_more(&mut random, of, &mut records);
         let lent = lend(&mut random, &records, work);
         tally.checked(same_check(one, other, &lent)?);
     }
     Ok(tally)
+}
+
+/// Puts a rule, a policy or a group behind the last one of a crowded network.
+fn insert_one_more(random: &mut Random, of: Widths, records: &mut Vec<Record>) {
+    let policies_end = records.len() - MOST_GROUPS;
+    match random.below(3) {
+        0 => {
+            let rules_end = policies_end - 8 * 32;
+            records.insert(rules_end, random_rule(random, of, records));
+        }
+        1 => {
+            let number = 6 + random.below(3) as u8;
+            let formula = random_formula(random, of.bits(), 1);
+            records.splice(policies_end..policies_end, policy(number, &formula));
+        }
+        _ => {
+            let last = records[records.len() - 1];
+            let number = random.pick(&[last[2], last[2] + 1]);
+            records.push(random_group(random, of, last[1], number, records));
+        }
+    }
 }
 
 /// Series of so many commands, each on the store and count that the ones before left. The first gate
