@@ -108,6 +108,17 @@ fn steps() {
 }
 
 #[test]
+fn row_16() {
+    run_checks(cases::groups::cases());
+    run_commands(cases::groups::commands());
+}
+
+#[test]
+fn steps_through_groups() {
+    run_checks(cases::group_steps::cases());
+}
+
+#[test]
 fn truths() {
     run_checks(cases::truths::cases());
 }
@@ -188,7 +199,7 @@ fn patterns_match_as_often_as_they_must() {
 
 #[test]
 fn every_row_has_cases() {
-    let mut numbers = [0; 16];
+    let mut numbers = [0; 17];
     for case in cases::all_checks() {
         if let Checked::Refused { number, .. } = case.answer {
             numbers[number] += 1;
@@ -322,7 +333,7 @@ fn play(lent: &mut Lent, given: &[u8]) -> bool {
 #[test]
 fn routes_are_the_best_of_all_paths() {
     let mut random = Random::new(18);
-    let few = Sizes { links: 2, rules: 8, policies: 1, nodes: 3 };
+    let few = Sizes { links: 2, rules: 8, policies: 1, nodes: 3, groups: 4 };
     let (mut found, mut longest, mut none) = (0, 0, 0);
     for of in compare::widths_up_to(5).into_iter().cycle().take(80) {
         let records = random_network(&mut random, of, few);
@@ -380,6 +391,24 @@ fn malformed_commands_are_refused() {
     }
 }
 
+/// Whether or not the table is full, and whether or not the rule is there.
+#[test]
+fn commands_without_their_group_are_refused() {
+    let mut random = Random::new(20);
+    for of in all_widths() {
+        let full = Sizes { rules: 256, policies: 0, ..MODEST };
+        for sizes in [full, MODEST] {
+            let records = random_network(&mut random, of, sizes);
+            let lent = lend(&mut random, &records);
+            let given = command(&mut random, &records, Wish::RunsAbsentGroup);
+            let mut left = lent.clone();
+            let answer = Second.command(&mut left.store, left.n, &mut left.work, &given);
+            assert_eq!(answer, Commanded::Refused { number: 16, place: 0 }, "{given:?}");
+            assert!(left == lent, "{given:?}");
+        }
+    }
+}
+
 #[test]
 fn wishes_are_met() {
     let mut random = Random::new(14);
@@ -396,7 +425,7 @@ fn wishes_are_met() {
             Wish::ModifyAbsent => (7, false),
             Wish::DeletePresent => (8, true),
             Wish::DeleteAbsent => (8, false),
-            Wish::Malformed(_) => unreachable!("not a sound wish"),
+            Wish::RunsAbsentGroup | Wish::Malformed(_) => unreachable!("not a sound wish"),
         };
         assert_eq!(given[0], kind, "{wish:?}");
         assert_eq!(records.iter().any(is_same), present, "{wish:?}");
@@ -427,12 +456,13 @@ fn every_action_is_generated() {
     let mut random = Random::new(19);
     let mut met = BTreeSet::new();
     for of in all_widths() {
-        for record in random_network(&mut random, of, MODEST) {
+        let records = random_network(&mut random, of, MODEST);
+        for record in records.into_iter().filter(|record| matches!(record[0], 3 | 4)) {
             let used = record[9..21].chunks(3).take(usize::from(record[8]));
             met.extend(used.rev().enumerate().map(|(place, action)| (action[0], place == 0)));
         }
     }
-    let all = [(1, false), (1, true), (2, false), (3, false), (3, true)];
+    let all = [(1, false), (1, true), (2, false), (3, false), (3, true), (4, false), (4, true)];
     assert_eq!(met, BTreeSet::from(all));
 }
 
@@ -442,14 +472,15 @@ fn the_largest_network_is_sound() {
     let records = largest(&mut random);
     let mut lent = lend(&mut random, &records);
     let count = |kind: u8| records.iter().filter(|record| record[0] == kind).count();
-    assert_eq!([1, 2, 3, 4, 5].map(count), [1, 112, 16, 256, 256]);
+    assert_eq!([1, 2, 3, 4, 5, 9].map(count), [1, 112, 16, 256, 256, 16]);
     assert_eq!((lent.n, lent.work.len()), (MOST_RECORDS, 4_456_448));
     let answer = Second.check(&lent.store, lent.n, &mut lent.work);
     assert!(!matches!(answer, Checked::Refused { .. }), "{answer:?}");
 }
 
 /// A refusal stands at a damaged record or behind it, or one before it, whose node has become the
-/// last one; and nothing behind the record after it matters.
+/// last one, or where a group is run that is there no more; and nothing behind the record after it
+/// matters but which groups there are.
 #[test]
 fn damage_is_refused_where_it_is() {
     let mut random = Random::new(17);
@@ -464,13 +495,14 @@ fn damage_is_refused_where_it_is() {
             continue;
         };
         refused += 1;
-        assert!((3..=11).contains(&number), "{number}");
-        assert!(number == 11 || place + 1 >= first, "{place} before {first}");
+        assert!((3..=11).contains(&number) || number == 16, "{number}");
+        assert!(matches!(number, 11 | 16) || place + 1 >= first, "{place} before {first}");
         let mut other = lent.clone();
-        for record in other.store.chunks_mut(24).skip(place + 2) {
-            record.fill(0xEE);
+        for record in other.store.chunks_exact_mut(24).skip(place + 2) {
+            let named = if record[0] == 9 { 3 } else { 0 };
+            record[named..].fill(0xEE);
         }
-        if number < 11 && place < lent.n {
+        if number != 11 && place < lent.n {
             assert_eq!(Second.check(&other.store, other.n, &mut other.work), answer);
         }
     }
@@ -546,7 +578,7 @@ fn comparisons_against(gate: &dyn Gate) -> Result<(), String> {
     Ok(())
 }
 
-const SMALL: Sizes = Sizes { links: 4, rules: 4, policies: 1, nodes: 4 };
+const SMALL: Sizes = Sizes { links: 4, rules: 4, policies: 1, nodes: 4, groups: 4 };
 
 #[test]
 fn comparisons_notice_every_vice_but_a_full_table() {
@@ -589,16 +621,16 @@ fn comparisons_notice_every_vice_of_steps() {
 fn comparisons_meet_every_answer() {
     let of_series: Tally = compare::series(&Second, &Second, 24, 60, 5, 16).unwrap();
     assert!(of_series.forwarded > 100 && of_series.blocked > 50, "{of_series:?}");
-    assert!(of_series.refused[12] > 50, "{of_series:?}");
+    assert!(of_series.refused[12] > 50 && of_series.refused[16] > 20, "{of_series:?}");
     let of_damage = compare::damaged_networks(&Second, &Second, 25, 1_500, 6).unwrap();
     assert!(of_damage.holds > 50 && of_damage.violated > 50, "{of_damage:?}");
     assert!(of_damage.forwarded > 50 && of_damage.blocked > 50, "{of_damage:?}");
     assert!(of_damage.found > 50 && of_damage.no_route > 50, "{of_damage:?}");
-    for number in [3, 4, 5, 6, 7, 8, 9, 12, 14, 15] {
+    for number in [3, 4, 5, 6, 7, 8, 9, 12, 14, 15, 16] {
         assert!(of_damage.refused[number] > 0, "{number}: {of_damage:?}");
     }
     let of_crowd = compare::crowded_networks(&Second, &Second, 29, 60, 5).unwrap();
-    for number in [8, 9, 10, 12, 13] {
+    for number in [8, 9, 10, 12, 13, 16] {
         assert!(of_crowd.refused[number] > 0, "{number}: {of_crowd:?}");
     }
     let of_sound = compare::sound_networks(&Second, &Second, 26, 2, SMALL).unwrap();
@@ -621,6 +653,7 @@ fn random_inputs_meet_every_line() {
         " forwarded ",
         " blocked ",
         " refused 12 0",
+        " refused 16 0",
         "end short",
     ] {
         assert!(printed.contains(words), "{words}");

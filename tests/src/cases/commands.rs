@@ -247,13 +247,13 @@ fn largest() -> Vec<CommandCase> {
         forwarded(name, before, given, after, LARGEST_WORK)
     };
     let again = [&fewer[..384], &[first], &fewer[384..]].concat();
-    let mut full = refused("641 records, new rule", &records, &add(new_to(&records)), 13);
+    let mut full = refused("657 records, new rule", &records, &add(new_to(&records)), 13);
     full.lent.work = vec![0xC3; LARGEST_WORK];
     vec![
-        case("641 records, delete", &records, delete(first), &fewer),
-        case("641 records, replacing add", &records, add(other), &changed),
-        case("641 records, modify", &records, modify(other), &changed),
-        case("640 records, add", &fewer, add(first), &again),
+        case("657 records, delete", &records, delete(first), &fewer),
+        case("657 records, replacing add", &records, add(other), &changed),
+        case("657 records, modify", &records, modify(other), &changed),
+        case("656 records, add", &fewer, add(first), &again),
         full,
     ]
 }

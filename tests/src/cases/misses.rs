@@ -3,7 +3,9 @@
 use super::{holds, refused, CheckCase};
 use crate::formulas::{bit, not, policy, Node, X, Y};
 use crate::networks::planes;
-use crate::records::{link, miss as miss_with, output, record, rule, widths, Record, ANY};
+use crate::records::{
+    group, link, miss as miss_with, output, record, rule, to_port, widths, Record, ANY,
+};
 
 pub fn cases() -> Vec<CheckCase> {
     [orders(), ends(), higher_kinds()].concat()
@@ -51,11 +53,12 @@ fn ends() -> Vec<CheckCase> {
 }
 
 /// Incomplete misses seen at the first record of a higher kind, place 2. Rows 3 and 5 of that record
-/// come first, rows 8 to 10 later.
+/// come first, rows 8 to 10 and 16 later.
 fn higher_kinds() -> Vec<CheckCase> {
     let sound = rule(0, 1, ANY, ANY, &[output(0, 0)]);
     let wide = rule(2, 1, ANY, ANY, &[output(0, 0)]);
     let node = |number: u8, node: Node| policy(number, &[node])[0];
+    let group = group(0, 0, &[to_port(ANY, 1)]);
     vec![
         behind_one_miss("rule", sound, 7),
         behind_one_miss("rule with a field fault", wide, 5),
@@ -66,11 +69,14 @@ fn higher_kinds() -> Vec<CheckCase> {
         behind_one_miss("node of policy 9", node(9, bit(X, 0)), 5),
         behind_one_miss("operand not earlier", node(0, not(0)), 7),
         behind_one_miss("Y free", node(0, bit(Y, 0)), 7),
+        behind_one_miss("group", group, 7),
+        behind_one_miss("group with a field fault", [9; 24], 7),
         behind_one_miss("record of kind 6", record(&[6]), 3),
         behind_one_miss("record of kind 2", record(&[2]), 3),
         refused("no miss, a rule", &[widths(1, 2, 0), sound], 7, 1),
         refused("no miss, two rules", &[widths(1, 2, 0), sound, sound], 7, 1),
         refused("no miss, a node", &[widths(1, 2, 0), node(0, bit(X, 0))], 7, 1),
+        refused("no miss, a group", &[widths(1, 2, 0), group], 7, 1),
     ]
 }
 

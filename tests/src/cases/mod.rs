@@ -3,6 +3,8 @@
 pub mod arguments;
 pub mod commands;
 pub mod fields;
+pub mod group_steps;
+pub mod groups;
 pub mod kinds;
 pub mod links;
 pub mod misses;
@@ -204,6 +206,8 @@ pub fn all_checks() -> Vec<CheckCase> {
         policies::cases(),
         work::cases(),
         steps::cases(),
+        groups::cases(),
+        group_steps::cases(),
         truths::cases(),
     ]
     .concat()
@@ -211,7 +215,7 @@ pub fn all_checks() -> Vec<CheckCase> {
 
 /// Every command case.
 pub fn all_commands() -> Vec<CommandCase> {
-    [starred::commands(), commands::cases()].concat()
+    [starred::commands(), commands::cases(), groups::commands()].concat()
 }
 
 /// K's records before its policy: nothing is forbidden, so it holds.

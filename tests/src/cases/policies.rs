@@ -4,7 +4,7 @@ use super::{bare, holds, refused, violated, CheckCase};
 use crate::formulas::{all, and, bit, not, or, policy, r, some, tc, Node, X, Y};
 use crate::k::{k, k_set};
 use crate::networks::planes;
-use crate::records::{record, with, Record};
+use crate::records::{group, record, to_port, with, Record, ANY};
 
 pub fn cases() -> Vec<CheckCase> {
     [operands(), numbers(), free_variables(), last_nodes(), policy_counts(), node_counts()].concat()
@@ -146,6 +146,7 @@ fn last_nodes() -> Vec<CheckCase> {
         refused("K[0:18] and kind 6", &k18_and(record(&[6])), 9, 17),
         refused("K[0:18] and kind 4", &k18_and(k()[4]), 9, 17),
         refused("K[0:18] and kind 0", &k18_and([0; 24]), 9, 17),
+        refused("K[0:18] and a group", &k18_and(group(0, 0, &[to_port(ANY, 1)])), 9, 17),
         refused("K[0:18] and policy 1", &k18_and(with(sound, 1, 1)), 9, 17),
         refused("K[0:18] and policy 9", &k18_and(with(sound, 1, 9)), 9, 17),
         refused("K[0:18] and a node of kind 9", &k18_and(with(sound, 2, 9)), 5, 18),

@@ -45,7 +45,8 @@ fn starts() -> Vec<ProgramCase> {
         case("broken network", &input(&broken(), &[]), &["start violated 0 3"]),
         case("broken, commands", &input(&broken(), &commands), &["start violated 0 3"]),
         case("kind 0 first", &input(&[[0; 24]], &commands), &["start refused 3 0"]),
-        case("kind 9 behind K", &input(&k(), &[record(&[9])]), &["start refused 3 20"]),
+        case("kind 9 behind K", &input(&k(), &[record(&[9])]), &["start refused 16 20"]),
+        case("kind 10 behind K", &input(&k(), &[record(&[10])]), &["start refused 3 20"]),
         case("kind 0 behind K", &input(&k(), &[[0; 24], first_add()]), &["start refused 3 20"]),
         case("K[0:18], command", &input(&k()[..18], &commands), &["start refused 9 17"]),
         case("K[0:3], command", &input(&k()[..3], &commands), &["start refused 7 3"]),
@@ -182,7 +183,7 @@ fn cuts() -> Vec<ProgramCase> {
     cases
 }
 
-/// 641 and 642 network records. The largest network needs more work than the program has.
+/// 657 and 658 network records. The largest network needs more work than the program has.
 fn counts() -> Vec<ProgramCase> {
     let largest = largest_holding();
     let more = |record: Record, tail: &[u8]| [&largest.concat()[..], &record, tail].concat();
@@ -190,16 +191,16 @@ fn counts() -> Vec<ProgramCase> {
     let zeros = |count: usize| vec![0; 24 * count];
     let (too_many, too_large) = (["start refused 1 0"], ["start refused 11 0"]);
     vec![
-        case("641 records", &with_tail(&[]), &too_large),
-        case("641 records, a command", &with_tail(&first_add()), &too_large),
-        case("641 records, byte 06", &with_tail(&[6]), &too_large),
-        case("641 records, byte 05", &with_tail(&[5]), &["end short"]),
-        case("642 records", &more(largest[640], &[]), &too_many),
-        case("642 records, byte 05", &more(largest[640], &[5]), &too_many),
-        case("642 records, byte 06", &more(largest[640], &[6]), &too_many),
-        case("642 records, a command", &more(largest[640], &first_add()), &too_many),
-        case("641 records of zeros", &zeros(641), &["start refused 3 0"]),
-        case("642 records of zeros", &zeros(642), &too_many),
+        case("657 records", &with_tail(&[]), &too_large),
+        case("657 records, a command", &with_tail(&first_add()), &too_large),
+        case("657 records, byte 06", &with_tail(&[6]), &too_large),
+        case("657 records, byte 09", &with_tail(&[9]), &["end short"]),
+        case("658 records", &more(largest[656], &[]), &too_many),
+        case("658 records, byte 09", &more(largest[656], &[9]), &too_many),
+        case("658 records, byte 06", &more(largest[656], &[6]), &too_many),
+        case("658 records, a command", &more(largest[656], &first_add()), &too_many),
+        case("657 records of zeros", &zeros(657), &["start refused 3 0"]),
+        case("658 records of zeros", &zeros(658), &too_many),
         case("1000 records of zeros", &zeros(1_000), &too_many),
     ]
 }

@@ -6,20 +6,21 @@ use crate::networks::planes;
 use crate::records::{link, miss, output, rule, set, widths, Action, Record, ANY, IN_PORT};
 
 /// A state and the states it steps to.
-type Steps = (usize, &'static [usize]);
+pub type Steps = (usize, &'static [usize]);
 
 pub fn cases() -> Vec<CheckCase> {
     [outputs(), returns(), headers(), priorities(), links()].concat()
 }
 
 /// One case for each two states: a policy that forbids just the step from one to the other.
-fn table(name: &str, records: &[Record], bits: u8, steps: &[Steps]) -> Vec<CheckCase> {
+pub fn table(name: &str, records: &[Record], bits: u8, steps: &[Steps]) -> Vec<CheckCase> {
+    let groups = records.iter().position(|record| record[0] == 9).unwrap_or(records.len());
     let mut cases = vec![];
     for from in 0..1 << bits {
         let listed = steps.iter().find(|(state, _)| *state == from);
         for to in 0..1 << bits {
             let formula = leads(from, to, &[r(X, Y)], bits);
-            let records = [records, &policy(0, &formula)].concat();
+            let records = [&records[..groups], &policy(0, &formula), &records[groups..]].concat();
             let zeroed = planes(formula.len() + 2, bits);
             let is_step = listed.is_some_and(|(_, ends)| ends.contains(&to));
             cases.push(match is_step {
@@ -42,10 +43,10 @@ fn missed(name: &str, actions: &[Action], steps: &[Steps]) -> Vec<CheckCase> {
 }
 
 /// The states that header 0 and header 1 step to.
-type ByHeader = [&'static [usize]; 2];
+pub type ByHeader = [&'static [usize]; 2];
 
 /// The steps from ports 1, 2 and 3; port 0 has none.
-fn from_ports(ports: [ByHeader; 3]) -> Vec<Steps> {
+pub fn from_ports(ports: [ByHeader; 3]) -> Vec<Steps> {
     let from = |(place, [header_0, header_1]): (usize, ByHeader)| {
         let port = place + 1;
         [(2 * port, header_0), (2 * port + 1, header_1)]
@@ -53,12 +54,12 @@ fn from_ports(ports: [ByHeader; 3]) -> Vec<Steps> {
     ports.into_iter().enumerate().flat_map(from).collect()
 }
 
-const NOWHERE: ByHeader = [&[], &[]];
-const TO_DROP: ByHeader = [&[8], &[9]];
-const TO_1: ByHeader = [&[10], &[11]];
-const TO_2: ByHeader = [&[12], &[13]];
-const TO_1_AND_2: ByHeader = [&[10, 12], &[11, 13]];
-const TO_CONTROLLER: ByHeader = [&[14], &[15]];
+pub const NOWHERE: ByHeader = [&[], &[]];
+pub const TO_DROP: ByHeader = [&[8], &[9]];
+pub const TO_1: ByHeader = [&[10], &[11]];
+pub const TO_2: ByHeader = [&[12], &[13]];
+pub const TO_1_AND_2: ByHeader = [&[10, 12], &[11, 13]];
+pub const TO_CONTROLLER: ByHeader = [&[14], &[15]];
 
 /// Where OUTPUT goes: never to the arrival port, even if that is the only one.
 fn outputs() -> Vec<CheckCase> {
