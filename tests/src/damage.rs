@@ -7,7 +7,7 @@ use crate::records::Record;
 
 /// Damages the records in one way, and tells the first record that is another one now.
 pub fn damage(random: &mut Random, records: &mut Vec<Record>) -> usize {
-    match random.below(10) {
+    match random.below(11) {
         0 => set_byte(random, records),
         1 => flip_bit(random, records),
         2 => put_action(random, records),
@@ -17,6 +17,7 @@ pub fn damage(random: &mut Random, records: &mut Vec<Record>) -> usize {
         6 => set_group_byte(random, records),
         7 => remove_group(random, records),
         8 => add_group(random, records),
+        9 => redirect_bucket(random, records),
         _ => duplicate(random, records),
     }
 }
@@ -69,6 +70,19 @@ fn set_group_byte(random: &mut Random, records: &mut [Record]) -> usize {
     let byte = random.pick(&[1, 2, 8, any, of_bucket, target]);
     let (small, next, any) = (random.bits(5), records[place][byte] ^ 1, random.byte());
     records[place][byte] = random.pick(&[small, next, any]);
+    place
+}
+
+/// Sends a bucket on to its own group or to any of the groups, if there is one.
+fn redirect_bucket(random: &mut Random, records: &mut [Record]) -> usize {
+    let place = random_place(random, records, &[9]);
+    let target = records[random_place(random, records, &[9])][2];
+    let group = &mut records[place];
+    if group[0] == 9 {
+        let target = random.pick(&[group[2], target]);
+        let first = 11 + 4 * random.below(usize::from(group[8]));
+        group[first..first + 2].copy_from_slice(&[2, target]);
+    }
     place
 }
 

@@ -20,6 +20,8 @@ use wegbaro_tests::random::Random;
 use wegbaro_tests::records::{add, delete, link, miss, output, rule, set, widths, Record, ANY};
 use wegbaro_tests::second::{program, Second};
 use wegbaro_tests::winding::{longest, looping, winding};
+use worthless::buckets::{Spilling, BUCKET_VICES};
+use worthless::groups::{GroupVice, Lax, GROUP_VICES};
 use worthless::routes::{Astray, ROUTE_VICES};
 use worthless::steps::{Misled, StepVice, STEP_VICES};
 use worthless::{Vice, Worthless, VICES};
@@ -543,6 +545,28 @@ fn cases_notice_every_vice_of_steps() {
     }
 }
 
+#[test]
+fn cases_notice_every_vice_of_groups() {
+    let checks = cases::groups::cases();
+    let commands = cases::groups::commands();
+    for vice in GROUP_VICES {
+        let in_checks = checks.iter().any(|case| case.run(&Lax(vice)).is_err());
+        let in_commands = commands.iter().any(|case| case.run(&Lax(vice)).is_err());
+        assert!(in_checks || in_commands, "{vice:?}");
+    }
+}
+
+/// A gate that runs groups bucket by bucket, and has no vice, passes.
+#[test]
+fn cases_notice_every_vice_of_buckets() {
+    let steps = cases::group_steps::cases();
+    let wrong = |gate: Spilling| steps.iter().any(|case| case.run(&gate).is_err());
+    assert!(!wrong(Spilling(None)));
+    for vice in BUCKET_VICES {
+        assert!(wrong(Spilling(Some(vice))), "{vice:?}");
+    }
+}
+
 /// Each way to misread patterns is noticed by the cases that it concerns, and by no others.
 #[test]
 fn patterns_notice_every_misreading() {
@@ -614,6 +638,28 @@ fn comparisons_notice_every_vice_of_steps() {
     assert_eq!(steps_against(&Misled(None)), Ok(()));
     for vice in STEP_VICES {
         assert!(steps_against(&Misled(Some(vice))).is_err(), "{vice:?}");
+    }
+}
+
+#[test]
+fn comparisons_notice_every_vice_of_buckets() {
+    assert_eq!(steps_against(&Spilling(None)), Ok(()));
+    for vice in BUCKET_VICES {
+        assert!(steps_against(&Spilling(Some(vice))).is_err(), "{vice:?}");
+    }
+}
+
+/// The first error of a gate in damaged and in crowded networks.
+fn groups_against(gate: &dyn Gate) -> Result<(), String> {
+    compare::damaged_networks(&Second, gate, 35, 6_000, 5)?;
+    compare::crowded_networks(&Second, gate, 36, 40, 5)?;
+    Ok(())
+}
+
+#[test]
+fn comparisons_notice_every_vice_of_groups_but_a_full_table() {
+    for vice in GROUP_VICES.into_iter().filter(|vice| *vice != GroupVice::LooksForRoomFirst) {
+        assert!(groups_against(&Lax(vice)).is_err(), "{vice:?}");
     }
 }
 

@@ -1,6 +1,7 @@
 //! The verdict on a network.
 
 use super::network::Network;
+use super::states::StateSet;
 use super::steps::all_steps;
 use super::truth::Truth;
 
@@ -13,9 +14,13 @@ pub struct Breach {
 
 /// The lowest broken policy and the lowest state breaking it.
 pub fn judge(network: &Network) -> Option<Breach> {
-    let steps = all_steps(network);
+    judge_by(network, &all_steps(network))
+}
+
+/// The same over steps that are given.
+pub fn judge_by(network: &Network, steps: &[StateSet]) -> Option<Breach> {
     network.policies.iter().enumerate().find_map(|(policy, formula)| {
-        let state = Truth::new(network, &steps, formula).lowest_breaking()?;
+        let state = Truth::new(network, steps, formula).lowest_breaking()?;
         Some(Breach { policy, state })
     })
 }

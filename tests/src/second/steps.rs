@@ -70,7 +70,7 @@ fn elsewhere(network: &Network, sent: &StateSet, arrival: u8) -> Vec<State> {
 }
 
 /// The actions of the first rule of highest priority that matches, or of the miss record.
-fn actions_met(network: &Network, point: Point, header: u8) -> &[Action] {
+pub fn actions_met(network: &Network, point: Point, header: u8) -> &[Action] {
     let matching = network.rules.iter().filter(|rule| matches(rule, point, header));
     match matching.min_by_key(|rule| Reverse(rule.matching.priority)) {
         Some(rule) => &rule.actions,
@@ -87,7 +87,7 @@ fn matches(rule: &Rule, point: Point, header: u8) -> bool {
 
 /// The ports that an OUTPUT reaches: any one port by its full name, by stars ordinary ones only,
 /// and never the port of arrival.
-fn ports_reached(network: &Network, pattern: Pattern, arrival: u8) -> Vec<u8> {
+pub fn ports_reached(network: &Network, pattern: Pattern, arrival: u8) -> Vec<u8> {
     let widths = network.widths;
     let starred = pattern.has_stars(widths.port);
     (0..widths.ports())
