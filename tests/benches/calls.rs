@@ -3,14 +3,17 @@
 
 mod plain;
 
+use plain::groups::{self, Groups};
 use std::hint::black_box;
 use std::time::Instant;
 use wegbaro_tests::formulas::{and, bit, external, not, policy, r, some, tc, Node, X, Y};
-use wegbaro_tests::gate::{Checked, Commanded, Gate, Routed, STORE};
+use wegbaro_tests::gate::{Checked, Commanded, Gate, Routed, MOST_RECORDS, STORE};
 use wegbaro_tests::library::Library;
-use wegbaro_tests::networks::{largest, largest_without_policies, work_needed, Widths};
+use wegbaro_tests::networks::{
+    largest, largest_without_policies, nested_groups, work_needed, Widths,
+};
 use wegbaro_tests::random::Random;
-use wegbaro_tests::records::{add, miss, output, rule, widths, Record};
+use wegbaro_tests::records::{add, miss, output, rule, run, widths, Record};
 use wegbaro_tests::second::network::{Action, Network, Pattern};
 use wegbaro_tests::second::states::{Direction, Point, State, DROP};
 use wegbaro_tests::second::{file, routes, steps, Second};
@@ -89,6 +92,7 @@ fn send(network: &Network, row: &mut [u64], point: Point, header: u8, ports: Pat
 #[inline(never)]
 fn fill_arriving(network: &Network, plane: &mut [u64]) {
     plane.fill(0);
+    let groups = Groups::of(network);
     for (number, row) in plane.chunks_exact_mut(WORDS).take(STATES / 2).enumerate() {
         let State { point, mut header, .. } = State::numbered(number, network.widths);
         if point.port == DROP {
@@ -99,6 +103,10 @@ fn fill_arriving(network: &Network, plane: &mut [u64]) {
                 Action::Set(pattern) => header = pattern.put_into(header),
                 Action::Output(ports) => send(network, row, point, header, *ports),
                 Action::InPort => depart(network, row, point, header),
+                Action::Group(number) => {
+                    let sent = groups.sent(point.switch, *number, header);
+                    groups::add_elsewhere(network, row, sent, point);
+                }
             }
         }
     }
@@ -168,10 +176,10 @@ fn compare(network: &Network, plane: &[u64], row: &[u64]) {
 /// Reading the largest network.
 fn reading() -> f64 {
     let records = largest(&mut Random::new(1));
-    assert_eq!(records.len(), 641);
-    let store = store_of(&records);
-    assert_eq!(Library.check(&store, 641, &mut []), SHORT);
-    median((0..RUNS).map(|_| time(|| Library.check(black_box(&store), 641, &mut []))).collect())
+    let (store, n) = (store_of(&records), records.len());
+    assert_eq!(n, MOST_RECORDS);
+    assert_eq!(Library.check(&store, n, &mut []), SHORT);
+    median((0..RUNS).map(|_| time(|| Library.check(black_box(&store), n, &mut []))).collect())
 }
 
 /// 256 rules at one switch, each of higher priority than those before it, so that every one that
@@ -188,6 +196,17 @@ fn one_switch() -> Vec<Record> {
     };
     let rules: Vec<Record> = (0..256).map(sending).collect();
     [vec![widths(6, 3, 0), miss(0, &[output(0, 7)])], rules].concat()
+}
+
+/// The same rules, each of which runs one of sixteen groups in place of its action. Each group but the
+/// lowest has three buckets on to the next lower one.
+fn one_switch_with_groups() -> Vec<Record> {
+    let mut records = one_switch();
+    for (number, rule) in records[2..].iter_mut().enumerate() {
+        rule[9..12].copy_from_slice(&run(number as u8 % 16));
+    }
+    records.extend(nested_groups(Widths { h: 6, p: 3, w: 0 }, 0));
+    records
 }
 
 /// The step plane, the external row and two cleared planes: the library, and plain Rust.
@@ -406,6 +425,8 @@ fn main() {
     print(plane, step_plane(&records, by_link), "plain Rust, links walked once");
     let plane = "step plane, 256 rules at one switch";
     print(plane, step_plane(&one_switch(), by_link), "plain Rust, links walked once");
+    let plane = "step plane, 256 rules and 16 groups at one switch";
+    print(plane, step_plane(&one_switch_with_groups(), by_link), "plain Rust, links walked once");
     let records = guarded();
     print("check, 256 rules and eight closures", check(&records), "second implementation");
     print("command on the same network", command(&records), "second implementation");

@@ -117,16 +117,14 @@ pub fn guarded_network(random: &mut Random, of: Widths) -> Vec<Record> {
 /// The largest network: every ordinary point linked, and the most rules, policies, nodes and groups.
 pub fn largest(random: &mut Random) -> Vec<Record> {
     let policies = most_policies(random, 10);
-    largest_with(random, &policies)
+    let groups = random_groups(random, LARGEST, MOST_GROUPS);
+    largest_with(random, &policies, &groups)
 }
 
-/// The 657 records of a largest network with these policies.
-pub fn largest_with(random: &mut Random, policies: &[Record]) -> Vec<Record> {
-    let groups = random_groups(random, LARGEST, MOST_GROUPS);
-    let mut records = before_policies(random, LARGEST, 112, 256, &groups);
-    records.extend(policies);
-    records.extend(groups);
-    records
+/// The 657 records of a largest network with these policies and groups.
+pub fn largest_with(random: &mut Random, policies: &[Record], groups: &[Record]) -> Vec<Record> {
+    let records = before_policies(random, LARGEST, 112, 256, groups);
+    [&records, policies, groups].concat()
 }
 
 /// The 385 records of a largest network before its policies, if it has no group.
@@ -135,7 +133,7 @@ pub fn largest_without_policies(random: &mut Random) -> Vec<Record> {
 }
 
 /// The widths of a largest network.
-const LARGEST: Widths = Widths { h: 1, p: 4, w: 4 };
+pub const LARGEST: Widths = Widths { h: 1, p: 4, w: 4 };
 
 /// A network of any widths with the most rules, policies, nodes and groups.
 pub fn crowded(random: &mut Random, of: Widths) -> Vec<Record> {
@@ -222,7 +220,7 @@ pub fn random_rule(random: &mut Random, of: Widths, records: &[Record]) -> Recor
 }
 
 /// So many groups, at one switch or at any.
-fn random_groups(random: &mut Random, of: Widths, count: usize) -> Vec<Record> {
+pub fn random_groups(random: &mut Random, of: Widths, count: usize) -> Vec<Record> {
     let one = random.bits(of.w);
     let mut names: BTreeSet<(u8, u8)> = BTreeSet::new();
     while names.len() < count {
@@ -234,6 +232,18 @@ fn random_groups(random: &mut Random, of: Widths, count: usize) -> Vec<Record> {
         groups.push(random_group(random, of, switch, number, &groups));
     }
     groups
+}
+
+/// Sixteen groups at a switch: each has three buckets on to the next lower one, of which two set a bit
+/// of the header. There are 3^15 ways from the highest to the lowest, which sends to ports 0, 1 and 2.
+pub fn nested_groups(of: Widths, switch: u8) -> Vec<Record> {
+    let onward = |number: u8| {
+        let (bit, lower) = (1 << (number % of.h), number - 1);
+        let headers = [[0, bit], [bit, bit], ANY];
+        group(switch, number, &headers.map(|header| to_group(header, lower)))
+    };
+    let lowest = group(switch, 0, &[0, 1, 2].map(|port| to_port(ANY, port)));
+    [lowest].into_iter().chain((1..16).map(onward)).collect()
 }
 
 /// A group whose buckets may go on to lower ones of its switch among these.

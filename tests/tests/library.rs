@@ -1,5 +1,6 @@
 //! The proved library and its program against the cases and against the second implementation.
 
+use std::time::{Duration, Instant};
 use wegbaro_tests::cases::{self, patterns};
 use wegbaro_tests::compare::{self, routes};
 use wegbaro_tests::library::{program, Library};
@@ -80,7 +81,7 @@ fn set_patterns_mistaken() {
 
 #[test]
 fn sound_networks_of_every_width() {
-    let small = Sizes { links: 4, rules: 6, policies: 2, nodes: 6 };
+    let small = Sizes { links: 4, rules: 6, policies: 2, nodes: 6, groups: 4 };
     let tally = compare::sound_networks(&Second, &Library, 41, 2, small).unwrap();
     assert!(tally.holds > 10 && tally.violated > 10, "{tally:?}");
     compare::sound_networks(&Second, &Library, 42, 1, MODEST).unwrap();
@@ -94,7 +95,7 @@ fn largest_networks() {
 #[test]
 fn damaged_networks() {
     let tally = compare::damaged_networks(&Second, &Library, 44, 4_000, 6).unwrap();
-    for number in [3, 4, 5, 6, 7, 8, 9, 12, 14, 15] {
+    for number in [3, 4, 5, 6, 7, 8, 9, 12, 14, 15, 16] {
         assert!(tally.refused[number] > 0, "{number}: {tally:?}");
     }
 }
@@ -102,7 +103,7 @@ fn damaged_networks() {
 #[test]
 fn crowded_networks() {
     let tally = compare::crowded_networks(&Second, &Library, 45, 100, 5).unwrap();
-    for number in [8, 9, 10, 12, 13] {
+    for number in [8, 9, 10, 12, 13, 16] {
         assert!(tally.refused[number] > 0, "{number}: {tally:?}");
     }
 }
@@ -111,7 +112,7 @@ fn crowded_networks() {
 fn long_series() {
     let tally = compare::series(&Second, &Library, 46, 12, 6, 400).unwrap();
     assert!(tally.forwarded > 500 && tally.blocked > 200, "{tally:?}");
-    assert!(tally.refused[12] > 200, "{tally:?}");
+    assert!(tally.refused[12] > 200 && tally.refused[16] > 100, "{tally:?}");
 }
 
 #[test]
@@ -126,7 +127,7 @@ fn random_inputs_of_the_program() {
 
 #[test]
 fn routes_of_every_width() {
-    let linked = Sizes { links: 40, rules: 12, policies: 2, nodes: 6 };
+    let linked = Sizes { links: 40, rules: 12, policies: 2, nodes: 6, groups: 8 };
     let tally = routes::of_every_width(&Second, &Library, 51, 4, 12, linked).unwrap();
     assert!(tally.found > 5_000 && tally.no_route > 10_000, "{tally:?}");
     for number in [11, 14, 15] {
@@ -138,6 +139,15 @@ fn routes_of_every_width() {
 fn routes_of_largest_networks() {
     let tally = routes::of_largest(&Second, &Library, 52, 40).unwrap();
     assert!(tally.found > 10 && tally.longest > 4, "{tally:?}");
+}
+
+/// Each state would take minutes, if every way were gone.
+#[test]
+fn every_way_through_nested_groups_at_once() {
+    let case = cases::group_steps::every_way();
+    let start = Instant::now();
+    expect_all([case.run(&Library)]);
+    assert!(start.elapsed() < Duration::from_secs(10), "{:?}", start.elapsed());
 }
 
 #[test]

@@ -118,6 +118,7 @@ fn row_16() {
 #[test]
 fn steps_through_groups() {
     run_checks(cases::group_steps::cases());
+    expect_all([cases::group_steps::every_way().run(&Second)]);
 }
 
 #[test]

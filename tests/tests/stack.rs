@@ -5,11 +5,11 @@ use std::path::Path;
 use std::process::Command;
 use wegbaro_tests::build::{printed, root, run, Folder, STRICT};
 use wegbaro_tests::formulas::{all, and, bit, not, or, policy, r, some, tc, Node, X, Y};
-use wegbaro_tests::gate::{Checked, Gate, STORE};
+use wegbaro_tests::gate::{Checked, Gate, MOST_RECORDS, RECORD, STORE};
 use wegbaro_tests::library::Library;
-use wegbaro_tests::networks::{largest, largest_without_policies, work_needed, Widths};
+use wegbaro_tests::networks::{largest, largest_with, nested_groups, work_needed, LARGEST};
 use wegbaro_tests::random::Random;
-use wegbaro_tests::records::{add, delete, modify, Record};
+use wegbaro_tests::records::{add, delete, modify, run as run_group, Record};
 use wegbaro_tests::winding::winding;
 
 /// Starts and ends of routes at N = 10: loops, any two states, and the ends of the winding route.
@@ -37,19 +37,31 @@ fn chains() -> [Vec<Node>; 8] {
     ]
 }
 
-/// A largest network whose first policy is one of the chains.
+/// A largest network whose first policy is one of the chains, and whose groups are nested.
 fn chained(first: usize) -> Vec<Record> {
-    let mut records = largest_without_policies(&mut Random::new(first as u64));
     let mut chains = chains();
     chains.rotate_left(first);
+    let policies: Vec<Record> =
+        (0..).zip(&chains).flat_map(|(number, nodes)| policy(number, nodes)).collect();
+    let groups = nested_groups(LARGEST, 0);
+    let mut records = largest_with(&mut Random::new(first as u64), &policies, &groups);
+    run_highest_group(&mut records);
     records
-        .extend(chains.iter().enumerate().flat_map(|(number, nodes)| policy(number as u8, nodes)));
-    records
+}
+
+/// Lets whatever acts at switch 0 run its highest group, so that groups are run 16 deep.
+fn run_highest_group(records: &mut [Record]) {
+    let acts = |record: &&mut Record| matches!(record[..2], [3 | 4, 0]);
+    for record in records.iter_mut().filter(acts) {
+        record[8..21].fill(0);
+        record[8] = 1;
+        record[9..12].copy_from_slice(&run_group(15));
+    }
 }
 
 /// A network with a longest route, and with policies as chains.
 fn longest() -> Vec<Record> {
-    let long = winding(Widths { h: 1, p: 4, w: 4 });
+    let long = winding(LARGEST);
     assert_eq!([long.route[0], long.route[897]], ENDS[4]);
     let policies = chains().into_iter().enumerate();
     let policies = policies.flat_map(|(number, nodes)| policy(number as u8, &nodes));
@@ -93,7 +105,7 @@ fn within_the_bound() {
     let mut random = Random::new(17);
     let networks = (0..8).map(chained).chain((0..4).map(|_| largest(&mut random)));
     let mut most = [0, 0, 0];
-    let networks = networks.inspect(|network| assert_eq!(network.len(), 641));
+    let networks = networks.inspect(|network| assert_eq!(network.len(), MOST_RECORDS));
     for network in networks.chain([longest()]) {
         assert!(is_judged(&network));
         fs::write(&file, input(&network)).unwrap();
@@ -111,5 +123,5 @@ fn within_the_bound() {
     }
     println!("check {} bytes, command {} bytes, route {} bytes", most[0], most[1], most[2]);
     // A command copies the whole network, so that less was not measured right.
-    assert!(most[1] > 641 * 24 && most[0] > 0 && most[2] > 0, "{most:?}");
+    assert!(most[1] > MOST_RECORDS * RECORD && most[0] > 0 && most[2] > 0, "{most:?}");
 }

@@ -1,9 +1,11 @@
-//! A route in a step plane at N = 10, in plain Rust over 64-bit words.
+//! A route in a step plane at N = 10, and what groups send, in plain Rust over 64-bit words.
+
+pub mod groups;
 
 use super::{set_bit, WORDS};
 
 /// A row of the plane, or a set of states likewise.
-type Row = [u64; WORDS];
+pub type Row = [u64; WORDS];
 
 const NONE: Row = [0; WORDS];
 

@@ -5,7 +5,7 @@ use super::{holds, refused, violated, CheckCase, PLENTY};
 use crate::formulas::{and, bit, external, or, policy, r, some, tc, X, Y};
 use crate::gate::{Lent, STORE};
 use crate::k::k;
-use crate::networks::largest_with;
+use crate::networks::{largest_with, random_groups, LARGEST, MOST_GROUPS};
 use crate::random::Random;
 use crate::records::{output, Record};
 
@@ -81,7 +81,9 @@ pub fn largest_holding() -> Vec<Record> {
     for number in 1..8 {
         policies.extend(policy(number, &[external(X); 32]));
     }
-    largest_with(&mut Random::new(1), &policies)
+    let mut random = Random::new(1);
+    let groups = random_groups(&mut random, LARGEST, MOST_GROUPS);
+    largest_with(&mut random, &policies, &groups)
 }
 
 /// Its records without the groups, and OUTPUT 0 in their place.

@@ -1,9 +1,11 @@
 //! One step through groups: whole tables of steps, written by hand.
 
+use super::patterns::{Pair, StepCase};
 use super::steps::{
     from_ports, table, ByHeader, Steps, NOWHERE, TO_1, TO_1_AND_2, TO_2, TO_CONTROLLER, TO_DROP,
 };
 use super::CheckCase;
+use crate::networks::{nested_groups, Widths};
 use crate::records::{
     group, link, miss, output, rule, run, set, to_group, to_port, widths, Action, Bucket, Record,
     ANY, IN_PORT,
@@ -12,6 +14,23 @@ use crate::records::{
 pub fn cases() -> Vec<CheckCase> {
     [ports(), headers(), headers_after(), nested(), wide_headers(), switches(), rules(), links()]
         .concat()
+}
+
+/// Sixteen nested groups at N of 10: for each arriving state there are 3^15 ways through them, by
+/// which a frame departs at ports 0 and 2 with every header, and not at port 1, where it arrived.
+pub fn every_way() -> StepCase {
+    let of = Widths { h: 6, p: 3, w: 0 };
+    let acting = vec![widths(of.h, of.p, of.w), miss(0, &[run(15)])];
+    let from = 1 << 6 | 37;
+    let to = |port: usize| {
+        let states = (0..64).map(move |header| 1 << 9 | port << 6 | header);
+        states.map(move |to| Pair { from, to, is_step: port != 1 })
+    };
+    StepCase {
+        name: "every way through nested groups".to_string(),
+        records: [acting, nested_groups(of, 0)].concat(),
+        pairs: [0, 1, 2].into_iter().flat_map(to).collect(),
+    }
 }
 
 /// The states that are stepped to from ports 1, 2 and 3.
