@@ -469,6 +469,32 @@ fn every_action_is_generated() {
     assert_eq!(met, BTreeSet::from(all));
 }
 
+/// Targets of buckets, in groups with others of their switch and without.
+#[test]
+fn every_bucket_is_generated() {
+    let mut random = Random::new(30);
+    let of = Widths { h: 2, p: 2, w: 2 };
+    let mut targets = BTreeSet::new();
+    let mut switches = BTreeSet::new();
+    let mut counts = BTreeSet::new();
+    for _ in 0..200 {
+        let records = random_network(&mut random, of, MODEST);
+        let groups: Vec<Record> = records.into_iter().filter(|record| record[0] == 9).collect();
+        counts.insert(groups.len());
+        switches.extend(groups.iter().map(|group| group[1]));
+        for group in &groups {
+            let used = group[9..21].chunks(4).take(usize::from(group[8]));
+            targets.extend(used.map(|bucket| (bucket[2], bucket[3])));
+        }
+    }
+    let ports = (0..4).map(|port| (1, port));
+    assert!(ports.chain((0..15).map(|lower| (2, lower))).eq(targets), "a target is missing");
+    assert!(
+        (0..4).eq(switches) && (0..=MODEST.groups).eq(counts),
+        "a switch or a count is missing"
+    );
+}
+
 #[test]
 fn the_largest_network_is_sound() {
     let mut random = Random::new(16);

@@ -7,11 +7,12 @@ use crate::k::{
     delete_d, dropping_add, first_add, k, k_set, k_with_d, rule_d, second_add, setting_add,
 };
 use crate::records::{
-    add, delete, miss, modify, output, record, rule, widths, with, Record, ANY, IN_PORT,
+    add, delete, group, miss, modify, output, record, rule, run, to_port, widths, with, Record,
+    ANY, IN_PORT,
 };
 
 pub fn cases() -> Vec<ProgramCase> {
-    [starts(), series(), strange_commands(), cuts(), counts(), work()].concat()
+    [starts(), series(), groups(), strange_commands(), cuts(), counts(), work()].concat()
 }
 
 fn case(name: &str, input: &[u8], lines: &[&str]) -> ProgramCase {
@@ -181,6 +182,49 @@ fn cuts() -> Vec<ProgramCase> {
         cases.push(case(&name, &cut(&k(), &[second_add()], &[kind]), &lines));
     }
     cases
+}
+
+/// K and group 3 of switch 0, which sends header 1 to port 2.
+fn grouped() -> Vec<Record> {
+    [k(), vec![group(0, 3, &[to_port([1, 1], 2)])]].concat()
+}
+
+/// Groups belong to the network up to the first command; behind it they are no commands.
+fn groups() -> Vec<ProgramCase> {
+    let at_0 = |port: u8, number: u8| rule(0, 20, [port, 3], ANY, &[run(number)]);
+    let at_1 = rule(1, 20, [2, 3], ANY, &[run(3)]);
+    let given = [
+        add(at_0(1, 3)),
+        add(at_0(1, 2)),
+        add(at_0(1, 16)),
+        modify(at_0(1, 2)),
+        add(at_1),
+        group(0, 4, &[to_port(ANY, 1)]),
+        add(at_0(2, 3)),
+        delete(at_0(2, 3)),
+    ];
+    let lines = [
+        "start holds",
+        "1 blocked 0 2",
+        "2 refused 16 0",
+        "3 refused 12 0",
+        "4 refused 16 0",
+        "5 refused 16 0",
+        "6 refused 12 0",
+        "7 forwarded 22",
+        "8 forwarded 21",
+    ];
+    let faulty = with(grouped()[20], 23, 1);
+    let mut absent = grouped();
+    absent[5] = at_1;
+    vec![
+        case("K and a group", &input(&grouped(), &[]), &["start holds"]),
+        case("K and a group, commands", &input(&grouped(), &given), &lines),
+        case("K and a faulty group", &input(&k(), &[faulty]), &["start refused 16 20"]),
+        case("another switch's group", &input(&absent, &given), &["start refused 16 5"]),
+        case("a group and a node", &input(&grouped(), &[k()[6]]), &["start refused 3 21"]),
+        case("K and a cut group", &[&k().concat()[..], &faulty[..23]].concat(), &["end short"]),
+    ]
 }
 
 /// 657 and 658 network records. The largest network needs more work than the program has.

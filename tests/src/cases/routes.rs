@@ -5,7 +5,10 @@ use super::{bare, lend, RouteCase, SPARE};
 use crate::gate::Routed;
 use crate::k::{first_add, k};
 use crate::networks::{all_widths, work_needed, Widths};
-use crate::records::{link, miss, output, rule, set, widths, with, Action, Record, ANY, IN_PORT};
+use crate::records::{
+    group, link, miss, output, rule, run, set, to_group, to_port, widths, with, Action, Record,
+    ANY, IN_PORT,
+};
 use crate::winding::{looping, winding};
 
 /// What the entries of a list are before the call.
@@ -14,7 +17,8 @@ const BEFORE: u16 = 0xBEEF;
 const MORE: usize = 3;
 
 pub fn cases() -> Vec<RouteCase> {
-    [on_k(), loops(), returns(), choices(), longest(), states(), lists(), order()].concat()
+    [on_k(), loops(), returns(), through_groups(), choices(), longest(), states(), lists(), order()]
+        .concat()
 }
 
 /// The case of a route; with no states, of there being none.
@@ -111,6 +115,22 @@ fn returns() -> Vec<RouteCase> {
         none("flood without a turn", &flood, 2, 4),
         found("returned with a header set", &set_between, &[2, 11, 5]),
         none("returned with the header of arrival", &set_between, 2, 10),
+    ]
+}
+
+/// K whose rule A runs group 1: it sends header 1 to drop, and on to group 0, which sends to port 2. A
+/// way through groups is one step.
+fn through_groups() -> Vec<RouteCase> {
+    let mut records = k();
+    records[4] = rule(0, 10, [1, 3], [0, 1], &[run(1)]);
+    records.push(group(0, 0, &[to_port(ANY, 2)]));
+    records.push(group(0, 1, &[to_port([1, 1], 0), to_port(ANY, 1), to_group(ANY, 0)]));
+    vec![
+        found("K with groups", &records, &[2, 20, 10, 28]),
+        found("K with groups, to drop", &records, &[2, 17]),
+        none("K with groups, to the arrival port", &records, 2, 18),
+        none("K with groups, with a header of another bucket", &records, 2, 21),
+        none("K with groups, the header not set", &records, 2, 16),
     ]
 }
 
