@@ -13,6 +13,7 @@
 #include <cstdio>
 #include <cstdlib>
 #include <fstream>
+#include <map>
 #include <optional>
 #include <utility>
 #include <vector>
@@ -81,8 +82,8 @@ class Judge {
             if (record[0] != 5)
                 continue;
             nodes.push_back(node(record, nodes));
-            bool more = place + 1 < records.size() && records[place + 1][1] == record[1];
-            if (more)
+            bool more = place + 1 < records.size() && records[place + 1][0] == 5;
+            if (more && records[place + 1][1] == record[1])
                 continue;
             if (nodes.back() != bddfalse)
                 return Broken{record[1], lowest(nodes.back())};
@@ -98,6 +99,8 @@ class Judge {
     // Y is at the port at which X arrived.
     bdd back;
     bdd steps, external_x;
+    // What a group sends, by switch, number, and the value and care of the header that entered it.
+    mutable std::map<std::array<int, 4>, bdd> groups;
 
     int at(int variable, int bit) const { return level(variable, bit, bits); }
 
@@ -145,6 +148,32 @@ class Judge {
         return care == (1 << port) - 1 ? ports : ports & ordinary(Y);
     }
 
+    const Record &group_record(int of_switch, int number) const {
+        return *std::find_if(records.begin(), records.end(), [&](const Record &record) {
+            return record[0] == 9 && record[1] == of_switch && record[2] == number;
+        });
+    }
+
+    // The states Y that a group makes of X, if actions and buckets before it have set the header by
+    // a pattern. A frame takes the ways through groups that end in one pattern once.
+    bdd grouped(int of_switch, int number, int value, int care) const {
+        const std::array<int, 4> key = {of_switch, number, value, care};
+        auto known = groups.find(key);
+        if (known != groups.end())
+            return known->second;
+        bdd sent = bddfalse;
+        const Record &group = group_record(of_switch, number);
+        for (int place = 9; place < 9 + 4 * group[8]; place += 4) {
+            int its_value = (value & ~group[place + 1]) | group[place];
+            int its_care = care | group[place + 1], target = group[place + 3];
+            if (group[place + 2] == 1)
+                sent |= same(0, header, its_value, its_care) & (is_port(Y, target) - back);
+            else
+                sent |= grouped(of_switch, target, its_value, its_care);
+        }
+        return groups[key] = sent;
+    }
+
     // The departing states Y that the actions of a rule or miss make of an arriving state X.
     bdd copies(const Record &record) const {
         int value = 0, care = 0;
@@ -159,8 +188,11 @@ class Judge {
                 value = (value & ~its_care) | its_value;
                 care |= its_care;
                 break;
-            default:
+            case 3:
                 sent |= same(0, header, value, care) & back;
+                break;
+            default:
+                sent |= grouped(record[1], its_value, value, care);
             }
         }
         return sent & is_switch(Y, record[1]) & departing(Y);
