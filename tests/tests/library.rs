@@ -80,6 +80,14 @@ fn set_patterns_mistaken() {
 }
 
 #[test]
+fn bucket_patterns() {
+    let headers = (1..=5).flat_map(|h| patterns::bucket_sets(h, 1));
+    let ports = (2..=4).flat_map(patterns::bucket_ports);
+    let cases = headers.chain(patterns::bucket_sets(6, 0)).chain(ports);
+    expect_all(cases.map(|case| case.run(&Library)));
+}
+
+#[test]
 fn sound_networks_of_every_width() {
     let small = Sizes { links: 4, rules: 6, policies: 2, nodes: 6, groups: 4 };
     let tally = compare::sound_networks(&Second, &Library, 41, 2, small).unwrap();
@@ -141,13 +149,13 @@ fn routes_of_largest_networks() {
     assert!(tally.found > 10 && tally.longest > 4, "{tally:?}");
 }
 
-/// Each state would take minutes, if every way were gone.
+/// Each call would take minutes, if every way were gone.
 #[test]
 fn every_way_through_nested_groups_at_once() {
     let case = cases::group_steps::every_way();
     let start = Instant::now();
     expect_all([case.run(&Library)]);
-    assert!(start.elapsed() < Duration::from_secs(10), "{:?}", start.elapsed());
+    assert!(start.elapsed() < Duration::from_secs(5), "{:?}", start.elapsed());
 }
 
 #[test]

@@ -20,7 +20,7 @@ use wegbaro_tests::random::Random;
 use wegbaro_tests::records::{add, delete, link, miss, output, rule, set, widths, Record, ANY};
 use wegbaro_tests::second::{program, Second};
 use wegbaro_tests::winding::{longest, looping, winding};
-use worthless::buckets::{Spilling, BUCKET_VICES};
+use worthless::buckets::{BucketVice, Spilling, BUCKET_VICES};
 use worthless::groups::{GroupVice, Lax, GROUP_VICES};
 use worthless::routes::{Astray, ROUTE_VICES};
 use worthless::steps::{Misled, StepVice, STEP_VICES};
@@ -113,6 +113,14 @@ fn steps() {
 fn row_16() {
     run_checks(cases::groups::cases());
     run_commands(cases::groups::commands());
+}
+
+#[test]
+fn bucket_patterns() {
+    let headers = (1..=5).flat_map(|h| patterns::bucket_sets(h, 1));
+    let ports = (2..=4).flat_map(patterns::bucket_ports);
+    let cases = headers.chain(patterns::bucket_sets(6, 0)).chain(ports);
+    expect_all(cases.map(|case| case.run(&Second)));
 }
 
 #[test]
@@ -618,6 +626,21 @@ fn patterns_notice_every_misreading() {
     for p in 2..=3 {
         assert_eq!(noticed(patterns::ports(p)), [false, true, true, false], "{p}");
         assert_eq!(noticed(patterns::outputs(p)), [false, true, true, false], "{p}");
+    }
+}
+
+/// Each way to misread a bucket is noticed by the cases that it concerns, and by no others.
+#[test]
+fn bucket_patterns_notice_every_misreading() {
+    let vices = [None, Some(BucketVice::SetsStarsToZero), Some(BucketVice::SendsToTheArrivalPort)];
+    let noticed = |cases: Vec<StepCase>| {
+        vices.map(|vice| cases.iter().any(|case| case.run(&Spilling(vice)).is_err()))
+    };
+    for h in 1..=4 {
+        assert_eq!(noticed(patterns::bucket_sets(h, 1)), [false, true, false], "{h}");
+    }
+    for p in 2..=3 {
+        assert_eq!(noticed(patterns::bucket_ports(p)), [false, true, true], "{p}");
     }
 }
 

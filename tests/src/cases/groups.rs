@@ -4,6 +4,7 @@ use super::commands::{blocked, forwarded, refused as refused_command};
 use super::starred::{k_with_rules, K_WORK};
 use super::{bare, holds, refused, CheckCase, CommandCase, BARE_WORK};
 use crate::k::k;
+use crate::networks::planes;
 use crate::records::{
     add, delete, group, miss, modify, output, rule, run, set, to_group, to_port, widths, with,
     Action, Bucket, Record, ANY,
@@ -20,6 +21,7 @@ pub fn cases() -> Vec<CheckCase> {
         headers(),
         targets(),
         unused_buckets(),
+        other_widths(),
         lower_groups(),
         orders(),
         group_counts(),
@@ -166,6 +168,33 @@ fn unused_buckets() -> Vec<CheckCase> {
                 cases.push(faulty(&name, &[record], 6));
             }
         }
+    }
+    cases
+}
+
+/// The highest switch, header care and port of other widths, and one more.
+fn other_widths() -> Vec<CheckCase> {
+    let mut cases = vec![];
+    for [h, p, w] in [[1, 2, 0], [6, 3, 0], [3, 2, 4], [1, 4, 4], [2, 3, 2]] {
+        let misses = (0..1 << w).map(|switch| miss(switch, &[output(0, 0)]));
+        let network: Vec<Record> = [widths(h, p, w)].into_iter().chain(misses).collect();
+        let mut case = |what: &str, group: Record, is_sound: bool| {
+            let name = format!("H {h}, P {p}, W {w}: {what}");
+            let records = [&network[..], &[group]].concat();
+            cases.push(match is_sound {
+                true => holds(&name, &records, planes(2, 1 + h + p + w)),
+                false => refused(&name, &records, 16, network.len()),
+            });
+        };
+        let [headers, ports, switches] = [h, p, w].map(|width| 1 << width);
+        let set = |care: u8| group(0, 3, &[TO_PORT_1, to_port([care, care], 1)]);
+        let to = |port: u8| group(0, 3, &[TO_PORT_1, TO_PORT_1, to_port(ANY, port)]);
+        case("last switch", plain(switches - 1, 3), true);
+        case("switch beyond", plain(switches, 3), false);
+        case("whole header", set(headers - 1), true);
+        case("header beyond", set(headers), false);
+        case("controller", to(ports - 1), true);
+        case("port beyond", to(ports), false);
     }
     cases
 }

@@ -8,10 +8,15 @@ use super::{holds, lend, same, violated, CheckCase};
 use crate::formulas::{and, bit, external, not, or, policy, r, some, Node, X, Y};
 use crate::gate::{Gate, Routed};
 use crate::networks::{work_needed, Widths};
-use crate::records::{miss, output, rule, set, widths, Action, Pattern, Record, IN_PORT};
+use crate::records::{
+    group, miss, output, rule, run, set, to_port, widths, Action, Bucket, Pattern, Record, ANY,
+    IN_PORT,
+};
 
 /// Where frames arrive in cases of headers, with port width 2.
 const PORT: &str = "01";
+/// Another port of that width, to which buckets send.
+const OTHER_PORT: &str = "10";
 /// The header of frames in cases of ports, with header width 1.
 const HEADER: &str = "1";
 
@@ -98,19 +103,53 @@ pub fn outputs(p: u8) -> Vec<StepCase> {
 /// The patterns of SET, at every header: to the header that it must become, and to those that
 /// differ from that one in at most so many digits.
 pub fn sets(h: u8, digits: usize) -> Vec<StepCase> {
-    let headers = numbers(h);
-    let case = |pattern: String| {
-        let mut pairs = vec![];
-        for header in &headers {
-            let set = put(&pattern, header);
-            for other in headers.iter().filter(|other| differing(&set, other) <= digits) {
-                let [from, to] = [arriving(PORT, header), departing(PORT, other)];
-                pairs.push(Pair { from, to, is_step: *other == set });
-            }
-        }
-        StepCase { name: format!("SET {pattern}"), records: setting(&pattern), pairs }
+    let case = |pattern: String| StepCase {
+        name: format!("SET {pattern}"),
+        records: setting(&pattern),
+        pairs: set_pairs(&pattern, PORT, digits),
     };
     patterns(h).into_iter().map(case).collect()
+}
+
+/// The header patterns of buckets, likewise.
+pub fn bucket_sets(h: u8, digits: usize) -> Vec<StepCase> {
+    let case = |pattern: String| StepCase {
+        name: format!("bucket with header {pattern}"),
+        records: with_bucket(h, 2, to_port(bytes(&pattern), binary(OTHER_PORT) as u8)),
+        pairs: set_pairs(&pattern, OTHER_PORT, digits),
+    };
+    patterns(h).into_iter().map(case).collect()
+}
+
+/// The ports of buckets, from every arrival port to every port.
+pub fn bucket_ports(p: u8) -> Vec<StepCase> {
+    let case = |target: String| {
+        let mut pairs = vec![];
+        for arrival in numbers(p) {
+            for port in numbers(p) {
+                let [from, to] = [arriving(&arrival, HEADER), departing(&port, HEADER)];
+                let is_step = port == target && port != arrival && !is_drop(&arrival);
+                pairs.push(Pair { from, to, is_step });
+            }
+        }
+        let records = with_bucket(1, p, to_port(ANY, binary(&target) as u8));
+        StepCase { name: format!("bucket to port {target}"), records, pairs }
+    };
+    numbers(p).into_iter().map(case).collect()
+}
+
+/// From every header to the one that a pattern makes of it at a port, and to those near it.
+fn set_pairs(pattern: &str, port: &str, digits: usize) -> Vec<Pair> {
+    let headers = numbers(pattern.len() as u8);
+    let mut pairs = vec![];
+    for header in &headers {
+        let set = put(pattern, header);
+        for other in headers.iter().filter(|other| differing(&set, other) <= digits) {
+            let [from, to] = [arriving(PORT, header), departing(port, other)];
+            pairs.push(Pair { from, to, is_step: *other == set });
+        }
+    }
+    pairs
 }
 
 /// The patterns of SET, at all headers in one call.
@@ -189,6 +228,11 @@ fn returning(h: u8, p: u8, port: &str, header: &str) -> Vec<Record> {
 fn setting(pattern: &str) -> Vec<Record> {
     let [value, care] = bytes(pattern);
     one_switch(pattern.len() as u8, 2, &[set(value, care), IN_PORT])
+}
+
+/// One switch that runs a group of one bucket.
+fn with_bucket(h: u8, p: u8, bucket: Bucket) -> Vec<Record> {
+    [one_switch(h, p, &[run(0)]), vec![group(0, 0, &[bucket])]].concat()
 }
 
 /// One switch with a miss record and no rule.
