@@ -62,6 +62,8 @@ fn commanded(answer: Commanded) -> String {
 /// The check call's answer to network K changed as the words say.
 fn answer_to(changes: &str) -> String {
     let mut store = k().concat();
+    // Records behind K may be set too.
+    store.resize(STORE, 0);
     let (mut n, mut store_len, mut work_len) = (k().len(), STORE, work_needed(&k()));
     for change in changes.split(", ") {
         let (what, value) = change.split_once('=').unwrap();

@@ -107,7 +107,6 @@ fn headers_after() -> Vec<CheckCase> {
     let then_set: Ports = [[&[13], &[13]], TO_1, [&[10, 13], &[11, 13]]];
     let twice: Ports = [NOWHERE, [&[10, 11], &[10, 11]], [&[10, 11], &[10, 11]]];
     let set_before: Ports = [[&[8, 13], &[8, 13]], [&[8], &[8]], [&[8, 13], &[8, 13]]];
-    let in_turn: Ports = [[&[9, 12], &[9, 13]], [&[9], &[9]], [&[9, 12], &[9, 13]]];
     let returned: Ports = [[&[9, 10], &[9, 11]], [&[9, 12], &[9, 13]], [&[9, 14], &[9, 15]]];
     let to_1: &[Bucket] = &[to_port(ANY, 1)];
     let drop_as_1: &[Bucket] = &[to_port(ONE, 0)];
@@ -120,7 +119,7 @@ fn headers_after() -> Vec<CheckCase> {
         missed("group, SET 1, OUTPUT 2", &[run(0), set(1, 1), out_2], &[to_1], then_set),
         missed("SET 0, group, SET 1, group", &twice_run, &[to_1], twice),
         missed("SET 1, group, OUTPUT 2", &[set(1, 1), run(0), out_2], &[drop_as_0], set_before),
-        missed("group, group", &[run(0), run(1)], &[drop_as_1, &[to_port(ANY, 2)]], in_turn),
+        missed("group, group", &[run(0), run(1)], &[drop_as_1, &[to_port(ANY, 2)]], kept),
         missed("group, IN_PORT", &[run(0), IN_PORT], &[drop_as_1], returned),
     ]
     .concat()
@@ -130,13 +129,14 @@ fn headers_after() -> Vec<CheckCase> {
 fn nested() -> Vec<CheckCase> {
     let as_1: Ports = [NOWHERE, [&[11], &[11]], [&[11], &[11]]];
     let apart: Ports = [[&[13], &[13]], [&[10], &[10]], [&[10, 13], &[10, 13]]];
-    let next: Ports = [[&[12], &[13]], [&[11], &[11]], [&[11, 12], &[11, 13]]];
+    let as_1_and_to_2: Ports = [[&[12], &[13]], [&[11], &[11]], [&[11, 12], &[11, 13]]];
     let paths: Ports = [
         [&[8, 9], &[8, 9]],
         [&[8, 9, 10, 11], &[8, 9, 10, 11]],
         [&[8, 9, 10, 11], &[8, 9, 10, 11]],
     ];
-    let after: Ports = [[&[12], &[13]], [&[11], &[11]], [&[11, 12], &[11, 13]]];
+    let deep = fifteen_deep();
+    let deep: Vec<&[Bucket]> = deep.iter().map(Vec::as_slice).collect();
     let to_1: &[Bucket] = &[to_port(ANY, 1)];
     let to_2: &[Bucket] = &[to_port(ANY, 2)];
     let on_as_1: &[Bucket] = &[to_group(ONE, 0)];
@@ -148,12 +148,12 @@ fn nested() -> Vec<CheckCase> {
     [
         missed("to group 0", &[run(1)], &[to_1, over], [NOWHERE, TO_1, TO_1]),
         missed("SET 1 to group 0", &[run(1)], &[to_1, on_as_1], as_1),
-        missed("SET 1 to group 0, to 2", &[run(1)], &[to_1, on_then_2], next),
+        missed("SET 1 to group 0, to 2", &[run(1)], &[to_1, on_then_2], as_1_and_to_2),
         missed("group 0 SETs 0", &[run(1)], &[&[to_port(ZERO, 1)], on_and_2], apart),
         missed("group 0 alone", &[run(0)], &[to_1, on_as_1], [NOWHERE, TO_1, TO_1]),
         missed("over group 1", &[run(2)], &[to_1, to_2, over], [NOWHERE, TO_1, TO_1]),
         missed("two ways to group 1", &[run(2)], &forked, paths),
-        missed("nested, OUTPUT 2", &[run(1), output(2, 3)], &[to_1, on_as_1], after),
+        missed("nested, OUTPUT 2", &[run(1), output(2, 3)], &[to_1, on_as_1], as_1_and_to_2),
         missed("nested to drop", &[run(1)], &[&[to_port(ANY, 0)], over], [TO_DROP; 3]),
         missed(
             "nested to 3",
@@ -161,25 +161,16 @@ fn nested() -> Vec<CheckCase> {
             &[&[to_port(ANY, 3)], over],
             [TO_CONTROLLER, TO_CONTROLLER, NOWHERE],
         ),
-        missed("fifteen deep", &[run(15)], &fifteen_deep(), as_1),
+        missed("fifteen deep", &[run(15)], &deep, as_1),
     ]
     .concat()
 }
 
 /// Sixteen groups, each on to the next lower, the highest with SET 1 and the lowest to port 1.
-fn fifteen_deep() -> Vec<&'static [Bucket]> {
-    const ON: [[Bucket; 1]; 14] = {
-        let mut buckets = [[[0, 0, 2, 0]]; 14];
-        let mut place = 0;
-        while place < 14 {
-            buckets[place][0][3] = place as u8;
-            place += 1;
-        }
-        buckets
-    };
-    let mut groups: Vec<&[Bucket]> = vec![&[[0, 0, 1, 1]]];
-    groups.extend(ON.iter().map(|bucket| &bucket[..]));
-    groups.push(&[[1, 1, 2, 14]]);
+fn fifteen_deep() -> Vec<Vec<Bucket>> {
+    let mut groups = vec![vec![to_port(ANY, 1)]];
+    groups.extend((0..14).map(|lower| vec![to_group(ANY, lower)]));
+    groups.push(vec![to_group(ONE, 14)]);
     groups
 }
 
