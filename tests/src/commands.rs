@@ -128,7 +128,7 @@ fn random_same_rule(
     with_actions(rule, &actions)
 }
 
-/// The rule with a group in the place of an action that its switch has not, but perhaps another.
+/// The rule with an action that runs a group which its switch has not, but perhaps another one has.
 fn running_absent_group(random: &mut Random, records: &[Record], rule: Record) -> Record {
     let there = groups_at(records, rule[1]);
     let elsewhere: Vec<u8> = (0..16).flat_map(|switch| groups_at(records, switch)).collect();
