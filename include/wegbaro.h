@@ -35,9 +35,9 @@
 #define WEGBARO_RECORD_BYTES 24
 
 /* The records of the largest network. */
-#define WEGBARO_MOST_RECORDS 641
+#define WEGBARO_MOST_RECORDS 657
 
-/* The least bytes of a store: the largest network, 15,384. */
+/* The least bytes of a store: the largest network, 15,768. */
 #define WEGBARO_STORE_BYTES (WEGBARO_MOST_RECORDS * WEGBARO_RECORD_BYTES)
 
 /* The least bytes of work for a network: (nodes + 2) planes of 2^(2N) bits. `nodes` is the node count of its longest
@@ -73,9 +73,10 @@
 /* The case that all calls have, with its first and second number.
  *
  *    number  refused because                                                                place
- *    1       n is 0 or above 641                                                            0
- *    2       the store is under 15,384 bytes                                                0
- *    3       a kind is not 1 to 5 or below the one before, or kind 1 is not once and first  the record, from 0
+ *    1       n is 0 or above 657                                                            0
+ *    2       the store is under 15,768 bytes                                                0
+ *    3       a kind is not 1 to 5 or 9, or below the one before, or kind 1 is not once and  the record, from 0
+ *            first
  *    4       a width is outside its limits                                                  the record
  *    5       a field is outside its range or width, an action is bad, or an unnamed byte    the record
  *            is not zero
@@ -90,10 +91,14 @@
  *    13      an add of a new rule with 256 present                                          0
  *    14      the start or the end is not below 2^N                                          0
  *    15      the list is under 2^N + 1 entries                                              0
+ *    16      a group has a faulty field, is out of order or the 17th, or a bucket of it     the record
+ *            goes on to a group that is not lower
+ *            a rule, a miss or a bucket names a group that its switch does not have         the record
+ *            an add or a modify names a group that its switch does not have                 0
  *
- * The check call has 1 to 11, the command call 1 to 13, the route call 1 to 11, 14 and 15. The first that is so is
- * answered: 1 and 2, then the first faulty record with the lowest number of 3 to 10 that is so of it, then 11 and those
- * after it. */
+ * The check call has 1 to 11 and 16, the command call 1 to 13 and 16, the route call 1 to 11 and 14 to 16. The first that
+ * is so is answered: 1 and 2, then the first faulty record with the lowest number of 3 to 10 and 16 that is so of it, then
+ * 11, then of a command 12, 16 and 13 in this order, and of a route 14 and 15. */
 #define WEGBARO_REFUSED 2 /* number, place */
 
 /* An answer of any call: its case and its two numbers in 64 bits. */
@@ -141,7 +146,7 @@ wegbaro_answer wegbaro_check(const unsigned char *store, size_t store_len, size_
  * then on give the count last answered as forwarded.
  *
  * WEGBARO_FORWARDED the network that it leaves holds: its record count. The store has its records, then zeros to byte
- *                   15,384; later bytes are untouched.
+ *                   15,768; later bytes are untouched.
  * WEGBARO_BLOCKED   it does not hold: the lowest policy that would be broken, and the lowest state that would break it. The
  *                   store is untouched.
  * WEGBARO_REFUSED   the command was not judged: number and place of the table above. The store is untouched.

@@ -97,7 +97,7 @@ pub fn check(store: &[u8], n: usize, work: &mut [u8]) -> Result<Checked, Refusal
 /// The command call: judges the network that the command would leave of the first `n` records of
 /// the store, and carries it out if that network holds.
 ///
-/// A forwarded command leaves the new records in the store, then zeros to byte 15,384. Otherwise the
+/// A forwarded command leaves the new records in the store, then zeros to byte 15,768. Otherwise the
 /// store is untouched. Start with records that [`check`] said hold, and from then on give the count
 /// last answered as forwarded.
 pub fn command(

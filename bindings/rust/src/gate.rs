@@ -18,7 +18,7 @@ pub struct Gate {
 
 impl Gate {
     /// Judges a network and takes it in. The work buffer is as long as this network needs, so only
-    /// rows 1 and 3 to 10 can refuse it.
+    /// rows 1, 3 to 10 and 16 can refuse it.
     pub fn new(records: &[Record]) -> Result<Gate, Refusal> {
         Gate::with_work(records, work_bytes(records))
     }
@@ -38,8 +38,8 @@ impl Gate {
         self.verdict
     }
 
-    /// Judges a command, and carries it out if the network that it leaves holds. Only rows 12 and 13
-    /// can refuse it: a command leaves widths and policies as they are.
+    /// Judges a command, and carries it out if the network that it leaves holds. Only rows 12, 16 and
+    /// 13, in this order, can refuse it: a command leaves widths, policies and groups as they are.
     ///
     /// Where the network does not hold, the command is judged all the same: it is forwarded if what
     /// it leaves holds.

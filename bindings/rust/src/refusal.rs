@@ -4,10 +4,10 @@ use std::error::Error;
 use std::fmt;
 
 /// What each row refuses, from row 1.
-const ROWS: [&str; 15] = [
-    "there are no records, or more than 641",
-    "the store has fewer than 15,384 bytes",
-    "a kind is not 1 to 5 or is below the one before, or kind 1 is not once and first",
+const ROWS: [&str; 16] = [
+    "there are no records, or more than 657",
+    "the store has fewer than 15,768 bytes",
+    "a kind is not 1 to 5 or 9 or is below the one before, or kind 1 is not once and first",
     "a width is outside its limits",
     "a field is outside its range or width, an action is bad, or an unnamed byte is not zero",
     "a link ends at a port that is not ordinary or at a point already linked, or both ends are the \
@@ -21,6 +21,8 @@ const ROWS: [&str; 15] = [
     "256 rules are present, and the add is of a new one",
     "the start or the end is not below 2^N",
     "the list has fewer than 2^N + 1 entries",
+    "a group has a faulty field, is out of order or the 17th, a bucket's group is not lower, or a \
+     group is named that its switch does not have",
 ];
 
 /// A call that did not judge: the row of the table that refuses it, and its place.
@@ -31,10 +33,10 @@ const ROWS: [&str; 15] = [
 /// ```
 #[derive(Clone, Copy, Debug, PartialEq, Eq, Hash)]
 pub struct Refusal {
-    /// The row, 1 to 15.
+    /// The row, 1 to 16.
     pub row: usize,
     /// The record, from 0, for rows 3 to 10 (where misses are missing, the record behind them, or
-    /// the count of records at the end); otherwise 0.
+    /// the count of records at the end), and for row 16 of a network; otherwise 0.
     pub place: usize,
 }
 
@@ -45,9 +47,10 @@ impl Refusal {
         row.copied().unwrap_or("no row has this number")
     }
 
-    /// Whether the place is a record; rows of a call's other arguments have none.
+    /// Whether the place is a record; rows of a call's other arguments have none. Row 16 of a command
+    /// has place 0, which is the place of the widths in a network, and those name no group.
     pub fn has_record(self) -> bool {
-        (3..=10).contains(&self.row)
+        (3..=10).contains(&self.row) || self.row == 16 && self.place > 0
     }
 }
 

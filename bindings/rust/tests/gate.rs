@@ -7,7 +7,7 @@ use wegbaro_tests::formulas::{external, policy, tc, X};
 use wegbaro_tests::k::{delete_d, first_add, k, k_set, k_with_d, second_add};
 use wegbaro_tests::networks::{all_widths, crowded, random_network, work_needed, MODEST};
 use wegbaro_tests::random::Random;
-use wegbaro_tests::records::{add, miss, output, rule, widths, with, ANY};
+use wegbaro_tests::records::{add, miss, output, record, rule, widths, with, ANY};
 
 fn store(records: &[Record]) -> Vec<u8> {
     let mut store = records.concat();
@@ -68,7 +68,7 @@ fn routes_of_a_gate() {
 fn refusals() {
     let refused = |records: &[Record]| Gate::new(records).err().map(|it| (it.row, it.place));
     assert_eq!(refused(&[]), Some((1, 0)));
-    assert_eq!(refused(&vec![[0; 24]; 642]), Some((1, 0)));
+    assert_eq!(refused(&vec![[0; 24]; 658]), Some((1, 0)));
     assert_eq!(refused(&[[9; 24]]), Some((3, 0)));
     assert_eq!(refused(&k_set(&[(0, 1, 7)])), Some((4, 0)));
     assert_eq!(refused(&k_set(&[(4, 23, 1)])), Some((5, 4)));
@@ -79,11 +79,35 @@ fn refusals() {
     let long = vec![external(X); 33];
     assert_eq!(refused(&[&k()[..6], &policy(0, &long)].concat()), Some((10, 38)));
 
+    assert_eq!(refused(&k_set(&[(4, 9, 4), (4, 11, 0)])), Some((16, 4)));
+
     let mut full = vec![widths(1, 2, 0), miss(0, &[output(0, 3)])];
     full.extend((0..256).map(|priority| rule(0, priority, ANY, ANY, &[output(0, 3)])));
     let new = add(rule(0, 256, ANY, ANY, &[output(0, 3)]));
     let answer = Gate::new(&full).unwrap().command(&new);
     assert_eq!(answer, Err(Refusal { row: 13, place: 0 }));
+    let absent = with(with(new, 9, 4), 11, 0);
+    let answer = Gate::new(&full).unwrap().command(&absent);
+    assert_eq!(answer, Err(Refusal { row: 16, place: 0 }));
+}
+
+/// A frame goes through a group in one step, and commands may name a group that is there.
+#[test]
+fn groups() {
+    // Group 1 of switch 0 sends to port 2 as it came, and to port 1 with header 1.
+    let group = record(&[9, 0, 1, 0, 0, 0, 0, 0, 2, 0, 0, 1, 2, 1, 1, 1, 1]);
+    let mut gate = Gate::new(&[k(), vec![group]].concat()).unwrap();
+    assert_eq!(gate.check(), Checked::Holds);
+    let by_group = |priority, header| add(rule(0, priority, [1, 3], header, &[[4, 1, 0]]));
+    // From port 1 the copy to port 1 is not sent; header 1 would leave by port 2.
+    assert_eq!(gate.command(&by_group(20, ANY)), Ok(Commanded::Blocked { policy: 0, state: 3 }));
+    assert_eq!(gate.command(&by_group(20, [0, 1])), Ok(Commanded::Forwarded { count: 22 }));
+    assert_eq!(gate.records()[21], group);
+    assert_eq!(gate.route(2, 28), Ok(Some(vec![2, 20, 10, 28])));
+    assert_eq!(gate.route(2, 19), Ok(None));
+    let absent = add(rule(1, 20, [1, 3], ANY, &[[4, 1, 0]]));
+    assert_eq!(gate.command(&absent), Err(Refusal { row: 16, place: 0 }));
+    assert_eq!(gate.count(), 22);
 }
 
 /// Rows 2 and 11 are of buffers that a caller chooses.
@@ -171,12 +195,16 @@ fn buffers_are_sized_to_the_network() {
 #[test]
 fn refusals_in_words() {
     let words = |row, place| Refusal { row, place }.to_string();
-    assert_eq!(words(1, 0), "refused by row 1: there are no records, or more than 641");
+    assert_eq!(words(1, 0), "refused by row 1: there are no records, or more than 657");
     assert_eq!(words(8, 5), "refused by row 8 at record 5: the same rule stands twice");
     assert_eq!(words(14, 0), "refused by row 14: the start or the end is not below 2^N");
     assert_eq!(words(15, 0), "refused by row 15: the list has fewer than 2^N + 1 entries");
-    assert_eq!(words(16, 0), "refused by row 16: no row has this number");
-    let meanings: Vec<&str> = (1..=15).map(|row| Refusal { row, place: 0 }.meaning()).collect();
+    let group = "a group has a faulty field, is out of order or the 17th, a bucket's group is not \
+                 lower, or a group is named that its switch does not have";
+    assert_eq!(words(16, 0), format!("refused by row 16: {group}"));
+    assert_eq!(words(16, 4), format!("refused by row 16 at record 4: {group}"));
+    assert_eq!(words(17, 0), "refused by row 17: no row has this number");
+    let meanings: Vec<&str> = (1..=16).map(|row| Refusal { row, place: 0 }.meaning()).collect();
     for (place, meaning) in meanings.iter().enumerate() {
         assert!(!meanings[..place].contains(meaning), "{meaning}");
     }
