@@ -114,19 +114,18 @@ impl Teller<'_> {
         let mut hops = vec![];
         for pair in route.windows(2) {
             let [from, to] = [pair[0], pair[1]].map(|number| State::numbered(number, of));
-            let Some(place) = network.acting(from) else { continue };
+            let Some(by) = network.carriers(from, to).filter(|_| !from.departing) else { continue };
             let [switch, port, header] = field_names(&self.source.names, from);
             let [_, out, header_out] = field_names(&self.source.names, to);
-            let rule = record_words(self.source, &left.records[place]);
-            let origin = &left.origins[place];
+            let by: Vec<String> = by.iter().map(|it| self.record_of(left, it.place)).collect();
             let header = match from.header == to.header {
                 true => header,
                 false => format!("{header} set to {header_out}"),
             };
             let sent = if from.point == to.point { "back out" } else { "out" };
             hops.push(format!(
-                "switch {switch}: in at port {port}, {sent} at port {out}, header {header} \
-                 ({origin}: {rule})"
+                "switch {switch}: in at port {port}, {sent} at port {out}, header {header} ({})",
+                by.join(", then ")
             ));
         }
         let end = route.last().filter(|end| route.first() != Some(end));
@@ -136,6 +135,12 @@ impl Teller<'_> {
             hops.push(format!("switch {switch}: in at port {port}, header {header}"));
         }
         hops
+    }
+
+    /// A record with where it comes from.
+    fn record_of(&self, left: &Book, place: usize) -> String {
+        let words = record_words(self.source, &left.records[place]);
+        format!("{}: {words}", left.origins[place])
     }
 }
 

@@ -2,9 +2,10 @@
 
 use crate::fields::{field_fault, width_fault};
 use crate::formula::{print_nodes, Node};
+use crate::groups::{buckets, place_of, Target};
 use crate::steps::DROP;
 use crate::widths::Widths;
-use crate::Record;
+use crate::{actions, Record};
 use wegbaro::{Refusal, MOST_RECORDS};
 
 /// Why a row refuses.
@@ -24,7 +25,7 @@ impl From<String> for Cause {
 /// Where a record stands, in words.
 pub type At<'a> = &'a dyn Fn(usize) -> String;
 
-/// Why a row of 1 or 3 to 10 refuses a network.
+/// Why a row of 1, 3 to 10 or 16 refuses a network.
 pub fn network_cause(records: &[Record], refusal: Refusal, at: At) -> Option<Cause> {
     let place = refusal.place;
     match refusal.row {
@@ -37,11 +38,12 @@ pub fn network_cause(records: &[Record], refusal: Refusal, at: At) -> Option<Cau
         8 => same_rule_cause(records, place, at),
         9 => policy_cause(records, place, at),
         10 => full_cause(records, place),
+        16 => group_cause(records, place, at),
         _ => None,
     }
 }
 
-/// Why row 12 or 13 refuses a command to a network.
+/// Why row 12, 13 or 16 refuses a command to a network.
 pub fn command_cause(records: &[Record], given: &[u8], refusal: Refusal) -> Option<Cause> {
     match refusal.row {
         12 => {
@@ -56,6 +58,7 @@ pub fn command_cause(records: &[Record], given: &[u8], refusal: Refusal) -> Opti
             field_fault(Widths::of(records.first()?)?, &command).map(Cause::from)
         }
         13 => Some("256 rules are there, and this one is new".to_string().into()),
+        16 => absent_cause(records, given.try_into().ok()?),
         _ => None,
     }
 }
@@ -82,6 +85,7 @@ pub fn kind_words(kind: u8) -> String {
         6 => "add",
         7 => "modify",
         8 => "delete",
+        9 => "group",
         _ => return format!("kind {kind}"),
     };
     words.to_string()
@@ -89,8 +93,8 @@ pub fn kind_words(kind: u8) -> String {
 
 fn kind_cause(records: &[Record], place: usize, at: At) -> Option<Cause> {
     let kind = records.get(place)?[0];
-    if !(1..=5).contains(&kind) {
-        return Some(format!("its kind is {kind}, and kinds are 1 to 5").into());
+    if !matches!(kind, 1..=5 | 9) {
+        return Some(format!("its kind is {kind}, and kinds are 1 to 5 and 9").into());
     }
     let name = kind_words(kind);
     let Some(before) = place.checked_sub(1) else {
@@ -195,6 +199,62 @@ fn policy_cause(records: &[Record], place: usize, at: At) -> Option<Cause> {
         None => format!("Y is free at `{node}`, the policy's last node"),
     };
     Some(words.into())
+}
+
+fn group_cause(records: &[Record], place: usize, at: At) -> Option<Cause> {
+    let record = records.get(place)?;
+    if record[0] != 9 {
+        return absent_cause(records, record);
+    }
+    let fault = field_fault(widths(records, place)?, record).map(Cause::from);
+    fault
+        .or_else(|| absent_cause(records, record))
+        .or_else(|| order_cause(records, place, at))
+        .or_else(|| Some("16 groups stand before it, and that is the most".to_string().into()))
+}
+
+/// Why a group is out of order: the one before it is the same or comes later.
+fn order_cause(records: &[Record], place: usize, at: At) -> Option<Cause> {
+    let before = place.checked_sub(1)?;
+    let [_, switch, group, ..] = records[place];
+    let [kind, switch_before, group_before, ..] = records[before];
+    if kind != 9 || [switch_before, group_before] < [switch, group] {
+        return None;
+    }
+    let name = format!("group {group} of switch {switch}");
+    let earlier = place_of(&records[..place], switch, group);
+    let words = match earlier {
+        Some(earlier) => format!("{name} is there already, {}", at(earlier)),
+        None => format!(
+            "{name} comes before group {group_before} of switch {switch_before} ({})",
+            at(before)
+        ),
+    };
+    Some(Cause { words, other: earlier.or(Some(before)) })
+}
+
+/// The action or bucket of a record that names a group which no record of its switch has.
+fn absent_cause(records: &[Record], record: &Record) -> Option<Cause> {
+    let switch = record[1];
+    let part = if record[0] == 9 { "bucket" } else { "action" };
+    let is_absent = |group: &u8| place_of(records, switch, *group).is_none();
+    let named = (1..).zip(named_groups(record));
+    let mut absent = named.filter_map(|(number, group)| Some(number).zip(group.filter(is_absent)));
+    let (number, group) = absent.next()?;
+    Some(format!("{part} {number} is group {group}, which switch {switch} does not have").into())
+}
+
+/// The group that each action, or each bucket, of a record names.
+fn named_groups(record: &Record) -> Vec<Option<u8>> {
+    match record[0] {
+        9 => buckets(record)
+            .map(|bucket| match bucket.target {
+                Target::Group(group) => Some(group),
+                Target::Port(_) => None,
+            })
+            .collect(),
+        _ => actions(record).map(|[kind, group, _]| (kind == 4).then_some(group)).collect(),
+    }
 }
 
 fn full_cause(records: &[Record], place: usize) -> Option<Cause> {

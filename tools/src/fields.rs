@@ -1,5 +1,7 @@
-//! What is wrong with the fields of one record: the causes of rows 4, 5 and 12.
+//! What is wrong with the fields of one record: the causes of rows 4, 5 and 12, and of row 16 those
+//! of a group itself.
 
+use crate::groups::{BUCKET_BYTES, LAST_GROUP, MOST_BUCKETS};
 use crate::widths::Widths;
 use crate::Record;
 
@@ -26,6 +28,7 @@ pub fn field_fault(of: Widths, record: &Record) -> Option<String> {
         4 | 6 | 7 => match_fault(of, record).or_else(|| actions_fault(of, record)),
         5 => node_fault(of, record),
         8 => match_fault(of, record).or_else(|| unused(record, 8, 24)),
+        9 => group_fault(of, record),
         _ => None,
     }
 }
@@ -81,11 +84,15 @@ fn actions_fault(of: Widths, record: &Record) -> Option<String> {
         match kind {
             1 => pattern_fault(&what, [value, care], of.p),
             2 if number + 1 == count => {
-                Some(format!("{what}, the last one, is neither an output nor in_port"))
+                Some(format!("{what}, the last one, is a set, and sends nothing"))
             }
             2 => pattern_fault(&what, [value, care], of.h),
             3 => in_port_fault(&what, [value, care]),
-            _ => Some(format!("{what} has kind {kind}, not 1 (output), 2 (set) or 3 (in_port)")),
+            4 => group_action_fault(&what, [value, care]),
+            _ => {
+                let kinds = "1 (output), 2 (set), 3 (in_port) or 4 (group)";
+                Some(format!("{what} has kind {kind}, not {kinds}"))
+            }
         }
     };
     (0..count).find_map(action_fault).or_else(|| unused(record, 9 + 3 * count, 24))
@@ -95,6 +102,52 @@ fn in_port_fault(what: &str, [value, care]: [u8; 2]) -> Option<String> {
     let bytes = [("value", value), ("care", care)];
     let (name, byte) = bytes.into_iter().find(|(_, byte)| *byte != 0)?;
     Some(format!("{what} is in_port, and its {name} is {byte}, where it must be zero"))
+}
+
+fn group_action_fault(what: &str, [group, care]: [u8; 2]) -> Option<String> {
+    if group > LAST_GROUP {
+        return Some(format!("{what} is group {group}, and the last is {LAST_GROUP}"));
+    }
+    (care != 0).then(|| format!("{what} is a group, and its care is {care}, where it must be zero"))
+}
+
+fn group_fault(of: Widths, record: &Record) -> Option<String> {
+    let [_, switch, group, ..] = *record;
+    let number = || {
+        (group > LAST_GROUP).then(|| format!("there is no group {group}, the last is {LAST_GROUP}"))
+    };
+    switch_fault(of, switch)
+        .or_else(number)
+        .or_else(|| unused(record, 3, 8))
+        .or_else(|| buckets_fault(of, record))
+}
+
+fn buckets_fault(of: Widths, record: &Record) -> Option<String> {
+    let count = usize::from(record[8]);
+    if !(1..=MOST_BUCKETS).contains(&count) {
+        return Some(format!("the bucket count is {count}, and must be 1 to {MOST_BUCKETS}"));
+    }
+    let mut buckets = (1..).zip(record[9..21].chunks(BUCKET_BYTES)).take(count);
+    let fault = buckets.find_map(|(number, bucket)| bucket_fault(of, record[2], number, bucket));
+    fault.or_else(|| unused(record, 9 + BUCKET_BYTES * count, 24))
+}
+
+/// What is wrong with the bucket of a number, from 1, of a group.
+fn bucket_fault(of: Widths, group: u8, number: usize, bucket: &[u8]) -> Option<String> {
+    let what = format!("bucket {number}");
+    let [value, care, kind, target] = [bucket[0], bucket[1], bucket[2], bucket[3]];
+    let last = of.controller();
+    let target_fault = || match kind {
+        1 if target > last => {
+            Some(format!("{what} sends to port {target}, and the last is {last}"))
+        }
+        2 if target >= group => {
+            Some(format!("{what} goes on to group {target}, which is not below its own, {group}"))
+        }
+        1 | 2 => None,
+        _ => Some(format!("{what} has target kind {kind}, not 1 (port) or 2 (group)")),
+    };
+    pattern_fault(&what, [value, care], of.h).or_else(target_fault)
 }
 
 fn node_fault(of: Widths, record: &Record) -> Option<String> {

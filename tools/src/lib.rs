@@ -11,6 +11,7 @@ pub mod fault;
 pub mod fields;
 pub mod formula;
 pub mod generate;
+pub mod groups;
 pub mod json;
 pub mod judging;
 pub mod names;
@@ -37,6 +38,12 @@ pub const RECORD: usize = 24;
 
 /// A record.
 pub type Record = [u8; RECORD];
+
+/// The actions of a record, each with its kind, value and care.
+pub fn actions(record: &Record) -> impl Iterator<Item = [u8; 3]> + '_ {
+    let used = record[9..21].chunks(3).take(record[8].into());
+    used.map(|action| [action[0], action[1], action[2]])
+}
 
 /// A record from its first bytes; the others are zero.
 pub fn record(bytes: &[u8]) -> Record {

@@ -1,4 +1,4 @@
-//! Names for switches, ports, headers, wards and policies.
+//! Names for switches, ports, groups, headers, wards and policies.
 
 use crate::widths::Widths;
 use std::collections::BTreeMap;
@@ -14,6 +14,8 @@ pub enum Named {
     Port(u8),
     /// Ports of switches that have the same name, one a switch.
     Points(Vec<Point>),
+    /// Groups of switches that have the same name, one a switch: switch and number of each.
+    Groups(Vec<[u8; 2]>),
     /// Value and care of a header pattern.
     Header([u8; 2]),
     Ward(Vec<Area>),
@@ -58,6 +60,15 @@ impl Names {
         }
     }
 
+    /// A group of a switch by name or number.
+    pub fn group(&self, switch: u8, group: u8) -> String {
+        let own = |named: &Named| match named {
+            Named::Groups(groups) => groups.contains(&[switch, group]),
+            _ => false,
+        };
+        self.find(own).map_or_else(|| group.to_string(), String::from)
+    }
+
     /// A header by name or number.
     pub fn header(&self, header: u8) -> String {
         let full = self.widths.map_or(u8::MAX, |of| of.headers());
@@ -83,7 +94,8 @@ impl Names {
     /// The name that something has already, and its line.
     pub fn name_of(&self, named: &Named) -> Option<(&str, usize)> {
         let has = |other: &Named| match (named, other) {
-            (Named::Points(mine), Named::Points(its)) => mine.iter().any(|one| its.contains(one)),
+            (Named::Points(mine), Named::Points(its))
+            | (Named::Groups(mine), Named::Groups(its)) => mine.iter().any(|one| its.contains(one)),
             _ => other == named,
         };
         let name = self.find(has)?;
@@ -98,8 +110,10 @@ impl Names {
     pub(crate) fn give(&mut self, name: &str, named: Named, line: usize) {
         let (before, _) =
             self.given.entry(name.to_string()).or_insert_with(|| (named.clone(), line));
-        if let (Named::Points(points), Named::Points(more)) = (before, named) {
-            points.extend(more.into_iter().filter(|one| !points.contains(one)).collect::<Vec<_>>());
+        if let (Named::Points(given), Named::Points(more))
+        | (Named::Groups(given), Named::Groups(more)) = (before, named)
+        {
+            given.extend(more.into_iter().filter(|one| !given.contains(one)).collect::<Vec<_>>());
         }
     }
 

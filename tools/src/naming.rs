@@ -1,6 +1,7 @@
-//! Reads names, and what they stand for: switches, ports, points, headers, states and wards.
+//! Reads names, and what they stand for: switches, ports, points, groups, headers, states and wards.
 
 use crate::fault::{quoted, Fault};
+use crate::groups::LAST_GROUP;
 use crate::names::{Area, Named, Point};
 use crate::parse::{Reader, STATEMENTS};
 use crate::steps::State;
@@ -26,7 +27,11 @@ impl Reader {
                 statement.take();
                 Named::Header(self.header_pattern(of, statement)?)
             }
-            _ => return Err(statement.expected("`switch`, `port` or `header`")),
+            "group" => {
+                statement.take();
+                Named::Groups(vec![self.group_of_switch(of, statement)?])
+            }
+            _ => return Err(statement.expected("`switch`, `port`, `header` or `group`")),
         };
         let name = self.new_name(&named, statement)?;
         if let Some((before, line)) = self.names.name_of(&named) {
@@ -52,9 +57,10 @@ impl Reader {
             let message = format!("`{word}` is a word of the language and cannot be a name");
             return Err(name.fault(message));
         }
-        // Ports of several switches may have one name.
+        // Ports of several switches may have one name, and so may groups.
         let of_others = match (named, self.names.named(name.text)) {
-            (Named::Points(mine), Some(Named::Points(its))) => {
+            (Named::Points(mine), Some(Named::Points(its)))
+            | (Named::Groups(mine), Some(Named::Groups(its))) => {
                 mine.iter().all(|[switch, _]| its.iter().all(|[other, _]| switch != other))
             }
             _ => false,
@@ -165,7 +171,7 @@ impl Reader {
                 let own = points.iter().find(|[its, _]| Some(*its) == switch);
                 match own {
                     Some([_, port]) => *port,
-                    None => return Err(self.elsewhere(token, points, switch)),
+                    None => return Err(self.elsewhere(token, "port", points, switch)),
                 }
             }
             _ => return Ok(None),
@@ -174,18 +180,52 @@ impl Reader {
         Ok(Some(port))
     }
 
-    /// The fault of a port's name where it is not the name of a port.
-    fn elsewhere(&self, token: Token, points: &[Point], switch: Option<u8>) -> Fault {
-        let [other, port] = points[0];
+    /// The fault of a name of other switches' ports or groups, where it names none.
+    fn elsewhere(&self, token: Token, what: &str, named: &[[u8; 2]], switch: Option<u8>) -> Fault {
+        let [other, number] = named[0];
         let name = quoted(token.text);
         let fault = match switch {
             Some(switch) => {
                 let mine = self.names.switch(switch);
-                token.fault(format!("switch {mine} has no port with the name `{name}`"))
+                token.fault(format!("switch {mine} has no {what} with the name `{name}`"))
             }
-            None => token.fault(format!("`{name}` is a port of one switch, not of every switch")),
+            None => token.fault(format!("`{name}` is a {what} of one switch, not of every switch")),
         };
-        fault.hint(format!("`{name}` is port {port} of switch {}", self.names.switch(other)))
+        fault.hint(format!("`{name}` is {what} {number} of switch {}", self.names.switch(other)))
+    }
+
+    /// Reads a group: a switch and its group, or the name of one group.
+    pub(crate) fn group_of_switch(
+        &self,
+        of: Widths,
+        statement: &mut Statement,
+    ) -> Result<[u8; 2], Fault> {
+        let token = statement.peek();
+        if let Some(Named::Groups(groups)) = self.names.named(token.text) {
+            let [group] = groups[..] else {
+                let message = format!("`{}` is a group of several switches", quoted(token.text));
+                return Err(token.fault(message).hint("write the switch, `/` and the name"));
+            };
+            statement.take();
+            return Ok(group);
+        }
+        let switch = self.switch(of, statement)?;
+        statement.expect("/")?;
+        Ok([switch, self.group(switch, statement)?])
+    }
+
+    /// Reads one group of a switch by number or name.
+    pub(crate) fn group(&self, switch: u8, statement: &mut Statement) -> Result<u8, Fault> {
+        let token = statement.peek();
+        if let Some(Named::Groups(groups)) = self.names.named(token.text) {
+            let own = groups.iter().find(|[its, _]| *its == switch);
+            let elsewhere = || self.elsewhere(token, "group", groups, Some(switch));
+            let [_, group] = own.ok_or_else(elsewhere)?;
+            statement.take();
+            return Ok(*group);
+        }
+        let read = statement.byte("a group", LAST_GROUP);
+        read.map_err(|fault| self.with_nearest(statement, fault))
     }
 
     /// Value and care of a switch: a number, a name, or a pattern with a star.

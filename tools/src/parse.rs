@@ -7,6 +7,7 @@
 pub use crate::expand::expand;
 use crate::fault::{quoted, Fault};
 use crate::formula::Formula;
+use crate::groups::{Bucket, Target, MOST_BUCKETS};
 use crate::names::{Names, Point};
 use crate::policies::Split;
 use crate::tokens::{statements, Place, Statement, Token};
@@ -16,13 +17,16 @@ use crate::{record, Record, RECORD};
 /// The most actions of a rule.
 const MOST_ACTIONS: usize = 4;
 /// What starts an action.
-const ACTIONS: [&str; 3] = ["output", "set", "in_port"];
+const ACTIONS: [&str; 4] = ["output", "set", "in_port", "group"];
+/// What starts a bucket.
+const BUCKETS: [&str; 3] = ["set", "output", "group"];
 /// The most faults that are told at once.
 pub const MOST_FAULTS: usize = 20;
 
 /// What starts a statement.
-pub(crate) const STATEMENTS: [&str; 11] = [
-    "widths", "name", "ward", "link", "miss", "rule", "policy", "add", "modify", "delete", "bytes",
+pub(crate) const STATEMENTS: [&str; 12] = [
+    "widths", "name", "ward", "link", "miss", "rule", "policy", "group", "add", "modify", "delete",
+    "bytes",
 ];
 
 /// What a text says.
@@ -62,7 +66,7 @@ pub fn parse(text: &str) -> Result<Parsed, Vec<Fault>> {
             faults.push(statement.peek().fault(message));
             break;
         }
-        if ["add", "modify", "delete", "bytes"].contains(&statement.peek().text) {
+        if ["group", "add", "modify", "delete", "bytes"].contains(&statement.peek().text) {
             faults.extend(parsed.end_policies(&mut reader).err());
         }
         let line = statement.line();
@@ -228,13 +232,15 @@ impl Reader {
             "add" => self.rule(of, statement, 6),
             "modify" => self.rule(of, statement, 7),
             "delete" => self.rule(of, statement, 8),
+            "group" => self.group_statement(of, statement),
             _ => self.policy(of, statement),
         }
     }
 
     /// A part of the network after a command would be taken for a command, and not be judged.
     fn in_place(&self, keyword: Token) -> Result<(), Fault> {
-        let of_network = ["widths", "link", "miss", "rule", "policy"].contains(&keyword.text);
+        let of_network =
+            ["widths", "link", "miss", "rule", "policy", "group"].contains(&keyword.text);
         match self.command {
             Some(line) if of_network => {
                 let message = format!("`{}` stands after a command (line {line})", keyword.text);
@@ -389,17 +395,106 @@ impl Reader {
                 (2, self.header_pattern(of, statement)?)
             } else if statement.accept("in_port") {
                 (3, in_port(statement)?)
+            } else if statement.accept("group") {
+                (4, [self.group(switch, statement)?, 0])
             } else {
-                let fault = statement.expected("an action (`output`, `set` or `in_port`)");
+                let fault = statement.expected("an action (`output`, `set`, `in_port` or `group`)");
                 return Err(fault.with_nearest(action.text, ACTIONS));
             };
             bytes[0] += 1;
             bytes.extend([kind, value, care]);
             if !statement.accept(",") {
                 return match kind {
-                    2 => Err(action.fault("the last action must be `output` or `in_port`")),
+                    2 => {
+                        Err(action.fault("the last action must be `output`, `in_port` or `group`"))
+                    }
                     _ => Ok(bytes),
                 };
+            }
+        }
+    }
+
+    fn group_statement(&mut self, of: Widths, statement: &mut Statement) -> Result<Vec<u8>, Fault> {
+        let [switch, group] = self.group_of_switch(of, statement)?;
+        statement.expect(":")?;
+        let mut bytes = vec![9, switch, group, 0, 0, 0, 0, 0, 0];
+        loop {
+            if usize::from(bytes[8]) == MOST_BUCKETS {
+                let message = format!("there are more than {MOST_BUCKETS} buckets");
+                let hint = "a bucket may go on to a lower group, which has buckets of its own";
+                return Err(statement.peek().fault(message).hint(hint));
+            }
+            bytes[8] += 1;
+            bytes.extend(self.bucket(of, [switch, group], statement)?.bytes());
+            match statement.peek().text {
+                ";" => statement.take(),
+                "," => {
+                    let fault = statement.expected("`;` or the end of the statement");
+                    let hint =
+                        "a bucket ends with its `output` or `group`; the next stands behind `;`";
+                    return Err(fault.hint(hint));
+                }
+                _ => return Ok(record(&bytes).to_vec()),
+            };
+        }
+    }
+
+    /// A bucket of a group: what it sets in the header, then its port or a lower group.
+    fn bucket(
+        &mut self,
+        of: Widths,
+        [switch, group]: [u8; 2],
+        statement: &mut Statement,
+    ) -> Result<Bucket, Fault> {
+        let mut header = [0, 0];
+        if statement.accept("set") {
+            header = self.header_pattern(of, statement)?;
+            statement.expect(",")?;
+        }
+        let target = match statement.peek().text {
+            "output" => {
+                statement.take();
+                Target::Port(self.one_port(of, switch, statement)?)
+            }
+            "group" => {
+                statement.take();
+                Target::Group(self.lower_group(switch, group, statement)?)
+            }
+            "in_port" => {
+                let fault = statement.expected("a bucket (`set`, `output` or `group`)");
+                let hint = "a bucket never sends a frame back; `in_port` is an action of a rule";
+                return Err(fault.hint(hint));
+            }
+            word => {
+                let fault = statement.expected("a bucket (`set`, `output` or `group`)");
+                return Err(fault.with_nearest(word, BUCKETS));
+            }
+        };
+        Ok(Bucket { header, target })
+    }
+
+    /// The one port behind a bucket's `output`.
+    fn one_port(&mut self, of: Widths, switch: u8, statement: &mut Statement) -> Result<u8, Fault> {
+        let token = statement.peek();
+        let [port, care] = self.output(of, switch, statement)?;
+        match care == of.controller() {
+            true => Ok(port),
+            false => {
+                let fault = token.fault("a bucket sends to one port, and this pattern has a star");
+                Err(fault.hint("write a bucket for each port"))
+            }
+        }
+    }
+
+    /// The group behind a bucket's `group`, which is lower than the bucket's own.
+    fn lower_group(&self, switch: u8, group: u8, statement: &mut Statement) -> Result<u8, Fault> {
+        let token = statement.peek();
+        let lower = self.group(switch, statement)?;
+        match lower < group {
+            true => Ok(lower),
+            false => {
+                let message = format!("a bucket of group {group} goes on to lower groups alone");
+                Err(token.fault(message).hint(format!("this is group {lower}")))
             }
         }
     }

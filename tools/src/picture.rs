@@ -10,10 +10,11 @@ use crate::Record;
 /// A line inside a switch.
 type Line = (u8, String);
 
-/// The switches and links of a network that no row refuses; with `rules`, each switch lists them.
+/// The switches and links of a network that no row refuses; with `rules`, each switch lists its miss,
+/// its rules and its groups.
 pub fn picture(source: &Source, rules: bool) -> Option<String> {
     let network = Network::new(&source.network)?;
-    let is_shown = |record: &&Record| rules && matches!(record[0], 3 | 4);
+    let is_shown = |record: &&Record| rules && matches!(record[0], 3 | 4 | 9);
     let shown = network.records.iter().filter(is_shown);
     let lines: Vec<Line> = shown
         .map(|record| (record[1], inside(source, record[1], &record_words(source, record))))
@@ -36,10 +37,10 @@ pub fn route_picture(source: &Source, route: &[usize]) -> Option<String> {
                 let label = format!("step {number}, header {header}");
                 edges += &format!("    s{switch} -- s{other} [label=\"{label}\"];\n");
             }
-            None => {
-                let words = inside(source, switch, &step.words(source));
-                lines.push((switch, format!("step {number}: {words}")));
-            }
+            None => lines.extend(step.by.iter().map(|carrier| {
+                let words = inside(source, switch, &carrier.words(source));
+                (switch, format!("step {number}: {words}"))
+            })),
         }
     }
     edges += &end_edge(source, network, "to", *route.last()?);
@@ -88,9 +89,13 @@ fn switch_label(source: &Source, switch: u8, lines: &[Line]) -> String {
     label
 }
 
-/// A rule or a miss for inside its switch, which stands above already.
+/// A rule, a miss or a group for inside its switch, which stands above already.
 fn inside(source: &Source, switch: u8, words: &str) -> String {
-    words.replacen(&format!(" {}", source.names.switch(switch)), "", 1)
+    let switch = source.names.switch(switch);
+    match words.strip_prefix(&format!("group {switch}/")) {
+        Some(group) => format!("group {group}"),
+        None => words.replacen(&format!(" {switch}"), "", 1),
+    }
 }
 
 fn link_edge(source: &Source, link: &Record) -> String {

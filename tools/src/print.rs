@@ -2,11 +2,12 @@
 //! printed byte by byte, so nothing is lost whatever the bytes are.
 
 use crate::formula::{print_formula, print_nodes, Node};
+use crate::groups::{buckets, Bucket, Target};
 use crate::names::Names;
 use crate::parse::Reader;
 use crate::tokens::statements;
 use crate::widths::{pattern_word, Widths};
-use crate::{Record, RECORD};
+use crate::{actions, Record, RECORD};
 
 /// The most characters of a printed line.
 const LINE: usize = 100;
@@ -95,6 +96,7 @@ fn plain(widths: Option<Widths>, record: &Record) -> Option<String> {
     let keyword = match kind {
         2 => return Some(format!("link {one}:{two} - {three}:{four}")),
         3 => return Some(format!("miss {one}: {}", print_actions(of, record)?)),
+        9 => return Some(format!("group {one}/{two}: {}", print_buckets(of, record))),
         4 => "rule",
         6 => "add",
         7 => "modify",
@@ -112,15 +114,30 @@ fn plain(widths: Option<Widths>, record: &Record) -> Option<String> {
 }
 
 fn print_actions(of: Widths, record: &Record) -> Option<String> {
-    let used = record[9..21].chunks(3).take(record[8].into());
-    let action = |action: &[u8]| match action[0] {
-        1 => Some(format!("output {}", pattern_word(action[1], action[2], of.p))),
-        2 => Some(format!("set {}", pattern_word(action[1], action[2], of.h))),
+    let action = |[kind, value, care]: [u8; 3]| match kind {
+        1 => Some(format!("output {}", pattern_word(value, care, of.p))),
+        2 => Some(format!("set {}", pattern_word(value, care, of.h))),
         3 => Some("in_port".to_string()),
+        4 => Some(format!("group {value}")),
         _ => None,
     };
-    let actions: Option<Vec<String>> = used.map(action).collect();
+    let actions: Option<Vec<String>> = actions(record).map(action).collect();
     Some(actions?.join(", "))
+}
+
+fn print_buckets(of: Widths, record: &Record) -> String {
+    let bucket = |Bucket { header: [value, care], target }: Bucket| {
+        let set = match care {
+            0 => String::new(),
+            _ => format!("set {}, ", pattern_word(value, care, of.h)),
+        };
+        match target {
+            Target::Port(port) => format!("{set}output {port}"),
+            Target::Group(group) => format!("{set}group {group}"),
+        }
+    };
+    let buckets: Vec<String> = buckets(record).map(bucket).collect();
+    buckets.join("; ")
 }
 
 /// The nodes of one policy under its title: as a formula if that gives the same nodes, otherwise as a

@@ -6,7 +6,7 @@ use crate::parse::parse_states;
 use crate::picture::route_picture;
 use crate::source::{fault_trouble, Source};
 use crate::standard::{self, say};
-use crate::steps::{Network, State};
+use crate::steps::{Carrier, Network, State};
 use crate::trouble::{Status, Trouble};
 use crate::words::{record_words, Answer, Form, Teller};
 use crate::Record;
@@ -83,10 +83,8 @@ pub fn drawn(source: &Source, states: &str) -> Result<Status, Trouble> {
 /// A step of a route: the state before it, and what takes the frame on.
 pub struct Step {
     pub from: usize,
-    /// The place of the rule, the miss or the link.
-    pub place: usize,
-    /// The number of the action that sends the frame on, where there are several.
-    pub action: Option<usize>,
+    /// A link, or a rule or a miss and then the groups that the frame goes through.
+    pub by: Vec<Carrier>,
 }
 
 /// The steps of a route.
@@ -94,19 +92,20 @@ pub fn steps(network: Network, route: &[usize]) -> Vec<Step> {
     let of = network.widths;
     let step = |pair: &[usize]| {
         let [from, to] = [pair[0], pair[1]].map(|number| State::numbered(number, of));
-        let (place, action) = network.carrier(from, to)?;
-        Some(Step { from: pair[0], place, action })
+        Some(Step { from: pair[0], by: network.carriers(from, to)? })
     };
     route.windows(2).filter_map(step).collect()
 }
 
-impl Step {
-    /// What takes the state on: the record in words, and its action.
+impl Carrier {
+    /// The record in words, and its action or its bucket.
     pub fn words(&self, source: &Source) -> String {
-        let record = record_words(source, &source.network[self.place]);
-        match self.action {
-            Some(number) => format!("{record} (action {number})"),
-            None => record,
+        let record = &source.network[self.place];
+        let words = record_words(source, record);
+        let part = if record[0] == 9 { "bucket" } else { "action" };
+        match self.part {
+            Some(number) => format!("{words} ({part} {number})"),
+            None => words,
         }
     }
 }
@@ -143,9 +142,11 @@ impl Teller<'_> {
     fn states_words(&self, book: &Book, network: Network, route: &[usize]) -> String {
         let mut words = String::new();
         for step in steps(network, route) {
-            let state = self.numbered_words(network, step.from);
-            let origin = &book.origins[step.place];
-            words += &format!("\n    {state}\n    - {origin}: {}", step.words(self.source));
+            words += &format!("\n    {}", self.numbered_words(network, step.from));
+            for carrier in &step.by {
+                let origin = &book.origins[carrier.place];
+                words += &format!("\n    - {origin}: {}", carrier.words(self.source));
+            }
         }
         let end = route.last().map(|end| self.numbered_words(network, *end));
         words + "\n    " + &end.unwrap_or_default()
@@ -174,13 +175,23 @@ impl Teller<'_> {
     fn state_objects(&self, network: Network, route: &[usize]) -> Vec<Object> {
         let state = |number: usize| self.state_object(network.widths, number);
         let moved = |step: Step| {
-            let line = self.source.lines.get(step.place).copied();
-            state(step.from)
-                .text("by", &step.words(self.source))
-                .number("by_record", step.place)
-                .maybe(line, |object, line| object.number("by_line", line))
+            let mut by = step.by.iter().map(|carrier| self.carrier_object(carrier));
+            let first = by.next().unwrap_or_default();
+            let groups: Vec<Object> = by.collect();
+            let groups = Some(groups).filter(|groups| !groups.is_empty());
+            let object = state(step.from).and(first);
+            object.maybe(groups, |object, groups| object.objects("groups", &groups))
         };
         let moved = steps(network, route).into_iter().map(moved);
         moved.chain(route.last().map(|end| state(*end))).collect()
+    }
+
+    /// A record that takes a frame on.
+    fn carrier_object(&self, carrier: &Carrier) -> Object {
+        let line = self.source.lines.get(carrier.place).copied();
+        Object::new()
+            .text("by", &carrier.words(self.source))
+            .number("by_record", carrier.place)
+            .maybe(line, |object, line| object.number("by_line", line))
     }
 }

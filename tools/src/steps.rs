@@ -3,8 +3,9 @@
 //! The gate's verdicts do not depend on this; it finds what the words beside a verdict tell. The
 //! records are those of a network that no row refuses.
 
+use crate::groups::{buckets, place_of, Target};
 use crate::widths::Widths;
-use crate::Record;
+use crate::{actions, Record};
 
 /// Port 0 is drop.
 pub const DROP: u8 = 0;
@@ -36,6 +37,50 @@ impl State {
             | switch << (of.h + of.p)
             | port << of.h
             | usize::from(self.header)
+    }
+}
+
+/// A record that takes a frame on: a link, a rule or a miss, or a group that a frame goes through.
+#[derive(Clone, Copy, Debug, PartialEq, Eq)]
+pub struct Carrier {
+    pub place: usize,
+    /// The number, from 1, of the action or the bucket that does, where the record has several.
+    pub part: Option<usize>,
+}
+
+/// A copy that a switch sends of a frame, and what sends it: a rule or a miss, then the groups that
+/// it goes through.
+struct Sent {
+    by: Vec<Carrier>,
+    copy: State,
+}
+
+impl Sent {
+    /// The copy, with one more record before those that send it.
+    fn behind(mut self, carrier: Carrier) -> Sent {
+        self.by.insert(0, carrier);
+        self
+    }
+}
+
+/// A frame within a switch.
+#[derive(Clone, Copy)]
+struct Frame {
+    switch: u8,
+    arrival: u8,
+    header: u8,
+}
+
+impl Frame {
+    /// The frame with the header that a pattern makes of its own.
+    fn set(self, [value, care]: [u8; 2]) -> Frame {
+        Frame { header: self.header & !care | value, ..self }
+    }
+
+    /// A copy of it that departs at a port.
+    fn sent_to(self, port: u8) -> Sent {
+        let point = [self.switch, port];
+        Sent { by: vec![], copy: State { departing: true, point, header: self.header } }
     }
 }
 
@@ -102,33 +147,60 @@ impl<'a> Network<'a> {
             return self.other_end(state.point).map(arrive).into_iter().collect();
         }
         match self.acting(state) {
-            Some(place) => {
-                self.copies(&self.records[place], state).into_iter().map(|(_, copy)| copy).collect()
-            }
+            Some(place) => self.sent(place, state).into_iter().map(|sent| sent.copy).collect(),
             None => vec![],
         }
     }
 
-    /// The copies that a record's actions send of an arriving state, each with its action's number
-    /// from 1.
-    fn copies(&self, record: &Record, state: State) -> Vec<(usize, State)> {
+    /// What the actions of the record at a place send of an arriving state.
+    fn sent(&self, place: usize, state: State) -> Vec<Sent> {
         let [switch, arrival] = state.point;
-        let mut header = state.header;
-        let mut copies = vec![];
-        for (number, action) in (1..).zip(record[9..21].chunks(3)).take(record[8].into()) {
-            let [kind, value, care] = [action[0], action[1], action[2]];
-            let ports = match kind {
-                1 => self.output_ports([value, care], arrival),
-                2 => {
-                    header = header & !care | value;
-                    continue;
+        let mut frame = Frame { switch, arrival, header: state.header };
+        let mut all = vec![];
+        for (number, [kind, value, care]) in (1..).zip(actions(&self.records[place])) {
+            let sent = match kind {
+                1 => {
+                    let ports = self.output_ports([value, care], arrival);
+                    ports.into_iter().map(|port| frame.sent_to(port)).collect()
                 }
-                _ => vec![arrival],
+                2 => {
+                    frame = frame.set([value, care]);
+                    vec![]
+                }
+                3 => vec![frame.sent_to(arrival)],
+                _ => self.sent_by_group(value, frame, &mut vec![]),
             };
-            let copy = |port| (number, State { departing: true, point: [switch, port], header });
-            copies.extend(ports.into_iter().map(copy));
+            let carrier = self.carrier(place, number);
+            all.extend(sent.into_iter().map(|sent| sent.behind(carrier)));
         }
-        copies
+        all
+    }
+
+    /// What a group sends of a frame. Groups that have run with a header are kept, as they would send
+    /// the same again: with 16 groups of three buckets, each of which goes on to the next group, the
+    /// lowest would run 3^15 times.
+    fn sent_by_group(&self, group: u8, frame: Frame, run: &mut Vec<(u8, u8)>) -> Vec<Sent> {
+        let place = place_of(self.records, frame.switch, group);
+        let is_new = !run.contains(&(group, frame.header));
+        let Some(place) = place.filter(|_| is_new) else { return vec![] };
+        run.push((group, frame.header));
+        let mut all = vec![];
+        for (number, bucket) in (1..).zip(buckets(&self.records[place])) {
+            let frame = frame.set(bucket.header);
+            let sent = match bucket.target {
+                Target::Port(port) if port == frame.arrival => vec![],
+                Target::Port(port) => vec![frame.sent_to(port)],
+                Target::Group(lower) => self.sent_by_group(lower, frame, run),
+            };
+            let carrier = self.carrier(place, number);
+            all.extend(sent.into_iter().map(|sent| sent.behind(carrier)));
+        }
+        all
+    }
+
+    /// A record with the action or the bucket of a number, which is told if there are several.
+    fn carrier(&self, place: usize, number: usize) -> Carrier {
+        Carrier { place, part: Some(number).filter(|_| self.records[place][8] > 1) }
     }
 
     /// The ports that an output reaches: never the port of arrival, and by stars ordinary ones only.
@@ -138,17 +210,14 @@ impl<'a> Network<'a> {
         ports.filter(|port| care == last || self.is_ordinary(*port)).collect()
     }
 
-    /// What takes one state to the next: the place of the record, and for a rule or a miss with
-    /// several actions the number of the one that sends the frame there.
-    pub fn carrier(&self, from: State, to: State) -> Option<(usize, Option<usize>)> {
+    /// What takes one state to the next: a link, or a rule or a miss and the groups behind it.
+    pub fn carriers(&self, from: State, to: State) -> Option<Vec<Carrier>> {
         if from.departing {
             let place = self.records.iter().position(|record| ends_at(record, from.point))?;
-            return Some((place, None));
+            return Some(vec![Carrier { place, part: None }]);
         }
-        let place = self.acting(from)?;
-        let copies = self.copies(&self.records[place], from);
-        let (number, _) = copies.into_iter().find(|(_, copy)| *copy == to)?;
-        Some((place, Some(number).filter(|_| self.records[place][8] > 1)))
+        let sent = self.sent(self.acting(from)?, from);
+        sent.into_iter().find(|sent| sent.copy == to).map(|sent| sent.by)
     }
 
     /// Whether one state steps to another.

@@ -128,7 +128,7 @@ fn line_tokens(line: usize, text: &str) -> (Vec<Token<'_>>, Option<Fault>) {
             },
             _ if is_word(first) => rest.find(|c| !is_word(c)).unwrap_or(rest.len()),
             _ if DOUBLE.iter().any(|double| rest.starts_with(double)) => 2,
-            ':' | ';' | ',' | '.' | '-' | '(' | ')' | '!' | '&' | '|' | '=' => 1,
+            ':' | ';' | ',' | '.' | '-' | '/' | '(' | ')' | '!' | '&' | '|' | '=' => 1,
             _ => {
                 let message = format!("`{}` has no meaning here", quoted(&first.to_string()));
                 return (tokens, Some(place.fault(1, message)));

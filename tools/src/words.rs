@@ -207,6 +207,7 @@ impl Teller<'_> {
             2 | 4 => format!("{} {}", kind_words(record[0]), earlier(1)),
             3 => format!("miss of switch {}", record[1]),
             5 => format!("policy {}, node {}", record[1], earlier(2)),
+            9 => format!("group {} of switch {}", record[2], record[1]),
             kind => kind_words(kind),
         };
         match self.source.lines.get(place) {
@@ -234,7 +235,7 @@ impl Teller<'_> {
 
 /// How many policies there are; they are numbered from 0 without gaps.
 fn policies(records: &[Record]) -> usize {
-    let last = records.last().filter(|record| record[0] == 5);
+    let last = records.iter().rfind(|record| record[0] == 5);
     last.map_or(0, |record| usize::from(record[1]) + 1)
 }
 
@@ -252,7 +253,7 @@ pub fn record_words(source: &Source, record: &Record) -> String {
     let names = &source.names;
     let mut words: Vec<String> = vec![];
     for word in text.split(' ') {
-        let (number, sign) = match word.strip_suffix([':', ',']) {
+        let (number, sign) = match word.strip_suffix([':', ',', ';']) {
             Some(number) => (number, &word[number.len()..]),
             None => (word, ""),
         };
@@ -263,6 +264,10 @@ pub fn record_words(source: &Source, record: &Record) -> String {
             }
             (Some("port" | "output"), Ok(port)) => names.port(record[1], port),
             (Some("header" | "set"), Ok(header)) => names.header(header),
+            (Some("group"), Ok(group)) => names.group(record[1], group),
+            (Some("group"), Err(_)) => {
+                format!("{}/{}", names.switch(record[1]), names.group(record[1], record[2]))
+            }
             (Some("link" | "-"), Err(_)) => point_words(names, number),
             _ => number.to_string(),
         };
