@@ -27,7 +27,7 @@ fn main() {
 
 /// The rows of one network.
 fn rows(kind: Kind, switches: usize, flows: usize) {
-    let options = Options::new(switches, flows).expect("a size within the limits");
+    let options = Options::new(switches, flows, 0).expect("a size within the limits");
     let parsed = parse(&generate(kind, options, SEED)).expect("a text without a fault");
     let (records, _) = whole_records(&parsed.bytes);
     let count = |kind: u8| records.iter().filter(|record| record[0] == kind).count();

@@ -31,6 +31,7 @@ fields: `0:1 in header 0` arrives at port 1 of switch 0, and `0:1 out header 0` 
   --dot           route: a picture of it for Graphviz
   --switches N    generate: 2 to 16 switches, 4 if not given
   --flows N       generate: at most 64 random flows, 4 if not given
+  --groups N      generate: rules send through at most N groups, to 16, none if not given
   --seed N        generate: the same seed gives the same network, 0 if not given
   --help, --version
 
@@ -80,7 +81,7 @@ struct Words {
     options: Vec<(String, Option<String>)>,
 }
 
-const VALUED: [&str; 3] = ["--switches", "--flows", "--seed"];
+const VALUED: [&str; 4] = ["--switches", "--flows", "--groups", "--seed"];
 
 /// Reads the arguments.
 pub fn read(arguments: impl IntoIterator<Item = OsString>) -> Result<Call, Trouble> {
@@ -230,8 +231,9 @@ impl Words {
         };
         let switches = self.number("--switches", 4)?;
         let flows = self.number("--flows", 4)?;
+        let groups = self.number("--groups", 0)?;
         let size = |number: u64| usize::try_from(number).unwrap_or(usize::MAX);
-        let options = Options::new(size(switches), size(flows)).map_err(fault)?;
+        let options = Options::new(size(switches), size(flows), size(groups)).map_err(fault)?;
         Ok(Task::Generate { kind, options, seed: self.number("--seed", 0)? })
     }
 

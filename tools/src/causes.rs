@@ -2,7 +2,7 @@
 
 use crate::fields::{field_fault, width_fault};
 use crate::formula::{print_nodes, Node};
-use crate::groups::{buckets, place_of, Target};
+use crate::groups::{buckets, place_of, Target, MOST_GROUPS};
 use crate::steps::DROP;
 use crate::widths::Widths;
 use crate::{actions, Record};
@@ -210,7 +210,11 @@ fn group_cause(records: &[Record], place: usize, at: At) -> Option<Cause> {
     fault
         .or_else(|| absent_cause(records, record))
         .or_else(|| order_cause(records, place, at))
-        .or_else(|| Some("16 groups stand before it, and that is the most".to_string().into()))
+        .or_else(|| {
+            let before = records[..place].iter().filter(|record| record[0] == 9).count();
+            let words = format!("{MOST_GROUPS} groups stand before it, and that is the most");
+            (before >= MOST_GROUPS).then(|| words.into())
+        })
 }
 
 /// Why a group is out of order: the one before it is the same or comes later.

@@ -1,5 +1,6 @@
 //! Networks of three kinds, with shortest routes for random flows, as texts.
 
+use crate::groups::MOST_GROUPS;
 use crate::widths::Widths;
 use std::fmt::Write;
 
@@ -46,18 +47,22 @@ const MOST_HOPS: usize = 7;
 pub struct Options {
     switches: usize,
     flows: usize,
+    groups: usize,
 }
 
 impl Options {
-    /// So many switches (2 to 16) and flows (at most 64).
-    pub fn new(switches: usize, flows: usize) -> Result<Options, String> {
+    /// So many switches (2 to 16), flows (at most 64) and groups (at most 16).
+    pub fn new(switches: usize, flows: usize, groups: usize) -> Result<Options, String> {
         if !(2..=16).contains(&switches) {
             return Err(format!("the number of switches is 2 to 16, not {switches}"));
         }
         if flows > 64 {
             return Err(format!("the number of flows is at most 64, not {flows}"));
         }
-        Ok(Options { switches, flows })
+        if groups > MOST_GROUPS {
+            return Err(format!("the number of groups is at most {MOST_GROUPS}, not {groups}"));
+        }
+        Ok(Options { switches, flows, groups })
     }
 
     /// The widths: as many switches, and if they fit as many headers as there are flows.
@@ -84,7 +89,7 @@ pub fn generate(kind: Kind, options: Options, seed: u64) -> String {
         graph.switches,
         flows.len()
     );
-    graph.text(&title, of, &flows)
+    graph.text(&title, of, &flows, options.groups)
 }
 
 /// splitmix64
@@ -105,6 +110,9 @@ impl Random {
         from[self.below(from.len())]
     }
 }
+
+/// A switch and a port of it.
+type Point = [usize; 2];
 
 /// Switches, which of them have hosts, and links between two switches.
 struct Graph {
@@ -237,7 +245,9 @@ impl Graph {
         place + if switch < self.hosts { HOST + 1 } else { 1 }
     }
 
-    fn text(&self, title: &str, of: Widths, flows: &[Flow]) -> String {
+    /// The network as a text. The first ports that rules send to, as many as there are groups, have a
+    /// group each, and the rules send through it.
+    fn text(&self, title: &str, of: Widths, flows: &[Flow], groups: usize) -> String {
         let mut text =
             format!("{title} Port {HOST} of switches 0 to {} is a host's.\n", self.hosts - 1);
         let Widths { h, p, w } = of;
@@ -250,7 +260,13 @@ impl Graph {
         for switch in 0..1 << w {
             line(format!("miss {switch}: output drop"));
         }
-        let mut rules: Vec<String> = flows.iter().flat_map(|flow| flow.rules(self)).collect();
+        let sent = |flow: &Flow| flow.sent(self);
+        let mut grouped: Vec<Point> = flows.iter().flat_map(sent).collect();
+        grouped.sort();
+        grouped.dedup();
+        grouped.truncate(groups);
+        let rule = |flow: &Flow| flow.rules(self, &grouped);
+        let mut rules: Vec<String> = flows.iter().flat_map(rule).collect();
         rules.sort();
         rules.dedup();
         rules.into_iter().for_each(&mut line);
@@ -261,8 +277,19 @@ impl Graph {
             let hops = if longest == 1 { "hop" } else { "hops" };
             line(format!("policy 2: no route of more than {longest} {hops}"));
         }
+        for point in &grouped {
+            let [switch, port] = point;
+            let number = group_of(&grouped, *point).unwrap_or_default();
+            line(format!("group {switch}/{number}: output {port}"));
+        }
         text
     }
+}
+
+/// The number of the group that sends to a point, if it has one: a switch's groups are numbered from 0.
+fn group_of(grouped: &[Point], point: Point) -> Option<usize> {
+    let mut mine = grouped.iter().filter(|[switch, _]| *switch == point[0]);
+    mine.position(|other| *other == point)
 }
 
 /// The switches from one to another.
@@ -289,15 +316,24 @@ impl Flow {
         self.header != other.header || self.route.iter().all(same)
     }
 
-    fn rules(&self, graph: &Graph) -> Vec<String> {
-        let rule = |switch: &usize| {
-            let port = match self.next(*switch) {
-                Some(Some(next)) => graph.port(*switch, next),
-                _ => HOST,
-            };
-            let header = self.header;
-            format!("rule {switch} priority 10 header {header}: output {port}")
+    /// The switches of the route, each with the port to which it sends.
+    fn sent(&self, graph: &Graph) -> Vec<Point> {
+        let point = |switch: &usize| match self.next(*switch) {
+            Some(Some(next)) => [*switch, graph.port(*switch, next).into()],
+            _ => [*switch, HOST.into()],
         };
-        self.route.iter().map(rule).collect()
+        self.route.iter().map(point).collect()
+    }
+
+    fn rules(&self, graph: &Graph, grouped: &[Point]) -> Vec<String> {
+        let rule = |point: Point| {
+            let [switch, port] = point;
+            let action = match group_of(grouped, point) {
+                Some(number) => format!("group {number}"),
+                None => format!("output {port}"),
+            };
+            format!("rule {switch} priority 10 header {}: {action}", self.header)
+        };
+        self.sent(graph).into_iter().map(rule).collect()
     }
 }

@@ -6,6 +6,9 @@ use crate::Record;
 /// The highest number of a group.
 pub const LAST_GROUP: u8 = 15;
 
+/// The most groups of a network.
+pub const MOST_GROUPS: usize = 16;
+
 /// The most buckets of a group.
 pub const MOST_BUCKETS: usize = 3;
 

@@ -2,14 +2,14 @@
 
 mod common;
 
-use common::parsed;
+use common::{parsed, with_policies};
 use wegbaro_tests::formulas::{
     all, and, bit, external, not, or, policy, r, random_formula, some, tc, Node, X, Y,
 };
 use wegbaro_tests::gate::{Checked, Gate, STORE};
 use wegbaro_tests::k::{delete_d, dropping_add, first_add, k, rule_d, second_add, setting_add};
 use wegbaro_tests::library::{program, Library};
-use wegbaro_tests::networks::{random_network, work_needed, Sizes, Widths};
+use wegbaro_tests::networks::{random_network, work_needed, Sizes, Widths, MODEST};
 use wegbaro_tests::random::Random;
 use wegbaro_tests::records::Record;
 use wegbaro_tools::formula::print_formula;
@@ -109,14 +109,14 @@ fn check(records: &[Record]) -> Checked {
 #[test]
 fn printed_formulas_mean_the_same() {
     let mut random = Random::new(7);
-    let most = Sizes { links: 2, rules: 6, policies: 0, nodes: 0 };
+    let most = Sizes { links: 2, rules: 6, policies: 0, nodes: 0, ..MODEST };
     let [mut held, mut violated] = [0, 0];
     for _ in 0..600 {
         let network = random_network(&mut random, Widths { h: 1, p: 2, w: 1 }, most);
         let length = 1 + random.below(14);
         let nodes = random_formula(&mut random, 5, length);
         let Some(formula) = print_formula(&nodes) else { continue };
-        let judged = |nodes: &[Node]| check(&[network.clone(), policy(0, nodes)].concat());
+        let judged = |nodes: &[Node]| check(&with_policies(&network, &policy(0, nodes)));
         let answer = judged(&nodes);
         assert_eq!(judged(&compiled(&formula)), answer, "{formula}");
         match answer {

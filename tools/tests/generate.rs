@@ -9,9 +9,14 @@ use wegbaro_tests::networks::work_needed;
 use wegbaro_tests::records::Record;
 use wegbaro_tools::generate::{generate, Kind, Options};
 use wegbaro_tools::print::whole_records;
+use wegbaro_tools::steps::{Network, State};
 
 fn text(kind: Kind, switches: usize, flows: usize, seed: u64) -> String {
-    generate(kind, Options::new(switches, flows).unwrap(), seed)
+    with_groups(kind, switches, 0, flows, seed)
+}
+
+fn with_groups(kind: Kind, switches: usize, groups: usize, flows: usize, seed: u64) -> String {
+    generate(kind, Options::new(switches, flows, groups).unwrap(), seed)
 }
 
 fn records(text: &str) -> Vec<Record> {
@@ -36,6 +41,35 @@ fn networks_of_every_size_hold() {
             assert!(records.iter().any(|record| record[0] == 4), "{text}");
             assert!(records[0][1..4].iter().sum::<u8>() < 10);
             assert_eq!(check(&records), Checked::Holds, "{text}");
+        }
+    }
+}
+
+/// The groups of a network, and the rules that send through one.
+fn grouped(records: &[Record]) -> [usize; 2] {
+    let groups = records.iter().filter(|record| record[0] == 9).count();
+    let through = records.iter().filter(|record| record[0] == 4 && record[9] == 4).count();
+    [groups, through]
+}
+
+/// Rules that send through groups take every state where they take it without.
+#[test]
+fn groups_change_no_step() {
+    for kind in Kind::ALL {
+        let plain = records(&text(kind, 8, 12, 3));
+        assert_eq!(grouped(&plain), [0, 0]);
+        let without = Network::new(&plain).unwrap();
+        for groups in [1, 5, 16] {
+            let text = with_groups(kind, 8, groups, 12, 3);
+            let through = records(&text);
+            let [count, rules] = grouped(&through);
+            assert!(count == groups && rules >= groups, "{text}");
+            let with = Network::new(&through).unwrap();
+            for number in 0..with.states() {
+                let state = State::numbered(number, with.widths);
+                assert_eq!(with.next(state), without.next(state), "state {number} of {text}");
+            }
+            assert_eq!(check(&through), Checked::Holds, "{text}");
         }
     }
 }
@@ -84,7 +118,7 @@ fn shapes() {
 
 #[test]
 fn options_out_of_range() {
-    for (switches, flows) in [(1, 1), (17, 1), (2, 65)] {
-        assert!(Options::new(switches, flows).is_err());
+    for (switches, flows, groups) in [(1, 1, 0), (17, 1, 0), (2, 65, 0), (2, 1, 17)] {
+        assert!(Options::new(switches, flows, groups).is_err());
     }
 }

@@ -1,6 +1,9 @@
 //! What the words beside an answer are made of, held against the library and the second
 //! implementation.
 
+mod common;
+
+use common::with_policies;
 use wegbaro::{check, command, work_bytes, Gate, Refusal, STORE_BYTES};
 use wegbaro_tests::commands::random_command;
 use wegbaro_tests::damage::damage;
@@ -25,7 +28,7 @@ use wegbaro_tools::Record;
 const SMALL: Widths = Widths { h: 1, p: 2, w: 1 };
 /// One switch, so that formulas have room for every bit of two states.
 const ONE: Widths = Widths { h: 1, p: 2, w: 0 };
-const BARE: Sizes = Sizes { links: 3, rules: 8, policies: 0, nodes: 0 };
+const BARE: Sizes = Sizes { links: 3, rules: 8, policies: 0, nodes: 0, ..MODEST };
 
 fn network(records: &[Record]) -> Network<'_> {
     Network::new(records).unwrap()
@@ -124,7 +127,7 @@ fn truth_is_that_of_the_second_implementation() {
         let nodes = random_formula(&mut random, of.bits(), length);
         let truth = Truth::of(network(&bare), &nodes);
         let ours = (0..1 << of.bits()).find(|state| truth.breaks(*state));
-        assert_eq!(ours, lowest(&[bare.clone(), policy(0, &nodes)].concat()), "{nodes:?}");
+        assert_eq!(ours, lowest(&with_policies(&bare, &policy(0, &nodes))), "{nodes:?}");
         match ours {
             Some(_) => broken += 1,
             None => held += 1,
@@ -166,7 +169,7 @@ fn is_true(bare: &[Record], nodes: &[Node], x: usize, y: usize) -> bool {
     let there = push(&mut nodes, some(both, Y));
     let is_x = push_is_state(&mut nodes, 0, x, bits);
     push(&mut nodes, and(there, is_x));
-    lowest(&[bare, &policy(0, &nodes)].concat()) == Some(x)
+    lowest(&with_policies(bare, &policy(0, &nodes))) == Some(x)
 }
 
 /// With `A & exists Y. B` the witness is the lowest Y that makes B true with the state.
@@ -292,8 +295,8 @@ fn the_book_goes_with_the_gate() {
 #[test]
 fn every_refusal_has_a_cause() {
     let mut random = Random::new(7);
-    let mut seen = [0; 14];
-    let mut words: Vec<Vec<String>> = vec![vec![]; 14];
+    let mut seen = [0; 17];
+    let mut words: Vec<Vec<String>> = vec![vec![]; 17];
     let mut count = |refusal: Refusal, cause: Option<wegbaro_tools::causes::Cause>, of: &str| {
         let Some(cause) = cause else { panic!("{refusal} without a cause: {of}") };
         seen[refusal.row] += 1;

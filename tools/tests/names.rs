@@ -114,7 +114,7 @@ fn names_that_do_not_fit() {
     }
     fault(
         "name rule 0 first",
-        "column 6: expected `switch`, `port` or `header`, found `rule`",
+        "column 6: expected `switch`, `port`, `header` or `group`, found `rule`",
         None,
     );
     fault("policy 0 \"\": E(X)", "column 10: a policy's name has 1 to 60 characters", None);

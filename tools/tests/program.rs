@@ -103,8 +103,10 @@ fn run_judges_the_commands_too() {
     let cut = [&k_and_adds()[..], &[6, 0]].concat();
     expect(&["run", "--gate", "-"], &cut, 2, &format!("{K_LINES}end short\n"));
     // A command that no text can say is refused by a row, and the next is judged.
-    let strange = [k(), vec![[9; 24], second_add()]].concat().concat();
+    let strange = [k(), vec![[10; 24], second_add()]].concat().concat();
     expect(&["run", "--gate", "-"], &strange[..21 * 24], 1, "start refused 3 20\n");
+    let strange = [k(), vec![[9; 24], second_add()]].concat().concat();
+    expect(&["run", "--gate", "-"], &strange, 1, "start refused 16 20\n");
     let strange = [k(), vec![second_add(), [9; 24], second_add()]].concat().concat();
     let words = "start holds\n1 forwarded 21\n2 refused 12 0\n3 forwarded 21\n";
     expect(&["run", "--gate", "-"], &strange, 1, words);

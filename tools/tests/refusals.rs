@@ -1,7 +1,9 @@
 //! Each row in words: which of its causes it is, and the other line or record.
 
+mod common;
 mod running;
 
+use common::group;
 use running::{expect, wegbaro};
 use wegbaro::Refusal;
 use wegbaro_tests::formulas::{and, bit, external, not, policy, r, some, tc, Node, X, Y};
@@ -35,7 +37,7 @@ fn k_refused(changes: &[(usize, usize, u8)], words: &str) {
 #[test]
 fn row_1() {
     refused(&[], "1, there are no records");
-    refused(&vec![[1; 24]; 642], "1, there are more than 641 records");
+    refused(&vec![[1; 24]; 658], "1, there are more than 657 records");
 }
 
 /// The store is always long enough here; the row's meaning is told.
@@ -44,7 +46,7 @@ fn row_2() {
     let source = Source::default();
     let teller = Teller { source: &source, form: Form::Words, work: None };
     let answer = Answer::Start(Err(Refusal { row: 2, place: 0 }));
-    let words = "start: refused: row 2, the store has fewer than 15,384 bytes\n";
+    let words = "start: refused: row 2, the store has fewer than 15,768 bytes\n";
     assert_eq!(teller.tell(&Book::default(), &answer), words);
 }
 
@@ -53,13 +55,19 @@ fn row_3() {
     let first =
         "3, the first record is a miss, and must be the widths, at record 0 (miss of switch 0)";
     refused(&one()[1..], first);
-    k_refused(&[(0, 0, 0)], "3, its kind is 0, and kinds are 1 to 5, at record 0 (kind 0)");
-    k_refused(&[(19, 0, 9)], "3, its kind is 9, and kinds are 1 to 5, at record 19 (kind 9)");
+    let kinds = "and kinds are 1 to 5 and 9";
+    k_refused(&[(0, 0, 0)], &format!("3, its kind is 0, {kinds}, at record 0 (kind 0)"));
+    k_refused(&[(19, 0, 8)], &format!("3, its kind is 8, {kinds}, at record 19 (delete)"));
+    k_refused(&[(19, 0, 10)], &format!("3, its kind is 10, {kinds}, at record 19 (kind 10)"));
     let twice = "3, the widths are there already, record 0, at record 1 (widths)";
     refused(&[widths(1, 2, 0), widths(1, 2, 0)], twice);
     refused_text(
         "# one switch\nwidths H 1 P 2 W 0\nmiss 0: output drop\nlink 0:1 - 0:2\n",
         "3, a link stands after a miss (line 3), at record 2 (link 0), line 4",
+    );
+    refused_text(
+        "widths H 1 P 2 W 0\nmiss 0: output drop\ngroup 0/0: output 1\npolicy 0: no loops\n",
+        "3, a policy stands after a group (line 3), at record 3 (policy 0, node 0), line 4",
     );
 }
 
@@ -117,19 +125,22 @@ fn row_5_in_actions_and_nodes() {
     let out = output(1, 3);
     actions(&[out], (8, 0), "the action count is 0, and must be 1 to 4");
     actions(&[out], (8, 5), "the action count is 5, and must be 1 to 4");
-    for kind in [0, 4, 7, 255] {
-        let words = format!("action 1 has kind {kind}, not 1 (output), 2 (set) or 3 (in_port)");
-        actions(&[out], (9, kind), &words);
+    for kind in [0, 5, 7, 255] {
+        let kinds = "not 1 (output), 2 (set), 3 (in_port) or 4 (group)";
+        actions(&[out], (9, kind), &format!("action 1 has kind {kind}, {kinds}"));
     }
     actions(&[out], (11, 4), "action 1 has care 4, which does not fit its width 2");
     actions(&[out], (10, 4), "action 1 has value 4, with a bit that care 3 leaves open");
     actions(&[out], (12, 1), "byte 12 is 1, and must be zero");
-    let last = "action 2, the last one, is neither an output nor in_port";
+    let last = "action 2, the last one, is a set, and sends nothing";
     actions(&[out, set(1, 1)], (8, 2), last);
     actions(&[IN_PORT, set(1, 1)], (8, 2), last);
     let zero = "where it must be zero";
     actions(&[IN_PORT], (10, 2), &format!("action 1 is in_port, and its value is 2, {zero}"));
     actions(&[IN_PORT], (11, 1), &format!("action 1 is in_port, and its care is 1, {zero}"));
+    let care = format!("action 1 is a group, and its care is 3, {zero}");
+    actions(&[[4, 2, 3]], (8, 1), &care);
+    actions(&[[4, 16, 0]], (8, 1), "action 1 is group 16, and the last is 15");
     let second = format!("action 2 is in_port, and its value is 1, {zero}");
     actions(&[out, [3, 1, 3], out], (8, 3), &second);
     actions(&[set(1, 3), out], (8, 2), "action 1 has care 3, which does not fit its width 1");
@@ -180,6 +191,10 @@ fn row_7() {
     refused_text(
         "widths H 1 P 2 W 1\nmiss 0: output drop\nrule 0 priority 1: output drop\n",
         "7, switch 1 has no miss, at record 2 (rule 0), line 3",
+    );
+    refused_text(
+        "widths H 1 P 2 W 1\nmiss 0: output drop\ngroup 0/0: output drop\n",
+        "7, switch 1 has no miss, at record 2 (group 0 of switch 0), line 3",
     );
     refused_text(
         "widths H 1 P 2 W 1\nmiss 0: output drop\nmiss 0: output drop\n",
@@ -240,6 +255,10 @@ fn row_9() {
         &[policy(0, &[bit(Y, 0)]), policy(1, &[external(X)])],
         "Y is free at `BIT Y 0`, the policy's last node, at record 2 (policy 0, node 0)",
     );
+    wrong(
+        &[policy(0, &[bit(Y, 0)]), vec![group(0, 0, &[[0, 0, 1, 1]])]],
+        "Y is free at `BIT Y 0`, the policy's last node, at record 2 (policy 0, node 0)",
+    );
 }
 
 #[test]
@@ -256,28 +275,145 @@ fn row_10() {
     refused(&[one(), policy(0, &[external(X); 33])].concat(), words);
 }
 
-/// Checks what is said of a command that row 12 refuses.
-fn refused_command(command: Record, words: &str) {
+#[test]
+fn row_16_in_the_fields_of_a_group() {
+    let wrong = |group: Record, words: &str| {
+        let place = format!("at record 2 (group {} of switch {})", group[2], group[1]);
+        refused(&[one(), vec![group]].concat(), &format!("16, {words}, {place}"));
+    };
+    let to_port = [0, 0, 1, 2];
+    let sound = group(0, 3, &[to_port, [1, 1, 1, 0]]);
+    expect(
+        &["check", "-"],
+        &[one(), vec![sound]].concat().concat(),
+        0,
+        "start: the network holds, as it has no policies\n",
+    );
+    wrong(with(sound, 1, 1), "there is no switch 1, the last is 0");
+    wrong(with(sound, 2, 16), "there is no group 16, the last is 15");
+    for byte in [3, 5, 7, 17, 20, 21, 23] {
+        wrong(with(sound, byte, 9), &format!("byte {byte} is 9, and must be zero"));
+    }
+    for count in [0, 4, 255] {
+        let words = format!("the bucket count is {count}, and must be 1 to 3");
+        wrong(with(sound, 8, count), &words);
+    }
+    let third = "bucket 3 has target kind 0, not 1 (port) or 2 (group)";
+    wrong(with(sound, 8, 3), third);
+    wrong(with(sound, 8, 1), "byte 13 is 1, and must be zero");
+    wrong(with(sound, 9, 1), "bucket 1 has value 1, with a bit that care 0 leaves open");
+    wrong(with(sound, 14, 2), "bucket 2 has care 2, which does not fit its width 1");
+    for kind in [0, 3, 255] {
+        let words = format!("bucket 1 has target kind {kind}, not 1 (port) or 2 (group)");
+        wrong(with(sound, 11, kind), &words);
+    }
+    wrong(with(sound, 12, 4), "bucket 1 sends to port 4, and the last is 3");
+    for target in [3, 4, 15, 16, 255] {
+        let words = format!("bucket 2 goes on to group {target}, which is not below its own, 3");
+        wrong(group(0, 3, &[to_port, [0, 0, 2, target]]), &words);
+    }
+    wrong(
+        group(0, 3, &[to_port, [0, 0, 2, 2]]),
+        "bucket 2 is group 2, which switch 0 does not have",
+    );
+}
+
+/// Two switches with a miss each; line 4 is the first behind them.
+const TWO: &str = "widths H 1 P 2 W 1\nmiss 0: output drop\nmiss 1: output drop\n";
+
+#[test]
+fn row_16_between_records() {
+    let wrong = |statements: &str, words: &str| {
+        refused_text(&format!("{TWO}{statements}"), &format!("16, {words}"));
+    };
+    wrong(
+        "group 0/2: output 1\ngroup 0/2: output 2\n",
+        "group 2 of switch 0 is there already, line 4, at record 4 (group 2 of switch 0), line 5",
+    );
+    wrong(
+        "group 0/2: output 1\ngroup 1/0: output 1\ngroup 0/2: output 2\n",
+        "group 2 of switch 0 is there already, line 4, at record 5 (group 2 of switch 0), line 6",
+    );
+    wrong(
+        "group 0/2: output 1\ngroup 0/1: output 2\n",
+        "group 1 of switch 0 comes before group 2 of switch 0 (line 4), at record 4 (group 1 of \
+         switch 0), line 5",
+    );
+    wrong(
+        "group 1/0: output 1\ngroup 0/1: output 2\n",
+        "group 1 of switch 0 comes before group 0 of switch 1 (line 4), at record 4 (group 1 of \
+         switch 0), line 5",
+    );
+    wrong(
+        "group 0/2: output 1; group 1\ngroup 1/1: output 1\n",
+        "bucket 2 is group 1, which switch 0 does not have, at record 3 (group 2 of switch 0), line 4",
+    );
+    wrong(
+        "rule 0 priority 1: set 1, group 4, group 5\ngroup 0/4: output 1\ngroup 1/5: output 1\n",
+        "action 3 is group 5, which switch 0 does not have, at record 3 (rule 0), line 4",
+    );
+    refused_text(
+        "widths H 1 P 2 W 0\nmiss 0: group 0\n",
+        "16, action 1 is group 0, which switch 0 does not have, at record 1 (miss of switch 0), \
+         line 2",
+    );
+    let first: String = (0..16).map(|number| format!("group 0/{number}: output 1\n")).collect();
+    wrong(
+        &format!("{first}group 1/0: output 1\n"),
+        "16 groups stand before it, and that is the most, at record 19 (group 0 of switch 1), \
+         line 20",
+    );
+    // As objects, with the other record and its line.
+    let twice = format!("{TWO}group 0/2: output 1\ngroup 0/2: output 2\n");
+    let object = r#"{"subject":"start","answer":"refused","row":16,"place":4,"cause":"group 2 of switch 0 is there already, line 4","line":5,"other":3,"other_line":4}"#;
+    expect(&["check", "--json", "-"], twice.as_bytes(), 1, &format!("{object}\n"));
+}
+
+/// Checks what is said of a command to K that a row refuses.
+fn refused_command(row: usize, command: Record, words: &str) {
     // A delete of nothing comes first, so that a command of any kind is a command.
     let nothing = record(&[8]);
     let ran = wegbaro(&["run", "-"], &[k(), vec![nothing, command]].concat().concat());
     let line = ran.text().lines().last().unwrap();
-    assert!(line.ends_with(&format!(": refused: row 12, {words}")), "{line}");
+    assert!(line.ends_with(&format!(": refused: row {row}, {words}")), "{line}");
+}
+
+#[test]
+fn row_16_in_a_command() {
+    let add = add(rule(1, 1, ANY, ANY, &[output(1, 3), [4, 9, 0]]));
+    let words = "action 2 is group 9, which switch 1 does not have";
+    refused_command(16, add, words);
+    refused_command(16, with(add, 0, 7), words);
+    refused_command(12, with(add, 13, 16), "action 2 is group 16, and the last is 15");
+    let zero = "where it must be zero";
+    refused_command(
+        12,
+        with(add, 14, 3),
+        &format!("action 2 is a group, and its care is 3, {zero}"),
+    );
+    let text = format!("{TWO}group 0/9: output 1\nadd 1 priority 1: group 9\n");
+    let line = "command 1 (add 1 priority 1 port ** header *: group 9), line 5: refused: row 16, \
+                action 1 is group 9, which switch 1 does not have\n";
+    let start = "start: the network holds, as it has no policies\n";
+    expect(&["run", "-"], text.as_bytes(), 1, &format!("{start}{line}"));
+    expect(&["run", "--gate", "-"], text.as_bytes(), 1, "start holds\n1 refused 16 0\n");
 }
 
 #[test]
 fn row_12() {
     let add = add(rule(0, 1, ANY, ANY, &[output(1, 3)]));
     refused_command(
+        12,
         with(add, 0, 4),
         "its kind is 4, and a command's is 6 (add), 7 (modify) or 8 (delete)",
     );
-    refused_command(with(add, 1, 2), "there is no switch 2, the last is 1");
-    refused_command(with(add, 8, 0), "the action count is 0, and must be 1 to 4");
+    refused_command(12, with(add, 1, 2), "there is no switch 2, the last is 1");
+    refused_command(12, with(add, 8, 0), "the action count is 0, and must be 1 to 4");
     refused_command(
+        12,
         with(add, 9, 3),
         "action 1 is in_port, and its value is 1, where it must be zero",
     );
-    refused_command(with(add, 0, 8), "byte 8 is 1, and must be zero");
-    refused_command(with(with(add, 0, 7), 23, 5), "byte 23 is 5, and must be zero");
+    refused_command(12, with(add, 0, 8), "byte 8 is 1, and must be zero");
+    refused_command(12, with(with(add, 0, 7), 23, 5), "byte 23 is 5, and must be zero");
 }

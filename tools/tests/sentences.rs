@@ -2,10 +2,10 @@
 
 mod common;
 
-use common::parsed;
+use common::{parsed, with_policies};
 use wegbaro_tests::formulas::policy;
-use wegbaro_tests::gate::Checked;
-use wegbaro_tests::networks::{random_network, work_needed, Sizes, Widths};
+use wegbaro_tests::gate::{Checked, STORE};
+use wegbaro_tests::networks::{random_network, work_needed, Sizes, Widths, MODEST};
 use wegbaro_tests::random::Random;
 use wegbaro_tests::records::Record;
 use wegbaro_tests::second;
@@ -33,8 +33,10 @@ fn sentences() -> Vec<(String, String)> {
 
 /// The records of a network with one policy more, unless the policy says nothing of it.
 fn with_policy(network: &[Record], policy: &str) -> Option<Vec<Record>> {
-    let text = format!("{}policy 0: {policy}\n", print(&network.concat()));
-    match parse(&text) {
+    let text = print(&network.concat());
+    let groups = text.find("\ngroup ").unwrap_or(text.len());
+    let (before, groups) = text.split_at(groups);
+    match parse(&format!("{before}\npolicy 0: {policy}\n{groups}")) {
         Ok(parsed) => Some(whole_records(&parsed.bytes).0),
         Err(faults) => {
             let message = &faults[0].message;
@@ -46,7 +48,7 @@ fn with_policy(network: &[Record], policy: &str) -> Option<Vec<Record>> {
 
 fn check(records: &[Record]) -> Checked {
     let mut store = records.concat();
-    store.resize(15_384, 0);
+    store.resize(STORE, 0);
     second::check(&store, records.len(), &mut vec![0; work_needed(records)])
 }
 
@@ -56,7 +58,7 @@ fn every_sentence_is_its_formula() {
     assert_eq!(sentences.len(), 15);
     let mut random = Random::new(1);
     let of = Widths { h: 1, p: 2, w: 2 };
-    let most = Sizes { links: 3, rules: 10, policies: 0, nodes: 0 };
+    let most = Sizes { links: 3, rules: 10, policies: 0, nodes: 0, ..MODEST };
     for (sentence, formula) in sentences {
         let [mut held, mut violated] = [0, 0];
         while held < 4 || violated < 4 {
@@ -80,7 +82,7 @@ fn both_forms_of_a_sentence() {
     let mut random = Random::new(3);
     let of = Widths { h: 1, p: 2, w: 2 };
     let wide = Wide { h: 1, p: 2, w: 2 };
-    let most = Sizes { links: 4, rules: 12, policies: 0, nodes: 0 };
+    let most = Sizes { links: 4, rules: 12, policies: 0, nodes: 0, ..MODEST };
     let sentences = [
         "what enters at 0:1 with header 1 reaches 3:2",
         "what enters at 0:1, 1:1 reaches switch 2",
@@ -99,7 +101,7 @@ fn both_forms_of_a_sentence() {
             let forms = read_sentence(&mut reader, &mut statements(sentence)[0], wide);
             let answers: Vec<Checked> = (forms.unwrap().unwrap().iter())
                 .map(|form| match compile(form, wide) {
-                    Compiled::One(nodes, _) => check(&[&network[..], &policy(0, &nodes)].concat()),
+                    Compiled::One(nodes, _) => check(&with_policies(&network, &policy(0, &nodes))),
                     other => panic!("{other:?} for {sentence}"),
                 })
                 .collect();

@@ -1,10 +1,13 @@
 //! Compiled formulas have the truth of the formula as written, which is worked out here from the
 //! fields of the states.
 
+mod common;
+
+use common::with_policies;
 use std::collections::BTreeMap;
 use wegbaro_tests::formulas::policy;
-use wegbaro_tests::gate::Checked;
-use wegbaro_tests::networks::{all_widths, random_network, work_needed, Sizes, Widths};
+use wegbaro_tests::gate::{Checked, STORE};
+use wegbaro_tests::networks::{all_widths, random_network, work_needed, Sizes, Widths, MODEST};
 use wegbaro_tests::random::Random;
 use wegbaro_tests::records::Record;
 use wegbaro_tests::second;
@@ -298,7 +301,7 @@ fn read(formula: &str, of: Widths) -> Written {
     read.unwrap_or_else(|fault| panic!("{}", fault.show("formula", formula)))
 }
 
-const SIZES: Sizes = Sizes { links: 4, rules: 8, policies: 0, nodes: 0 };
+const SIZES: Sizes = Sizes { links: 4, rules: 8, policies: 0, nodes: 0, ..MODEST };
 
 /// How often each outcome was met.
 type Counts = BTreeMap<&'static str, usize>;
@@ -436,9 +439,9 @@ fn the_lowest_state_of_a_policy() {
         let world = World::new(&network);
         let truth = world.truth(&tree);
         let lowest = (0..world.states).find(|state| truth[state * world.states]);
-        let records = [network, policy(0, &nodes)].concat();
+        let records = with_policies(&network, &policy(0, &nodes));
         let mut store = records.concat();
-        store.resize(15_384, 0);
+        store.resize(STORE, 0);
         let checked = second::check(&store, records.len(), &mut vec![0; work_needed(&records)]);
         match lowest {
             Some(state) => assert_eq!(checked, Checked::Violated { policy: 0, state }, "{formula}"),
