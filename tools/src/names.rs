@@ -107,6 +107,11 @@ impl Names {
         self.given.keys().map(String::as_str)
     }
 
+    /// Every name given to a group.
+    pub fn groups(&self) -> impl Iterator<Item = &str> {
+        self.all().filter(|name| matches!(self.named(name), Some(Named::Groups(_))))
+    }
+
     pub(crate) fn give(&mut self, name: &str, named: Named, line: usize) {
         let (before, _) =
             self.given.entry(name.to_string()).or_insert_with(|| (named.clone(), line));

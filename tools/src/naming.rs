@@ -225,7 +225,7 @@ impl Reader {
             return Ok(*group);
         }
         let read = statement.byte("a group", LAST_GROUP);
-        read.map_err(|fault| self.with_nearest(statement, fault))
+        read.map_err(|fault| fault.with_nearest(token.text, self.names.groups()))
     }
 
     /// Value and care of a switch: a number, a name, or a pattern with a star.

@@ -6,7 +6,7 @@ use wegbaro_tools::parse::{expand, parse, Parsed, MOST_FAULTS};
 use wegbaro_tools::print::print;
 
 /// Words put in where they do not belong.
-const WORDS: [&str; 30] = [
+const WORDS: [&str; 34] = [
     "policy",
     "0",
     "1",
@@ -37,6 +37,10 @@ const WORDS: [&str; 30] = [
     "bytes 05 00",
     "in_port",
     ", in_port",
+    "group 0/1: output 1; set 1, output 2\n",
+    "group",
+    "; group 1",
+    ", group 1",
 ];
 
 /// The text with a piece taken out, put in, or said twice.

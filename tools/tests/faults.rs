@@ -23,8 +23,8 @@ fn second_line(statement: &str, message: &str) {
 fn statements() {
     fault(
         "# K\nwidth H 1",
-        "line 2, column 1: expected a statement (widths, name, ward, link, miss, rule, policy, add, \
-         modify, delete or bytes), found `width`",
+        "line 2, column 1: expected a statement (widths, name, ward, link, miss, rule, policy, \
+         group, add, modify, delete or bytes), found `width`",
     );
     fault("link 0:1 - 0:2", "line 1, column 1: expected `widths` before this statement");
     fault("widths H 1 P 2", "line 1, column 15: expected `W`, found the end of the statement");
@@ -42,7 +42,8 @@ fn statements() {
     );
     second_line(
         "miss 0:\n  # more\n  outpt 0",
-        "line 4, column 3: expected an action (`output`, `set` or `in_port`), found `outpt`",
+        "line 4, column 3: expected an action (`output`, `set`, `in_port` or `group`), found \
+         `outpt`",
     );
     second_line(
         "bytes 06 1",
@@ -91,11 +92,11 @@ fn rules_and_commands() {
     );
     second_line(
         "modify 0 priority 1: output 1, set 1*",
-        "line 2, column 32: the last action must be `output` or `in_port`",
+        "line 2, column 32: the last action must be `output`, `in_port` or `group`",
     );
     second_line(
         "miss 0: in_port, set 1",
-        "line 2, column 18: the last action must be `output` or `in_port`",
+        "line 2, column 18: the last action must be `output`, `in_port` or `group`",
     );
     second_line(
         "miss 0: output 1, in_port 1",
@@ -119,6 +120,73 @@ fn rules_and_commands() {
         "widths H 2 P 4 W 1\nmiss 0: output 010",
         "line 2, column 16: expected a port pattern (0, 1 or *, 4 long) or a number \
          to 15, found `010`",
+    );
+}
+
+#[test]
+fn groups() {
+    second_line("group 0", "line 2, column 8: expected `/`, found the end of the statement");
+    second_line("group 0:1: output 1", "line 2, column 8: expected `/`, found `:`");
+    second_line("group 2/1: output 1", "line 2, column 7: expected a switch (0 to 1), found `2`");
+    second_line("group 0/16: output 1", "line 2, column 9: expected a group (0 to 15), found `16`");
+    second_line("group 0/01: output 1", "line 2, column 9: expected a group (0 to 15), found `01`");
+    second_line("group 0/1 output 1", "line 2, column 11: expected `:`, found `output`");
+    let bucket = "expected a bucket (`set`, `output` or `group`), found";
+    second_line("group 0/1:", &format!("line 2, column 11: {bucket} the end of the statement"));
+    second_line(
+        "group 0/1: output 1;",
+        &format!("line 2, column 21: {bucket} the end of the statement"),
+    );
+    second_line("group 0/1: set 1, set 1, output 1", &format!("line 2, column 19: {bucket} `set`"));
+    second_line("group 0/1: in_port", &format!("line 2, column 12: {bucket} `in_port`"));
+    second_line(
+        "group 0/1: set 1*",
+        "line 2, column 18: expected `,`, found the end of the statement",
+    );
+    second_line("group 0/1: set 1*; output 1", "line 2, column 18: expected `,`, found `;`");
+    second_line(
+        "group 0/1: output 4",
+        "line 2, column 19: expected a port pattern (0, 1 or *, 2 long) or a number to 3, found `4`",
+    );
+    let star = "a bucket sends to one port, and this pattern has a star";
+    second_line("group 0/1: output 1; output **", &format!("line 2, column 29: {star}"));
+    second_line("group 0/1: output 1*", &format!("line 2, column 19: {star}"));
+    for higher in ["3", "4", "15"] {
+        let lower = "a bucket of group 3 goes on to lower groups alone";
+        second_line(
+            &format!("group 0/3: output 1; group {higher}"),
+            &format!("line 2, column 28: {lower}"),
+        );
+    }
+    second_line(
+        "group 0/1: output 1; output 1; output 1; output 1",
+        "line 2, column 42: there are more than 3 buckets",
+    );
+    second_line(
+        "group 0/1: output 1, output 2",
+        "line 2, column 20: expected `;` or the end of the statement, found `,`",
+    );
+    second_line(
+        "group 0/1: output 1 output 2",
+        "line 2, column 21: expected the end of the statement, found `output`",
+    );
+    second_line("miss 0: group 16", "line 2, column 15: expected a group (0 to 15), found `16`");
+    second_line(
+        "miss 0: group",
+        "line 2, column 14: expected a group (0 to 15), found the end of the statement",
+    );
+    second_line(
+        "miss 0: group 0/1",
+        "line 2, column 16: expected the end of the statement, found `/`",
+    );
+    second_line(
+        "miss 0: group 1, set 1",
+        "line 2, column 18: the last action must be `output`, `in_port` or `group`",
+    );
+    let lower = parse("widths H 2 P 2 W 1\ngroup 0/2: group 1; group 0; set 1, group 1\n");
+    assert_eq!(
+        lower.unwrap().bytes[24..45],
+        [9, 0, 2, 0, 0, 0, 0, 0, 3, 0, 0, 2, 1, 0, 0, 2, 0, 1, 3, 2, 1]
     );
 }
 
@@ -187,6 +255,18 @@ fn hints() {
     hinted("miss 0: in_port output 1", 17, alone);
     let its_own = "`in_port` is an action of its own, without `output`";
     hinted("miss 0: output in_port", 16, its_own);
+    hinted("miss 0: groop 1", 9, "did you mean `group`?");
+    hinted("group 0/1: outptu 1", 12, "did you mean `output`?");
+    let never_back = "a bucket never sends a frame back; `in_port` is an action of a rule";
+    hinted("group 0/1: output 1; in_port", 22, never_back);
+    hinted("group 0/1: output in_port", 19, its_own);
+    let next = "a bucket ends with its `output` or `group`; the next stands behind `;`";
+    hinted("group 0/1: output 1, output 2", 20, next);
+    hinted("group 0/1: group 0, group 0", 19, next);
+    hinted("group 0/1: output *1", 19, "write a bucket for each port");
+    hinted("group 0/1: group 2", 18, "this is group 2");
+    let more = "a bucket may go on to a lower group, which has buckets of its own";
+    hinted("group 0/1: output 1; output 1; output 1; output 1", 42, more);
     hinted("policy 0: E(X) && E(X)", 16, "write `&` or `and`");
     hinted("policy 0: E(X) || E(X)", 16, "write `|` or `or`");
     hinted("policy 0: (E(X) || E(X))", 17, "write `|` or `or`");
@@ -268,6 +348,11 @@ fn statements_against_earlier_ones() {
         &format!("{ONE}add 0 priority 1: output 0\npolicy 0: E(X)\n"),
         3,
         "line 4, column 1: `policy` stands after a command (line 3)",
+    );
+    against_earlier(
+        &format!("{ONE}delete 0 priority 1\ngroup 0/1: output 0\n"),
+        3,
+        "line 4, column 1: `group` stands after a command (line 3)",
     );
     against_earlier(
         &format!("{ONE}widths H 1 P 3 W 0\n"),

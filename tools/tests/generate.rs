@@ -56,11 +56,11 @@ fn grouped(records: &[Record]) -> [usize; 2] {
 #[test]
 fn groups_change_no_step() {
     for kind in Kind::ALL {
-        let plain = records(&text(kind, 8, 12, 3));
+        let plain = records(&text(kind, 12, 24, 3));
         assert_eq!(grouped(&plain), [0, 0]);
         let without = Network::new(&plain).unwrap();
         for groups in [1, 5, 16] {
-            let text = with_groups(kind, 8, groups, 12, 3);
+            let text = with_groups(kind, 12, groups, 24, 3);
             let through = records(&text);
             let [count, rules] = grouped(&through);
             assert!(count == groups && rules >= groups, "{text}");

@@ -17,6 +17,9 @@ name port edge:2 server
 name port 4 uplink
 name header 1 urgent
 name header 1* slow
+name group core/3 uplinks
+name group 1/5 uplinks
+name group edge/0 pair
 ward near: switch 0, 1:pump
 ward far: edge, ward near, core:pump
 ";
@@ -39,6 +42,18 @@ fn names_stand_for_numbers() {
         "rule 2 priority 7 port 3 header 1: set 1*, output 4",
     );
     same("miss core: set urgent, in_port, output pump", "miss 2: set 1, in_port, output 3");
+    same("miss core: group uplinks, output pump", "miss 2: group 3, output 3");
+    same("miss 1: set urgent, group uplinks", "miss 1: set 1, group 5");
+    same(
+        "group core/uplinks: output pump; set urgent, output uplink",
+        "group 2/3: output 3; set 1, output 4",
+    );
+    same(
+        "group core/4: set slow, group uplinks; output drop",
+        "group 2/4: set 1*, group 3; output 0",
+    );
+    same("group pair: output server; output controller", "group 3/0: output 2; output 7");
+    same("group 1/uplinks: output 010", "group 1/5: output 2");
     same("delete edge priority 7 port server header slow", "delete 3 priority 7 port 2 header 1*");
     same(
         "policy 0: switch(X) = core & port(X) != uplink & header(X) = urgent",
@@ -59,7 +74,7 @@ fn fault(statement: &str, message: &str, hint: Option<&str>) {
     let text = format!("{NAMES}{statement}\n");
     let faults = parse(&text).unwrap_err();
     let told: Vec<String> = faults.iter().map(Fault::to_string).collect();
-    assert_eq!(told, [format!("line 12, {message}")], "{statement}");
+    assert_eq!(told, [format!("line 15, {message}")], "{statement}");
     assert_eq!(faults[0].hint.as_deref(), hint, "{statement}");
 }
 
@@ -90,6 +105,41 @@ fn names_that_do_not_fit() {
         "column 16: expected a ward's name, found `nea`",
         Some("did you mean `near`?"),
     );
+    fault(
+        "miss edge: group uplinks",
+        "column 18: switch edge has no group with the name `uplinks`",
+        Some("`uplinks` is group 3 of switch core"),
+    );
+    fault(
+        "group uplinks: output 1",
+        "column 7: `uplinks` is a group of several switches",
+        Some("write the switch, `/` and the name"),
+    );
+    fault(
+        "group core/uplink: output 1",
+        "column 12: expected a group (0 to 15), found `uplink`",
+        Some("did you mean `uplinks`?"),
+    );
+    fault(
+        "miss core: group uplnks",
+        "column 18: expected a group (0 to 15), found `uplnks`",
+        Some("did you mean `uplinks`?"),
+    );
+    fault(
+        "group core/3: group uplinks",
+        "column 21: a bucket of group 3 goes on to lower groups alone",
+        Some("this is group 3"),
+    );
+    fault("name group core/3 both", "column 19: this group has the name `uplinks` (line 10)", None);
+    fault("name group core/4 uplinks", "column 19: the name `uplinks` is given in line 10", None);
+    fault("name group 0/1 pump", "column 16: the name `pump` is given in line 4", None);
+    fault("name port 1:1 pair", "column 15: the name `pair` is given in line 12", None);
+    fault(
+        "name group 0/1 Group",
+        "column 16: `group` is a word of the language and cannot be a name",
+        None,
+    );
+    fault("name group 3 pairs", "column 14: expected `/`, found `pairs`", None);
     fault("name switch 1 core", "column 15: the name `core` is given in line 2", None);
     fault("name port core:5 pump", "column 18: the name `pump` is given in line 4", None);
     fault("name switch 2 centre", "column 15: this switch has the name `core` (line 2)", None);
@@ -130,9 +180,12 @@ fn names_of_numbers() {
     let words = ["pump", "pump", "5", "uplink", "drop", "controller", "3"];
     assert_eq!(ports.map(|[switch, port]| names.port(switch, port)), words);
     assert_eq!([1, 2].map(|header| names.header(header)), ["urgent", "2"]);
+    let groups = [[2, 3], [1, 5], [2, 5], [3, 0], [0, 0]];
+    let words = ["uplinks", "uplinks", "5", "pair", "0"];
+    assert_eq!(groups.map(|[switch, group]| names.group(switch, group)), words);
     assert_eq!([0, 1, 2].map(|policy| names.policy(policy)), [Some("no # loops"), None, None]);
     let policy = &parsed.policies[0];
-    assert_eq!((policy.number, policy.line, policy.source.as_str()), (0, 12, "no loops"));
+    assert_eq!((policy.number, policy.line, policy.source.as_str()), (0, 15, "no loops"));
     assert_eq!(policy.name.as_deref(), Some("no # loops"));
     assert_eq!(parsed.policies[1].source, "E(X)");
 }

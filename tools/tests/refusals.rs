@@ -57,7 +57,6 @@ fn row_3() {
     refused(&one()[1..], first);
     let kinds = "and kinds are 1 to 5 and 9";
     k_refused(&[(0, 0, 0)], &format!("3, its kind is 0, {kinds}, at record 0 (kind 0)"));
-    k_refused(&[(19, 0, 8)], &format!("3, its kind is 8, {kinds}, at record 19 (delete)"));
     k_refused(&[(19, 0, 10)], &format!("3, its kind is 10, {kinds}, at record 19 (kind 10)"));
     let twice = "3, the widths are there already, record 0, at record 1 (widths)";
     refused(&[widths(1, 2, 0), widths(1, 2, 0)], twice);

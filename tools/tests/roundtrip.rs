@@ -2,7 +2,7 @@
 
 mod common;
 
-use common::parsed;
+use common::{group, parsed};
 use wegbaro_tests::commands::{command, SOUND};
 use wegbaro_tests::inputs::random_input;
 use wegbaro_tests::k::{first_add, k, second_add};
@@ -11,7 +11,8 @@ use wegbaro_tests::networks::{
     all_widths, crowded, guarded_network, largest, random_network, MODEST,
 };
 use wegbaro_tests::random::Random;
-use wegbaro_tests::records::{add, miss, modify, output, rule, set, widths, Action, ANY, IN_PORT};
+use wegbaro_tests::records::{add, miss, modify, output, rule, set, widths, with};
+use wegbaro_tests::records::{Action, ANY, IN_PORT};
 use wegbaro_tools::parse::parse;
 use wegbaro_tools::print::print;
 
@@ -74,7 +75,7 @@ fn bytes_without_any_order() {
         let length = random.up_to(200);
         let mut bytes = random.bytes(length);
         for first in bytes.iter_mut().step_by(24) {
-            *first %= 10;
+            *first %= 11;
         }
         there_and_back(&bytes);
     }
@@ -143,6 +144,73 @@ fn in_port_at_every_place() {
         let text = there_and_back(&[widths(1, 2, 0), miss(0, &[stray])].concat());
         assert!(text.contains("\nbytes 03 00 "), "{text}");
     }
+}
+
+/// A group at every place among the actions, and as the last.
+#[test]
+fn group_actions_in_text() {
+    for actions in [&[[4, 0, 0]][..], &[set(1, 1), [4, 15, 0]], &[[4, 3, 0], set(0, 1), IN_PORT]] {
+        let words: Vec<String> = (actions.iter())
+            .map(|[kind, value, _]| match kind {
+                2 => format!("set {value}"),
+                3 => "in_port".to_string(),
+                _ => format!("group {value}"),
+            })
+            .collect();
+        let text = there_and_back(&[widths(1, 2, 0), miss(0, actions)].concat());
+        assert!(text.ends_with(&format!("\nmiss 0: {}\n", words.join(", "))), "{text}");
+    }
+    // Above 15 or with a care it is no action of the text.
+    for stray in [[4, 16, 0], [4, 0, 1], [4, 1, 3]] {
+        let text = there_and_back(&[widths(1, 2, 0), miss(0, &[stray])].concat());
+        assert!(text.contains("\nbytes 03 00 "), "{text}");
+    }
+}
+
+#[test]
+fn groups_in_text() {
+    let to_port = [0, 0, 1, 2];
+    for (buckets, words) in [
+        (&[to_port][..], "output 2"),
+        (&[[1, 3, 1, 0], [2, 2, 2, 6], [0, 0, 1, 3]], "set 1, output 0; set 1*, group 6; output 3"),
+        (&[[0, 0, 2, 0], [0, 0, 2, 0]], "group 0; group 0"),
+        (&[[0, 1, 1, 1]], "set *0, output 1"),
+    ] {
+        let text = there_and_back(&[widths(2, 2, 1), group(1, 7, buckets)].concat());
+        assert!(text.ends_with(&format!("\n\ngroup 1/7: {words}\n")), "{text}");
+    }
+    // What sets nothing is left out.
+    let said = "widths H 2 P 2 W 1\ngroup 1/7: set **, output 2";
+    assert_eq!(parsed(said).bytes[24..], group(1, 7, &[to_port]));
+    // What the text cannot say is printed byte by byte.
+    let sound = group(1, 7, &[to_port, [0, 0, 2, 6]]);
+    for (byte, value) in
+        [(1, 2), (2, 16), (3, 1), (8, 0), (8, 1), (9, 1), (10, 4), (11, 3), (16, 7), (23, 1)]
+    {
+        let text = there_and_back(&[widths(2, 2, 1), with(sound, byte, value)].concat());
+        assert!(text.contains("\nbytes 09 "), "byte {byte} is {value}: {text}");
+    }
+}
+
+/// A group behind a command would be taken for one, and is printed byte by byte.
+#[test]
+fn a_group_behind_a_command() {
+    let sound = group(0, 0, &[[0, 0, 1, 2]]);
+    let drop = rule(0, 9, ANY, ANY, &[output(0, 3)]);
+    let text = there_and_back(&[widths(2, 2, 0), sound, add(drop), sound].concat());
+    assert!(text.contains("\ngroup 0/0: output 2\n") && text.contains("\nbytes 09 "), "{text}");
+}
+
+/// The parts of a policy that is split stand before the groups.
+#[test]
+fn groups_behind_a_policy_that_is_split() {
+    let misses: String = (0..8).map(|switch| format!("miss {switch}: output drop\n")).collect();
+    let policy = "policy 0: what enters at 0:1, 6:3 never reaches 7:1, 3:6, 4:5, 2:3\n";
+    let parsed = parsed(&format!("widths H 1 P 3 W 3\n{misses}{policy}group 0/0: output 2\n"));
+    let kinds: Vec<u8> = parsed.bytes.iter().step_by(24).copied().collect();
+    assert!(kinds.is_sorted() && kinds.last() == Some(&9), "{kinds:?}");
+    assert!(parsed.policies.len() > 1, "{:?}", parsed.policies);
+    assert_eq!(parsed.lines.last(), Some(&11));
 }
 
 #[test]
