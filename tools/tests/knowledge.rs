@@ -67,6 +67,49 @@ fn steps_to_the_port_of_arrival() {
     );
 }
 
+/// One switch, N of 5: a state is 16 (departing) + 4 port + header. A bucket works on the header with
+/// which a frame comes to its group, and skips the port of arrival; behind the group the header is
+/// the one from before it.
+#[test]
+fn steps_through_groups() {
+    const GROUPS: &str = "\
+group 0/0: output 1; set 1*, output 2
+group 0/3: set *1, group 0; output 3; output 0
+group 0/9: group 3; set 0*, group 0; set 00, output 2
+";
+    // The steps from ports 1 to 3 with header 0.
+    let steps = |actions: &str, expected: [&[usize]; 3]| {
+        let text = format!("widths H 2 P 2 W 0\nmiss 0: {actions}\n{GROUPS}");
+        let (records, _) = whole_records(&parse(&text).unwrap().bytes);
+        let found = [4, 8, 12].map(|number| next(network(&records), number));
+        assert_eq!(found, expected, "{actions}");
+    };
+    steps("group 0", [&[26], &[20], &[20, 26]]);
+    steps("set 3, group 0", [&[27], &[23], &[23, 27]]);
+    steps("group 3", [&[16, 27, 28], &[16, 21, 28], &[16, 21, 27]]);
+    steps("group 9", [&[16, 24, 26, 27, 28], &[16, 20, 21, 28], &[16, 20, 21, 24, 26, 27]]);
+    steps("group 0, in_port", [&[20, 26], &[20, 24], &[20, 26, 28]]);
+    steps("group 0, set 01, group 0", [&[26, 27], &[20, 21], &[20, 21, 26, 27]]);
+}
+
+/// Sixteen groups of three buckets, each of which goes on to the next group, would run the lowest one
+/// 3^15 times for each state. The words have the same states without that.
+#[test]
+fn groups_in_a_row() {
+    let mut text = "widths H 6 P 2 W 0\nmiss 0: group 15\ngroup 0/0: output 1\n".to_string();
+    for number in 1..16 {
+        let [lower, bit] = [number - 1, number % 6];
+        let one = |fixed| format!("{}{fixed}{}", "*".repeat(5 - bit), "*".repeat(bit));
+        let [zero, one] = [one('0'), one('1')];
+        text += &format!("group 0/{number}: group {lower}; set {zero}, group {lower}; ");
+        text += &format!("set {one}, group {lower}\n");
+    }
+    let (records, _) = whole_records(&parse(&text).unwrap().bytes);
+    // A state is 256 (departing) + 64 port + header: every header departs at port 1.
+    let [from_1, from_2] = [64, 128].map(|number| next(network(&records), number));
+    assert_eq!((from_1, from_2), (vec![], (256 + 64..256 + 128).collect()));
+}
+
 #[test]
 fn steps_are_those_of_the_second_implementation() {
     let mut random = Random::new(1);
@@ -332,12 +375,12 @@ fn every_refusal_has_a_cause() {
             count(refusal, cause, &format!("{given:?}"));
         }
     }
-    for row in [3, 4, 5, 6, 7, 8, 9, 10, 12] {
+    for row in [3, 4, 5, 6, 7, 8, 9, 10, 12, 16] {
         assert!(seen[row] > 0, "row {row}: {seen:?}");
     }
     assert!(words[12].iter().any(|it| it.contains("is in_port")), "{:?}", words[12]);
     // Rows with several causes show more than one of them.
-    for row in [3, 4, 5, 6, 7, 9, 12] {
+    for row in [3, 4, 5, 6, 7, 9, 12, 16] {
         assert!(words[row].len() > 1, "row {row}: {:?}", words[row]);
     }
 }

@@ -234,7 +234,7 @@ fn the_text_of_the_readme() {
     let readme = include_str!("../README.md");
     let block = &readme[readme.find("    widths").unwrap()..];
     let lines: Vec<&str> = block.lines().map_while(|line| line.strip_prefix("    ")).collect();
-    assert_eq!(lines.len(), 14);
+    assert_eq!(lines.len(), 17);
     let output = String::from_utf8(program(&parsed(&lines.join("\n")).bytes)).unwrap();
     assert!(!output.contains("refused"), "{output}");
 }

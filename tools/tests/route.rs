@@ -161,6 +161,56 @@ route: found, 5 steps
     expect(&["route", "-", "10", "26"], back, 1, none);
 }
 
+/// Two wards, each with groups. The pump's frames go to port 2, and by group 2 through group 1, which
+/// sets header 1, to ports 3 and 4.
+const GROUPS: &str = "\
+widths H 1 P 3 W 1
+name switch 0 icu
+name port icu:1 pump
+name group icu/1 uplinks
+link icu:4 - 1:4
+miss icu: output drop
+miss 1: group 0
+rule icu priority 10 port pump: output 2, group 2
+group icu/uplinks: output 3; output 4
+group icu/2: set 1, group uplinks
+group 1/0: output 5
+";
+
+/// Groups that a frame goes through are told behind the rule or the miss, with the number of the
+/// bucket where there are several.
+#[test]
+fn a_route_through_groups() {
+    let words = "\
+route: found, 3 steps
+    state 2 (switch icu (0), port pump (1), arriving, header 0)
+    - line 8: rule icu priority 10 port pump header *: output 2, group 2 (action 2)
+    - line 10: group icu/2: set 1, group uplinks
+    - line 9: group icu/uplinks: output 3; output 4 (bucket 2)
+    state 41 (switch icu (0), port 4, departing, header 1)
+    - line 5: link icu:4 - 1:4
+    state 25 (switch 1, port 4, arriving, header 1)
+    - line 7: miss 1: group 0
+    - line 11: group 1/0: output 5
+    state 59 (switch 1, port 5, departing, header 1)
+";
+    let ward = GROUPS.as_bytes();
+    expect(&["route", "-", "pump in header 0", "1:5 out header 1"], ward, 0, words);
+    let object = r#""by":"rule icu priority 10 port pump header *: output 2, group 2 (action 2)","by_record":4,"by_line":8,"groups":[{"by":"group icu/2: set 1, group uplinks","by_record":6,"by_line":10},{"by":"group icu/uplinks: output 3; output 4 (bucket 2)","by_record":5,"by_line":9}]}"#;
+    let ran = wegbaro(&["route", "--json", "-", "2", "59"], ward);
+    assert!(ran.text().contains(object), "{}", ran.text());
+    let lines = "step 1: rule priority 10 port pump header *: output 2, group 2 (action 2)\\l\
+                 step 1: group 2: set 1, group uplinks\\l\
+                 step 1: group uplinks: output 3; output 4 (bucket 2)\\l";
+    let ran = wegbaro(&["route", "--dot", "-", "2", "59"], ward);
+    assert!(ran.text().contains(lines), "{}", ran.text());
+    let listed = "s0 [label=\"switch 0\\nicu\\nmiss: output drop\\l\
+                  rule priority 10 port pump header *: output 2, group 2\\l\
+                  group uplinks: output 3; output 4\\lgroup 2: set 1, group uplinks\\l\"];";
+    let ran = wegbaro(&["picture", "--rules", "-"], ward);
+    assert!(ran.text().contains(listed), "{}", ran.text());
+}
+
 #[test]
 fn a_route_as_json() {
     let state = |number, switch, port, direction, by: &str| {
