@@ -109,6 +109,36 @@ fn the_records_of_network_k() {
     assert_eq!(listing(&document()), k());
 }
 
+/// The record that a table takes apart: the first byte of a line's part, and what it has.
+fn taken_apart(document: &str, heading: &str) -> Record {
+    let mut taken = [0; 24];
+    for part in table(document, heading) {
+        let first: usize = part[0].split([' ', ',']).next().unwrap().parse().unwrap();
+        let has = bytes(&part[1].replace('`', ""));
+        taken[first..first + has.len()].copy_from_slice(&has);
+    }
+    taken
+}
+
+#[test]
+fn a_rule_byte_by_byte() {
+    assert_eq!(taken_apart(&document(), "byte"), k()[4]);
+}
+
+/// The steps of state 2 with the groups that the document puts behind K.
+#[test]
+fn a_step_through_groups() {
+    let document = document();
+    let group = taken_apart(&document, "byte of the group");
+    let lower = document.split('`').find(|code| code.starts_with("09 00 00 ")).unwrap();
+    let mut records = k();
+    records[4][9..12].copy_from_slice(&[4, 3, 0]);
+    records.extend([record(&bytes(lower)), group]);
+    let mut gate = wegbaro::Gate::new(&records).unwrap();
+    let is_step = |to: &usize| gate.route(2, *to) == Ok(Some(vec![2, *to as u16]));
+    assert_eq!((0..32).filter(is_step).collect::<Vec<usize>>(), [20, 23]);
+}
+
 /// A state of network K in bits, part by part, and in words.
 fn described(state: State) -> [String; 2] {
     let State { direction, point: Point { switch, port }, header } = state;
