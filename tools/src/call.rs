@@ -31,7 +31,7 @@ fields: `0:1 in header 0` arrives at port 1 of switch 0, and `0:1 out header 0` 
   --dot           route: a picture of it for Graphviz
   --switches N    generate: 2 to 16 switches, 4 if not given
   --flows N       generate: at most 64 random flows, 4 if not given
-  --groups N      generate: rules send through at most N groups, to 16, none if not given
+  --groups N      generate: at most 16 groups for rules to send through, none if not given
   --seed N        generate: the same seed gives the same network, 0 if not given
   --help, --version
 

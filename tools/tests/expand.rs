@@ -63,6 +63,7 @@ fn the_same_records() {
     let policies = "\
 policy 0: what enters at 0:1, 6:3 never reaches 7:1, 3:6, 4:5, 2:3
 policy 1: no loops
+group 0/0: output 2
 delete 0 priority 1
 ";
     texts.push(format!("widths H 1 P 3 W 3\n{misses}{policies}"));

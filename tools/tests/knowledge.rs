@@ -23,7 +23,7 @@ use wegbaro_tools::source::Source;
 use wegbaro_tools::steps::{Network, State};
 use wegbaro_tools::truth::Truth;
 use wegbaro_tools::words::record_words;
-use wegbaro_tools::Record;
+use wegbaro_tools::{actions, Record};
 
 const SMALL: Widths = Widths { h: 1, p: 2, w: 1 };
 /// One switch, so that formulas have room for every bit of two states.
@@ -32,6 +32,12 @@ const BARE: Sizes = Sizes { links: 3, rules: 8, policies: 0, nodes: 0, ..MODEST 
 
 fn network(records: &[Record]) -> Network<'_> {
     Network::new(records).unwrap()
+}
+
+/// Whether what acts on a state sends through a group.
+fn through_group(network: Network, number: usize) -> bool {
+    let acting = network.acting(State::numbered(number, network.widths));
+    acting.is_some_and(|place| actions(&network.records[place]).any(|[kind, ..]| kind == 4))
 }
 
 /// The states that a state steps to, once each.
@@ -113,7 +119,7 @@ fn groups_in_a_row() {
 #[test]
 fn steps_are_those_of_the_second_implementation() {
     let mut random = Random::new(1);
-    let mut back = 0;
+    let [mut back, mut through] = [0, 0];
     for of in all_widths() {
         let records = random_network(&mut random, of, MODEST);
         let ours = network(&records);
@@ -125,16 +131,18 @@ fn steps_are_those_of_the_second_implementation() {
             assert_eq!(steps, expected, "{of:?}, state {number}");
             let departing = number + ours.states() / 2;
             back += usize::from(steps.iter().any(|to| to >> of.h == departing >> of.h));
+            through += usize::from(through_group(ours, number));
         }
     }
     assert!(back > 100, "{back} states step back to their port");
+    assert!(through > 100, "{through} states go through a group");
 }
 
 /// Two states make a route of the library just where the one steps to the other.
 #[test]
 fn steps_are_those_of_the_library() {
     let mut random = Random::new(9);
-    let mut back = 0;
+    let [mut back, mut through] = [0, 0];
     for _ in 0..20 {
         let records = random_network(&mut random, SMALL, BARE);
         let network = network(&records);
@@ -143,9 +151,11 @@ fn steps_are_those_of_the_library() {
             let steps: Vec<usize> = (0..32).filter(is_step).collect();
             assert_eq!(next(network, from), steps, "state {from} of {records:?}");
             back += usize::from(steps.iter().any(|to| to >> 1 == (from + 16) >> 1));
+            through += usize::from(through_group(network, from));
         }
     }
     assert!(back > 20, "{back} states step back to their port");
+    assert!(through > 20, "{through} states go through a group");
 }
 
 /// The lowest state that breaks the one policy, by the second implementation.
@@ -388,14 +398,30 @@ fn every_refusal_has_a_cause() {
 /// A command in words, with the names of its text, is read as the same command.
 #[test]
 fn commands_in_words_are_read_back() {
-    let text = include_str!("../../examples/templates/network.txt");
-    let source = Source::of_text(parse(text).unwrap());
-    let of = source.widths().unwrap();
-    let mut named = 0;
-    for given in &source.commands {
-        let words = record_words(&source, &given.record);
-        assert_eq!(parse_command(&words, of, &source.names), Ok(given.record), "{words}");
-        named += usize::from(words.contains("edge"));
+    for (text, name, least) in [
+        (include_str!("../../examples/templates/network.txt"), "edge", 6),
+        (include_str!("../../examples/uplinks/network.txt"), "group mirror", 1),
+    ] {
+        let source = Source::of_text(parse(text).unwrap());
+        let of = source.widths().unwrap();
+        let mut named = 0;
+        for given in &source.commands {
+            let words = record_words(&source, &given.record);
+            assert_eq!(parse_command(&words, of, &source.names), Ok(given.record), "{words}");
+            named += usize::from(words.contains(name));
+        }
+        assert!(named >= least, "{named}");
     }
-    assert!(named > 5, "{named}");
+}
+
+/// A group in words, with the names of its text.
+#[test]
+fn groups_in_words() {
+    let text = include_str!("../../examples/uplinks/network.txt");
+    let source = Source::of_text(parse(text).unwrap());
+    let groups = source.network.iter().filter(|record| record[0] == 9);
+    let words: Vec<String> = groups.map(|group| record_words(&source, group)).collect();
+    let expected =
+        ["group 0/uplinks: output 4; output 5", "group 0/mirror: output 3; group uplinks"];
+    assert_eq!(words, expected);
 }

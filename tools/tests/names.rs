@@ -198,6 +198,8 @@ fn one_command() {
     let text = format!("{NAMES}add core priority 1 port pump: set urgent, output uplink");
     let add = read("add core priority 1 port pump: set urgent, output uplink\n").unwrap();
     assert_eq!(parsed(&text).bytes[24..], add);
+    let through = read("modify 1 priority 1: group uplinks").unwrap();
+    assert_eq!(through[8..12], [1, 4, 5, 0]);
     assert_eq!(read("  delete edge priority 2 # gone").unwrap()[..3], [8, 3, 2]);
     let bytes = format!("bytes 09{}", " 00".repeat(23));
     assert_eq!(read(&bytes).unwrap()[0], 9);
@@ -205,6 +207,7 @@ fn one_command() {
     let fault = |line: &str| read(line).unwrap_err()[0].to_string();
     let command = "expected a command (add, modify, delete or bytes), found";
     assert_eq!(fault("rule 0 priority 1: output 1"), format!("line 1, column 1: {command} `rule`"));
+    assert_eq!(fault("group 0/1: output 1"), format!("line 1, column 1: {command} `group`"));
     assert_eq!(fault(""), "line 1, column 1: expected one command");
     assert_eq!(
         fault("delete 0 priority 1\ndelete 0 priority 2"),

@@ -65,6 +65,7 @@ fn faulty_calls() {
     complains(&["generate", "ring", "--seed"], b"", 2, "--seed needs a number");
     complains(&["generate", "ring", "--seed", "x"], b"", 2, "--seed `x` is no number");
     complains(&["generate", "ring", "--switches=99"], b"", 2, "switches");
+    complains(&["generate", "ring", "--groups", "17"], b"", 2, "groups is at most 16, not 17");
     // Behind `--` an option is a file's name.
     complains(&["check", "--", "--json"], b"", 3, "--json: No such file");
 }
@@ -174,6 +175,11 @@ fn answers_as_json() {
     let more = wegbaro_tests::records::record(&[7, 1]);
     let input = [&k_and_adds()[..], &more, &[6]].concat();
     expect(&["run", "--json", "-"], &input, 2, &(lines.join("\n") + "\n"));
+
+    let group = wegbaro_tests::records::record(&[9, 1, 0, 0, 0, 0, 0, 0, 1, 0, 0, 1, 2]);
+    let grouped = [k(), vec![group]].concat().concat();
+    let holds = r#"{"subject":"start","answer":"holds","records":21,"policies":1}"#;
+    expect(&["check", "--json", "-"], &grouped, 0, &format!("{holds}\n"));
 
     let twice = b"widths H 1 P 2 W 0\nmiss 0: output drop\nrule 0 priority 1: output 1\nrule 0 priority 1: output 2\n";
     let refused = r#"{"subject":"start","answer":"refused","row":8,"place":3,"cause":"a rule with this switch, priority, port and header is there already, line 3","line":4,"other":2,"other_line":3}"#;
