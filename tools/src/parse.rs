@@ -7,7 +7,6 @@
 pub use crate::expand::expand;
 use crate::fault::{quoted, Fault};
 use crate::formula::Formula;
-use crate::groups::{Bucket, Target, MOST_BUCKETS};
 use crate::names::{Names, Point};
 use crate::policies::Split;
 use crate::tokens::{statements, Place, Statement, Token};
@@ -18,8 +17,6 @@ use crate::{record, Record, RECORD};
 const MOST_ACTIONS: usize = 4;
 /// What starts an action.
 const ACTIONS: [&str; 4] = ["output", "set", "in_port", "group"];
-/// What starts a bucket.
-const BUCKETS: [&str; 3] = ["set", "output", "group"];
 /// The most faults that are told at once.
 pub const MOST_FAULTS: usize = 20;
 
@@ -410,91 +407,6 @@ impl Reader {
                     }
                     _ => Ok(bytes),
                 };
-            }
-        }
-    }
-
-    fn group_statement(&mut self, of: Widths, statement: &mut Statement) -> Result<Vec<u8>, Fault> {
-        let [switch, group] = self.group_of_switch(of, statement)?;
-        statement.expect(":")?;
-        let mut bytes = vec![9, switch, group, 0, 0, 0, 0, 0, 0];
-        loop {
-            if usize::from(bytes[8]) == MOST_BUCKETS {
-                let message = format!("there are more than {MOST_BUCKETS} buckets");
-                let hint = "a bucket may go on to a lower group, which has buckets of its own";
-                return Err(statement.peek().fault(message).hint(hint));
-            }
-            bytes[8] += 1;
-            bytes.extend(self.bucket(of, [switch, group], statement)?.bytes());
-            match statement.peek().text {
-                ";" => statement.take(),
-                "," => {
-                    let fault = statement.expected("`;` or the end of the statement");
-                    let hint =
-                        "a bucket ends with its `output` or `group`; the next stands behind `;`";
-                    return Err(fault.hint(hint));
-                }
-                _ => return Ok(record(&bytes).to_vec()),
-            };
-        }
-    }
-
-    /// A bucket of a group: what it sets in the header, then its port or a lower group.
-    fn bucket(
-        &mut self,
-        of: Widths,
-        [switch, group]: [u8; 2],
-        statement: &mut Statement,
-    ) -> Result<Bucket, Fault> {
-        let mut header = [0, 0];
-        if statement.accept("set") {
-            header = self.header_pattern(of, statement)?;
-            statement.expect(",")?;
-        }
-        let target = match statement.peek().text {
-            "output" => {
-                statement.take();
-                Target::Port(self.one_port(of, switch, statement)?)
-            }
-            "group" => {
-                statement.take();
-                Target::Group(self.lower_group(switch, group, statement)?)
-            }
-            "in_port" => {
-                let fault = statement.expected("a bucket (`set`, `output` or `group`)");
-                let hint = "a bucket never sends a frame back; `in_port` is an action of a rule";
-                return Err(fault.hint(hint));
-            }
-            word => {
-                let fault = statement.expected("a bucket (`set`, `output` or `group`)");
-                return Err(fault.with_nearest(word, BUCKETS));
-            }
-        };
-        Ok(Bucket { header, target })
-    }
-
-    /// The one port behind a bucket's `output`.
-    fn one_port(&mut self, of: Widths, switch: u8, statement: &mut Statement) -> Result<u8, Fault> {
-        let token = statement.peek();
-        let [port, care] = self.output(of, switch, statement)?;
-        match care == of.controller() {
-            true => Ok(port),
-            false => {
-                let fault = token.fault("a bucket sends to one port, and this pattern has a star");
-                Err(fault.hint("write a bucket for each port"))
-            }
-        }
-    }
-
-    /// The group behind a bucket's `group`, which is lower than the bucket's own.
-    fn lower_group(&self, switch: u8, group: u8, statement: &mut Statement) -> Result<u8, Fault> {
-        let token = statement.peek();
-        let lower = self.group(switch, statement)?;
-        match lower < group {
-            true => Ok(lower),
-            false => {
-                let message = format!("a bucket of group {group} goes on to lower groups alone");
-                Err(token.fault(message).hint(format!("this is group {lower}")))
             }
         }
     }

@@ -137,7 +137,10 @@ fn groups() {
         "group 0/1: output 1;",
         &format!("line 2, column 21: {bucket} the end of the statement"),
     );
-    second_line("group 0/1: set 1, set 1, output 1", &format!("line 2, column 19: {bucket} `set`"));
+    second_line(
+        "group 0/1: set 1, set 1, output 1",
+        "line 2, column 19: expected `output` or `group`, found `set`",
+    );
     second_line("group 0/1: in_port", &format!("line 2, column 12: {bucket} `in_port`"));
     second_line(
         "group 0/1: set 1*",
@@ -257,9 +260,10 @@ fn hints() {
     hinted("miss 0: output in_port", 16, its_own);
     hinted("miss 0: groop 1", 9, "did you mean `group`?");
     hinted("group 0/1: outptu 1", 12, "did you mean `output`?");
-    let never_back = "a bucket never sends a frame back; `in_port` is an action of a rule";
+    let never_back = "no bucket sends a frame back; `in_port` is an action of a rule";
     hinted("group 0/1: output 1; in_port", 22, never_back);
-    hinted("group 0/1: output in_port", 19, its_own);
+    hinted("group 0/1: output in_port", 19, never_back);
+    hinted("group 0/1: set 1, in_port", 19, never_back);
     let next = "a bucket ends with its `output` or `group`; the next stands behind `;`";
     hinted("group 0/1: output 1, output 2", 20, next);
     hinted("group 0/1: group 0, group 0", 19, next);
