@@ -5,6 +5,7 @@ pub mod Bodies
 pub mod Bounce
 pub mod Chosen
 pub mod CopiesInOrder
+pub mod Elsewhere
 pub mod GoodActions
 pub mod GoodGroups
 pub mod GoodRecords

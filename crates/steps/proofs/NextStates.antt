@@ -8,7 +8,7 @@ use native.Mathlib.Decide.{ℕ-discrete}
 use Rattle.records.specs.Lists.{any, member}
 use Rattle.records.specs.Record.{Rec, Net, ofKind}
 use Rattle.records.specs.Widths.{widthsOf}
-use Rattle.records.specs.State.{state, headerOf, portOf, switchOf, directionOf}
+use Rattle.records.specs.State.{headerOf, portOf, switchOf, directionOf}
 use Rattle.records.specs.declared.Widths.{Widths}
 use Rattle.actions.specs.Chosen.{Arrival, chosen}
 use Rattle.actions.specs.Actions.{sent}

@@ -26,7 +26,8 @@ use Rattle.actions.specs.Actions.{copies, sent}
 use Rattle.actions.specs.ByPlace.{arrival}
 use Rattle.actions.specs.Laws.AddedBits.{member-append}
 use Rattle.actions.specs.Laws.AmongChosen.{every-chosen}
-use Rattle.actions.specs.Laws.Bounce.{NoInPort, GoodGroups, no-bounce}
+use Rattle.actions.specs.Laws.Bounce.{NoInPort, no-bounce}
+use Rattle.actions.specs.Laws.Elsewhere.{GroupsGood}
 use Rattle.actions.specs.Laws.GoodGroups.{group-buckets}
 use Rattle.steps.specs.Step.{Step}
 use Rattle.steps.specs.Relayed.{relayed}
@@ -58,7 +59,7 @@ module _ (net : Net) (clean : fileRow [] net ≡ none) where
       (λ q. miss-actions w (getD net k []) q (fields k h (λ e. omega (arith, e, q))))
       (λ q. rule-actions w (getD net k []) q (fields k h (λ e. omega (arith, e, q))))
 
-  groups : GoodGroups (widthsOf net) net
+  groups : GroupsGood (widthsOf net) net
   groups = at-every _ [] net (λ k h q. group-buckets w (getD net k []) q (fields k h (λ e. omega (arith, e, q))))
 
   module _ (without : WithoutInPort net) (s t : ℕ) (q : portOf (widthsOf net) t ≡ portOf (widthsOf net) s) where

@@ -12,7 +12,6 @@ use Rattle.records.specs.Laws.Fields.{no-action}
 use Rattle.records.specs.Laws.Limits.{limits}
 use Rattle.records.specs.declared.Widths.{Widths}
 use Rattle.actions.specs.ByPlace.{ofBody}
-use Rattle.actions.specs.Departing.{departing}
 use Rattle.actions.specs.Groups.{groupSent}
 use Rattle.actions.specs.Actions.{sentAs, headerBy}
 use Rattle.actions.specs.Adds.{lineBytes, Added}

@@ -1,20 +1,18 @@
 -- What the groups of a switch send: one bucket after the other, each to a port or on to a lower group.
 use borrow.Author.Tests.{eq-eqb, ne-eqb}
-use mathlib.Core.Path.{_≡_, refl, sym, ap, ap₂, _∙_}
+use mathlib.Core.Path.{_≡_, refl, sym, ap, _∙_}
 use mathlib.Core.Bool.{Bool, true, false}
-use mathlib.Core.List.{List, [], _∷_, _++_}
+use mathlib.Core.List.{List, [], _++_}
 use Prim.Native.Nat.{ℕ, zero, suc, _+_, _<_}
 use native.Mathlib.Decide.{ℕ-discrete}
 use native.Mathlib.Numerals.{add-one}
 use native.Mathlib.Omega.{arith}
 use lib.Dec.{eqb}
-use lib.ListN.{getD}
 use Rattle.records.specs.Record.{Rec, Net, at}
-use Rattle.records.specs.Group.{bucketKind, bucketTarget, targetKind, IsBucket}
-use Rattle.records.specs.Pattern.{putBits}
+use Rattle.records.specs.Group.{IsBucket}
 use Rattle.records.specs.declared.Widths.{Widths}
 use Rattle.records.specs.declared.groups.Bucket.{Bucket}
-use Rattle.actions.specs.Groups.{groupRecord, sentTo, bucketSent, bucketsSent, recordSent, lowerSent, groupSent}
+use Rattle.actions.specs.Groups.{groupRecord, bucketSent, bucketsSent, recordSent, lowerSent, groupSent}
 use Rattle.actions.specs.Sent.{bucketSends}
 
 module _ (net : Net) (w : Widths) (sw p : ℕ) where
@@ -33,9 +31,6 @@ module _ (net : Net) (w : Widths) (sw p : ℕ) where
 
   -- the buckets of a group, one after the other
   module _ (g h : ℕ) (r : Rec) where
-    abbrev pub BucketsOf : ℕ → List ℕ
-    BucketsOf k = bucketsSent w sw p (lowerSent net w sw p g) r h k
-
     pub no-buckets : bucketsSent w sw p (lowerSent net w sw p g) r h 0 ≡ []
     unfolding bucketsSent
     no-buckets = refl
