@@ -48,6 +48,10 @@ group-read n l s st sw g i G =
       whole = ap length (part-is s i) ∙ record-length s i (omega (arith, st .room));
     }
 
+-- the header that a bucket sends on
+pub header-lt : (w : Widths) (h k : ℕ) (b : Bucket) → k ≡ putBits (w .h) (b .value) (b .care) h → k < 2 ^ w .h
+header-lt w h k b e = subst⁻¹ (λ (x : ℕ). x < 2 ^ w .h) e (put-lt (b .value) (b .care) h (w .h))
+
 module _ (net : Net) (w : Widths) (line sw p : ℕ) where
   -- what the next run asks, with another header, and after a run
   pub ready-with : (h k : ℕ) (work marks : List ℕ) → k < 2 ^ w .h → Ready net w line sw p h work marks → Ready net w line sw p k work marks
@@ -69,9 +73,6 @@ module _ (net : Net) (w : Widths) (line sw p : ℕ) where
 
   -- a bucket that sends on the header k, by the kind of its target
   module _ (g h k : ℕ) (b : Bucket) (ek : k ≡ putBits (w .h) (b .value) (b .care) h) where
-    pub header-lt : k < 2 ^ w .h
-    header-lt = subst⁻¹ (λ (x : ℕ). x < 2 ^ w .h) ek (put-lt (b .value) (b .care) h (w .h))
-
     pub bucket-ran : (x : TargetKind) → targetKind (b .kind) ≡ x → (a m a₁ m₁ : List ℕ)
         → Ended net w line sw p (sentTo x w sw p (lowerSent net w sw p g) (b .target) k) a m a₁ m₁ → Ended net w line sw p (bucketSends net w sw p g b h) a m a₁ m₁
     bucket-ran x e a m a₁ m₁ R = rw (e, ← ek) R

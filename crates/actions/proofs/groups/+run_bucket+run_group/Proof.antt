@@ -7,14 +7,14 @@ use Prim.Native.Nat.{ℕ, _+_, _-_, _*_, _/_, _<_, _≤_}
 use native.Mathlib.Omega.{arith}
 use lib.ListN.{length}
 use Rattle.records.specs.Record.{at, records}
-use Rattle.records.specs.Group.{TargetKind, kPort, kLowerGroup, kNoTarget, targetKind}
+use Rattle.records.specs.Group.{kPort, kLowerGroup, kNoTarget, targetKind}
 use Rattle.records.specs.Laws.Fields.{no-target}
 use Rattle.records.specs.Laws.Limits.{limits}
 use Rattle.records.specs.Laws.Records.{length-records}
-use Rattle.actions.specs.Groups.{sentTo, bucketsSent, lowerSent}
+use Rattle.actions.specs.Groups.{bucketsSent, lowerSent}
 use Rattle.actions.specs.ByPlace.{GroupAt, GroupFound}
 use Rattle.actions.specs.Marks.{mark}
-use Rattle.actions.specs.Sent.{Ready, Ended, bucketSends}
+use Rattle.actions.specs.Sent.{Ready, Ended}
 use Rattle.actions.specs.Laws.GoodGroups.{port-within, group-lower, few-buckets, used-as}
 use Rattle.actions.specs.Laws.GroupCopies.{lower-is}
 use Rattle.actions.specs.Laws.Marking.{ran-sent, ran-none}
@@ -89,19 +89,7 @@ on : (t : ℕ) (c : bucket-lts.After-put (bucket-claims t) (run-bucket-at t) run
 on t c =
     let s = c .before .before .before .before .before in
     let a = s .args in
-    ready-with _ _ _ _ _ (a .h) (c .put .result) _ _ (header-lt (records (a .n) (now (a .store))) (a .l .widths) (a .line) (a .sw) (a .p) (a .g) (a .h) (c .put .result) (a .b) (c .put .ensures)) (s .pre .1 .0 .1)
-
--- it is what the bucket sends
-sent : (t : ℕ) (c : bucket-lts.After-put (bucket-claims t) (run-bucket-at t) run-bucket.Post) (x : TargetKind)
-    → let a = c .before .before .before .before .before .args in
-    let net = records (a .n) (now (a .store)) in
-    let w = a .l .widths in
-    targetKind (a .b .kind) ≡ x → (u m u₁ m₁ : List ℕ)
-    → Ended net w (a .line) (a .sw) (a .p) (sentTo x w (a .sw) (a .p) (lowerSent net w (a .sw) (a .p) (a .g)) (a .b .target) (c .put .result)) u m u₁ m₁
-    → Ended net w (a .line) (a .sw) (a .p) (bucketSends net w (a .sw) (a .p) (a .g) (a .b) (a .h)) u m u₁ m₁
-sent t c x =
-    let a = c .before .before .before .before .before .args in
-    bucket-ran (records (a .n) (now (a .store))) (a .l .widths) (a .line) (a .sw) (a .p) (a .g) (a .h) (c .put .result) (a .b) (c .put .ensures) x
+    ready-with _ _ _ _ _ (a .h) _ _ _ (header-lt (a .l .widths) (a .h) _ (a .b) (c .put .ensures)) (s .pre .1 .0 .1)
 
 bucket-send-on-requires : (t : ℕ) → bucket-lts.Need-send-on-requires (bucket-claims t) (run-bucket-at t) run-bucket.Post
 unfolding targetKind
@@ -132,7 +120,9 @@ unfolding targetKind
 bucket-returns t c =
     let m = c .before .before .before .before in
     let s = m .before .before .before .before .before .before in
-    sent t (m .before) kPort (ap targetKind (m .match .keys1)) _ _ _ _ (ran-sent _ _ _ _ _ _ _ (c .before .before .send-on .ensures) (s .pre .1 .0 .1 .done))
+    let a = s .args in
+    bucket-ran _ _ _ _ _ (a .g) (a .h) _ (a .b) (m .before .put .ensures) kPort (ap targetKind (m .match .keys1)) _ _ _ _
+    (ran-sent _ _ _ _ _ _ _ (c .before .before .send-on .ensures) (s .pre .1 .0 .1 .done))
 
 bucket-returns-2 : (t : ℕ) → bucket-lts.Need-returns-2 (bucket-claims t) (run-bucket-at t) run-bucket.Post
 unfolding targetKind
@@ -140,19 +130,21 @@ bucket-returns-2 t c =
     let m = c .before .before .before .before .before .before .before in
     let a = m .before .before .before .before .before .before .args in
     let net = records (a .n) (now (a .store)) in
-    sent t (m .before) kLowerGroup (ap targetKind (m .match .keys2)) _ _ _ _
+    bucket-ran _ _ _ _ _ (a .g) (a .h) _ (a .b) (m .before .put .ensures) kLowerGroup (ap targetKind (m .match .keys2)) _ _ _ _
     (rw (lower-is net (a .l .widths) (a .sw) (a .p) (a .g) (a .b .target) (m .before .put .result) (lower t m)) (c .before .before .before .before .run-group .ensures))
 
 bucket-returns-3 : (t : ℕ) → bucket-lts.Need-returns-3 (bucket-claims t) (run-bucket-at t) run-bucket.Post
 unfolding targetKind
 bucket-returns-3 t c =
     let s = c .before .before .before .before .before .before in
-    sent t (c .before) kNoTarget (ap targetKind (c .match .keys3)) _ _ _ _ (ran-none _ _ _ _ _ (s .pre .1 .0 .1 .done))
+    let a = s .args in
+    bucket-ran _ _ _ _ _ (a .g) (a .h) _ (a .b) (c .before .put .ensures) kNoTarget (ap targetKind (c .match .keys3)) _ _ _ _ (ran-none _ _ _ _ _ (s .pre .1 .0 .1 .done))
 
 bucket-returns-4 : (t : ℕ) → bucket-lts.Need-returns-4 (bucket-claims t) (run-bucket-at t) run-bucket.Post
 bucket-returns-4 t c =
     let s = c .before .before .before .before .before .before in
-    sent t (c .before) kNoTarget (no-target _ (c .match .rest .0 .0 .1) (c .match .rest .0 .1)) _ _ _ _ (ran-none _ _ _ _ _ (s .pre .1 .0 .1 .done))
+    let a = s .args in
+    bucket-ran _ _ _ _ _ (a .g) (a .h) _ (a .b) (c .before .put .ensures) kNoTarget (no-target _ (c .match .rest .0 .0 .1) (c .match .rest .0 .1)) _ _ _ _ (ran-none _ _ _ _ _ (s .pre .1 .0 .1 .done))
 
 -- the buckets passed have run
 abbrev Inv-loop : group-lts.InvT-loop
