@@ -5,5 +5,7 @@ pub mod Found
 pub mod Policies
 pub mod Groups
 pub mod Count
+pub mod Ascending
 pub mod Computing
+pub mod GroupRows
 pub mod Laws

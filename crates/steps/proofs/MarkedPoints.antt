@@ -7,14 +7,13 @@ use lib.Dec.{eqb}
 use lib.ListN.{getD, replicate}
 use Rattle.planes.specs.Plane.{bit}
 use Rattle.planes.specs.Lines.{BitSet}
-use Rattle.planes.specs.Laws.Lines.{no-bit}
+use Rattle.planes.specs.Laws.Lines.{no-bit, set-bit}
 use Rattle.records.specs.Lists.{any}
 use Rattle.records.specs.Record.{Net, records, endsAt, linked}
 use Rattle.records.specs.Laws.Parts.{part, part-none}
 use Rattle.scan.specs.declared.Layout.{Layout}
 use Rattle.steps.specs.Carried.{point, LinkedPoints}
 use Rattle.scan.specs.Stored.{Stored}
-use Rattle.actions.specs.Laws.AddedBits.{set-bit}
 use Rattle.steps.proofs.LinksInStore.{link-points, links-end}
 use Rattle.steps.proofs.PointBits.{one-point, point-port}
 

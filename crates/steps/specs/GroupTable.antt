@@ -1,12 +1,20 @@
 -- The whole step table of a small network with groups, by computation: what each state steps to, written by hand from request 4 of document 02.
 use mathlib.Core.Path.{_≡_, refl}
 use mathlib.Core.List.{[], _∷_, map, flatMap}
+use mathlib.Core.Option.{none}
 use Rattle.records.specs.Lists.{from}
 use Rattle.records.specs.State.{headerOf, portOf, switchOf, directionOf}
 use Rattle.records.specs.NetK.{record24}
+use Rattle.rows.specs.Refusal.{fileRow}
+use Rattle.rows.specs.Computing.{refusing}
 use Rattle.actions.specs.Computing.{sending}
 use Rattle.actions.specs.GroupWards.{missPair, missUplink, fanOut, lowered, raised, echoed, pair, fan, otherPair, uplink, groupWards}
 use Rattle.steps.specs.Step.{across, next}
+
+-- no row refuses the network
+passes : fileRow [] groupWards ≡ none
+unfolding refusing record24 missPair missUplink fanOut lowered raised echoed pair fan otherPair uplink groupWards
+passes = refl
 
 -- what each of the 64 states steps to, with the headers 0 to 3 of a point in one line; copies stand in the order of the actions, then of the buckets
 table :

@@ -15,7 +15,7 @@ use Rattle.records.specs.Fields.{actionsGood, fieldsGood}
 use Rattle.records.specs.Widths.{widthsOf}
 use Rattle.records.specs.State.{headerOf, portOf, switchOf, directionOf}
 use Rattle.records.specs.Laws.Every.{Every, in-empty, at-every}
-use Rattle.records.specs.Laws.Fields.{miss-actions, rule-actions}
+use Rattle.records.specs.Laws.Fields.{miss-actions, rule-actions, group-parts}
 use Rattle.records.specs.Laws.States.{header-lt, switch-lt}
 use Rattle.records.specs.declared.Widths.{Widths}
 use Rattle.rows.specs.Refusal.{fileRow}
@@ -28,7 +28,6 @@ use Rattle.actions.specs.Laws.AddedBits.{member-append}
 use Rattle.actions.specs.Laws.AmongChosen.{every-chosen}
 use Rattle.actions.specs.Laws.Bounce.{NoInPort, no-bounce}
 use Rattle.actions.specs.Laws.Elsewhere.{GroupsGood}
-use Rattle.actions.specs.Laws.GoodGroups.{group-buckets}
 use Rattle.steps.specs.Step.{Step}
 use Rattle.steps.specs.Relayed.{relayed}
 use Rattle.steps.specs.Laws.ByDirection.{next-arriving}
@@ -60,7 +59,7 @@ module _ (net : Net) (clean : fileRow [] net ≡ none) where
       (λ q. rule-actions w (getD net k []) q (fields k h (λ e. omega (arith, e, q))))
 
   groups : GroupsGood (widthsOf net) net
-  groups = at-every _ [] net (λ k h q. group-buckets w (getD net k []) q (fields k h (λ e. omega (arith, e, q))))
+  groups = at-every _ [] net (λ k h q. group-parts w (getD net k []) q (fields k h (λ e. omega (arith, e, q))) .2)
 
   module _ (without : WithoutInPort net) (s t : ℕ) (q : portOf (widthsOf net) t ≡ portOf (widthsOf net) s) where
     abbrev a : Arrival

@@ -9,6 +9,7 @@ use native.Mathlib.Omega.{arith}
 use lib.Dec.{eqb}
 use Rattle.planes.specs.Plane.{bit}
 use Rattle.planes.specs.Lines.{BitSet}
+use Rattle.planes.specs.Laws.Lines.{set-bit}
 use Rattle.planes.specs.Laws.Places.{byte-at}
 use Rattle.planes.specs.Laws.Tests.{same-test, or-left, or-right}
 use Rattle.records.specs.Lists.{any, member}
@@ -29,14 +30,6 @@ or-held false b f = refl
 pub member-append : (t : ℕ) (xs ys : List ℕ) → member t (xs ++ ys) ≡ (member t xs || member t ys)
 unfolding member
 member-append t xs ys = any-append (eqb t) xs ys
-
--- one bit that was set
-pub set-bit : (k m : ℕ) (a b : List ℕ) → BitSet k a b → bit b m ≡ (eqb m k || bit a m)
-set-bit k m a b S = go (ℕ-discrete m k)
-  where
-    go : Dec (m ≡ k) → bit b m ≡ (eqb m k || bit a m)
-    go (yes e) = ap (bit b) e ∙ S .here ∙ ap (λ (x : Bool). x || bit a m) (sym (eq-eqb m k e))
-    go (no e) = S .others m e ∙ ap (λ (x : Bool). x || bit a m) (sym (ne-eqb m k e))
 
 module _ (at n : ℕ) where
   -- which bits are added may be said in other words

@@ -14,7 +14,7 @@ use Rattle.records.specs.Search.{firstAt}
 use Rattle.records.specs.Fields.{bucketsGood}
 use Rattle.records.specs.Pattern.{patternGood, putBits}
 use Rattle.records.specs.State.{state, portOf}
-use Rattle.records.specs.Laws.Every.{Every, every-from, every-more, every-kept, every-keep, every-at}
+use Rattle.records.specs.Laws.Every.{Every, every-append, every-from, every-more, every-kept, every-keep, every-at}
 use Rattle.records.specs.Laws.Patterns.{put-lt}
 use Rattle.records.specs.Laws.States.{port-of}
 use Rattle.records.specs.declared.Widths.{Widths}
@@ -61,10 +61,6 @@ abbrev pub GroupsGood : Widths → Net → Type 0
 GroupsGood w net = Every (λ r. kind r ≡ 9 → bucketsGood w r ≡ true) net
 
 -- every element of two lists joined
-every-append : (P : ℕ → Type 0) (xs ys : List ℕ) → Every P xs → Every P ys → Every P (xs ++ ys)
-every-append P [] ys e f = f
-every-append P (x ∷ xs) ys e f = (e .0, every-append P xs ys (e .1) f)
-
 -- what the groups of a switch send, departs elsewhere
 module _ (net : Net) (w : Widths) (groups : GroupsGood w net) (sw p : ℕ) (hs : sw < 2 ^ w .w) where
   -- the ports of a group's buckets are within their width

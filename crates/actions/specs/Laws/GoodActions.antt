@@ -1,15 +1,17 @@
 -- What good fields of a record say.
 use borrow.Author.Tests.{lt-ltb, leb-true}
 use mathlib.Core.Path.{_≡_, sym, ap, _∙_}
-use mathlib.Core.Bool.{Bool, true, false, _&&_}
-use Prim.Native.Nat.{ℕ, zero, suc, _+_, _*_, _^_, _<_, _≤_}
+use mathlib.Core.Bool.{Bool, true, false}
+use Prim.Native.Nat.{ℕ, suc, _+_, _*_, _^_, _<_, _≤_}
+use native.Mathlib.Decide.{decLt}
 use native.Mathlib.Omega.{arith}
 use lib.Bits.{and-le-r}
 use lib.Dec.{eqb, leb}
-use Rattle.planes.specs.Laws.Tests.{and-left, and-right}
+use Rattle.planes.specs.Laws.Tests.{not-both, and-left}
 use Rattle.records.specs.Record.{Rec, at, ActionKind, kOutput, kRunGroup, actionKind}
 use Rattle.records.specs.Pattern.{patternGood}
 use Rattle.records.specs.Fields.{usedFields, usedGood, unusedGood, actionBytesGood, actionGood, actionsGood}
+use Rattle.records.specs.Laws.Fields.{count-high, action-each}
 use Rattle.records.specs.Laws.Patterns.{care-lt, value-within}
 use Rattle.records.specs.declared.Widths.{Widths}
 use Rattle.actions.specs.Sent.{UsedAction}
@@ -46,34 +48,14 @@ module _ (w : Widths) (r : Rec) (i : ℕ) (U : UsedAction w r i) where
 
 -- the used actions of a record with good actions
 module _ (w : Widths) (r : Rec) (good : actionsGood w r ≡ true) where
-  abbrev goodAt : ℕ → Bool
-  goodAt i = actionGood w r (at r 8) i
-
-  abbrev counted : Bool
-  counted = leb 1 (at r 8) && leb (at r 8) 4
-
-  upTo-2 : (counted && goodAt 0 && goodAt 1 && goodAt 2) ≡ true
-  unfolding actionsGood
-  upTo-2 = and-left (counted && goodAt 0 && goodAt 1 && goodAt 2) (goodAt 3) good
-
-  upTo-1 : (counted && goodAt 0 && goodAt 1) ≡ true
-  upTo-1 = and-left (counted && goodAt 0 && goodAt 1) (goodAt 2) upTo-2
-
-  upTo-0 : (counted && goodAt 0) ≡ true
-  upTo-0 = and-left (counted && goodAt 0) (goodAt 1) upTo-1
-
-  each : (i : ℕ) → i < 4 → goodAt i ≡ true
-  unfolding actionsGood
-  each zero h = and-right counted (goodAt 0) upTo-0
-  each (suc zero) h = and-right (counted && goodAt 0) (goodAt 1) upTo-1
-  each (suc (suc zero)) h = and-right (counted && goodAt 0 && goodAt 1) (goodAt 2) upTo-2
-  each (suc (suc (suc zero))) h = and-right (counted && goodAt 0 && goodAt 1 && goodAt 2) (goodAt 3) good
-  each (suc (suc (suc (suc i)))) h = absurd (omega arith)
-
   pub few-actions : at r 8 ≤ 4
-  few-actions = leb-true (at r 8) 4 (and-right (leb 1 (at r 8)) (leb (at r 8) 4) (and-left counted (goodAt 0) upTo-0))
+  few-actions = go (decLt 4 (at r 8))
+    where
+      go : Dec (4 < at r 8) → at r 8 ≤ 4
+      go (yes h) = not-both good (count-high w r h)
+      go (no h) = omega arith
 
   pub used-action : (i : ℕ) → i < at r 8 → UsedAction w r i
   used-action i h =
       let l : i < 4 = omega (arith, few-actions) in
-      record { few = l; used = h; good = each i l }
+      record { few = l; used = h; good = action-each w r good i l }

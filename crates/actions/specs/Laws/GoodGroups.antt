@@ -1,18 +1,16 @@
 -- What good fields of a group's record say.
-use borrow.Author.Tests.{leb-true, ltb-true}
+use borrow.Author.Tests.{ltb-true}
 use mathlib.Core.Path.{_≡_, sym, ap, _∙_}
-use mathlib.Core.Bool.{Bool, true, _&&_}
+use mathlib.Core.Bool.{true}
 use Prim.Native.Nat.{ℕ, _^_, _<_, _≤_}
+use native.Mathlib.Decide.{decLt}
 use native.Mathlib.Omega.{arith}
-use lib.Dec.{leb, ltb}
-use Rattle.planes.specs.Laws.Tests.{and-left, and-right}
-use Rattle.records.specs.Lists.{all, from}
-use Rattle.records.specs.Record.{Rec, at, kind}
+use Rattle.planes.specs.Laws.Tests.{not-both, and-right}
+use Rattle.records.specs.Record.{Rec, at}
 use Rattle.records.specs.Group.{bucketValue, bucketCare, bucketKind, bucketTarget, TargetKind, kPort, kLowerGroup, targetKind, IsBucket}
 use Rattle.records.specs.Pattern.{patternGood}
-use Rattle.records.specs.Fields.{zeros, targetFields, usedBucket, bucketGood, bucketsGood, fieldsGood}
-use Rattle.records.specs.Laws.Fields.{group-fields, bucket-used}
-use Rattle.records.specs.Laws.Lists.{from-passed}
+use Rattle.records.specs.Fields.{targetFields, usedBucket, bucketsGood}
+use Rattle.records.specs.Laws.Fields.{buckets-high, bucket-used, bucket-each}
 use Rattle.records.specs.declared.Widths.{Widths}
 use Rattle.records.specs.declared.groups.Bucket.{Bucket}
 
@@ -28,29 +26,18 @@ module _ (w : Widths) (g value care k target : ℕ) (good : usedBucket w g value
   group-lower e = ltb-true target g (fields-as kLowerGroup e)
 
 module _ (w : Widths) (r : Rec) where
-  pub group-buckets : kind r ≡ 9 → fieldsGood w r ≡ true → bucketsGood w r ≡ true
-  group-buckets e good =
-      let before = ltb (at r 1) (2 ^ w .w) && leb (at r 2) 15 && zeros 3 7 r in
-      and-right before (bucketsGood w r) (and-left (before && bucketsGood w r) (zeros 21 23 r) (sym (group-fields w r e) ∙ good))
-
   -- the used buckets of a group with good buckets
   module _ (good : bucketsGood w r ≡ true) where
-    abbrev counted : Bool
-    counted = leb 1 (at r 8) && leb (at r 8) 3
-
-    abbrev each : Bool
-    each = all (bucketGood w r (at r 8)) (from 0 3)
-
     pub few-buckets : at r 8 ≤ 3
-    unfolding bucketsGood
-    few-buckets = leb-true (at r 8) 3 (and-right (leb 1 (at r 8)) (leb (at r 8) 3) (and-left counted each good))
+    few-buckets = go (decLt 3 (at r 8))
+      where
+        go : Dec (3 < at r 8) → at r 8 ≤ 3
+        go (yes h) = not-both good (buckets-high w r h)
+        go (no h) = omega arith
 
     module _ (j : ℕ) (h : j < at r 8) where
       used-bucket : usedBucket w (at r 2) (bucketValue r j) (bucketCare r j) (bucketKind r j) (bucketTarget r j) ≡ true
-      unfolding bucketsGood
-      used-bucket =
-          sym (bucket-used w r (at r 8) j h)
-          ∙ from-passed (bucketGood w r (at r 8)) 0 3 j (omega arith) (omega (arith, few-buckets)) (and-right counted each good)
+      used-bucket = sym (bucket-used w r (at r 8) j h) ∙ bucket-each w r good j (omega (arith, few-buckets))
 
       -- as it was read from the record of group g
       pub used-as : (g : ℕ) (b : Bucket) → at r 2 ≡ g → IsBucket r j b → usedBucket w g (b .value) (b .care) (b .kind) (b .target) ≡ true

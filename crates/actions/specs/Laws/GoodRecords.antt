@@ -10,13 +10,12 @@ use lib.Seq.{take-all}
 use Rattle.planes.specs.Laws.Tests.{and-left, both}
 use Rattle.records.specs.Record.{Net, at, mostRules, records, ofKind}
 use Rattle.records.specs.Fields.{zeros, pointGood, actionsGood, bucketsGood, fieldsGood}
-use Rattle.records.specs.Laws.Fields.{link-fields, miss-actions, rule-actions}
+use Rattle.records.specs.Laws.Fields.{link-fields, miss-actions, rule-actions, group-parts}
 use Rattle.records.specs.Laws.Records.{length-records}
 use Rattle.records.specs.Laws.Parts.{kind-at}
 use Rattle.scan.specs.declared.Layout.{Layout}
 use Rattle.scan.specs.Layout.{LayoutOf}
 use Rattle.scan.specs.Stored.{Stored}
-use Rattle.actions.specs.Laws.GoodGroups.{group-buckets}
 
 module _ (n : ℕ) (l : Layout) (s : List ℕ) (st : Stored n l s) where
   abbrev net : Net
@@ -75,5 +74,5 @@ module _ (n : ℕ) (l : Layout) (s : List ℕ) (st : Stored n l s) where
   buckets-good i a b =
       let q = st .laid in
       let all = groups-at ∙ sym (take-all (n - l .groups) (drop (l .groups) net) (omega (arith, length-drop (l .groups) net, length-records n s))) in
-      group-buckets (l .widths) (getD net i []) (kind-at 9 net (l .groups) n i all (omega (arith, length-records n s)) a b)
-      (st .fields i (omega (arith, q .some-widths, q .switches, q .few-rules, groups-in)) b)
+      group-parts (l .widths) (getD net i []) (kind-at 9 net (l .groups) n i all (omega (arith, length-records n s)) a b)
+      (st .fields i (omega (arith, q .some-widths, q .switches, q .few-rules, groups-in)) b) .2

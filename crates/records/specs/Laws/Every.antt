@@ -2,7 +2,7 @@
 use borrow.Author.Tests.{eqb-true}
 use mathlib.Core.Path.{_≡_, refl, subst⁻¹}
 use mathlib.Core.Bool.{Bool, true, false, cond, false≢true}
-use mathlib.Core.List.{List, [], _∷_}
+use mathlib.Core.List.{List, [], _∷_, _++_}
 use mathlib.Core.Logic.{⊎-elim}
 use Prim.Native.Nat.{ℕ, zero, suc, _+_, _<_}
 use native.Mathlib.Omega.{arith}
@@ -39,6 +39,11 @@ every-more P Q [] f e = tt
 every-more P Q (x ∷ l) f e = (f x (e .0), every-more P Q l f (e .1))
 
 module _ {A : Type 0} (P : A → Type 0) where
+  -- two lists joined
+  pub every-append : (xs ys : List A) → Every P xs → Every P ys → Every P (xs ++ ys)
+  every-append [] ys e f = f
+  every-append (x ∷ xs) ys e f = (e .0, every-append xs ys (e .1) f)
+
   -- those that pass a test, if each is so or does not pass
   pub every-kept : (f : A → Bool) (l : List A) → Every (λ x. f x ≡ true → P x) l → Every P (keep f l)
   unfolding keep

@@ -204,6 +204,17 @@ module _ (w : Widths) (r : Rec) where
   unfolding fieldsGood recordKind
   group-fields e = rw e
 
+  -- the switch, the number and the buckets of a group
+  pub group-parts : kind r ≡ 9 → fieldsGood w r ≡ true → (at r 1 < 2 ^ w .w) × (at r 2 ≤ 15) × (bucketsGood w r ≡ true)
+  group-parts e g =
+      let names = ltb (at r 1) (2 ^ w .w) && leb (at r 2) 15 in
+      let all-parts = and-left (names && zeros 3 7 r && bucketsGood w r) (zeros 21 23 r) (sym (group-fields e) ∙ g) in
+      let first = and-left names (zeros 3 7 r) (and-left (names && zeros 3 7 r) (bucketsGood w r) all-parts) in (
+        ltb-true _ _ (and-left (ltb (at r 1) (2 ^ w .w)) (leb (at r 2) 15) first),
+        leb-true (at r 2) 15 (and-right (ltb (at r 1) (2 ^ w .w)) (leb (at r 2) 15) first),
+        and-right (names && zeros 3 7 r) (bucketsGood w r) all-parts,
+      )
+
   pub no-record : 6 ≤ kind r → (kind r ≡ 9 → ⊥) → fieldsGood w r ≡ false
   unfolding fieldsGood
   no-record h n = rw (no-kind (kind r) h n)

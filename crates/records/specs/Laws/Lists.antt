@@ -153,10 +153,3 @@ module _ (f : ℕ → Bool) where
   unfolding all from
   from-passes n zero h = refl
   from-passes n (suc k) h = rw (h n (omega arith) (omega arith)) (from-passes (suc n) k (λ i l t. h i (omega arith) (omega arith)))
-
-  pub from-passed : (n k i : ℕ) → n ≤ i → i < n + k → all f (from n k) ≡ true → f i ≡ true
-  from-passed n k i l h e = go (f i) refl
-    where
-      go : (b : Bool) → f i ≡ b → b ≡ true
-      go true q = refl
-      go false q = sym (from-fails n k i l h q) ∙ e

@@ -1,11 +1,11 @@
 -- The table of the groups that are there, and the last group, record by record.
-use borrow.Author.Tests.{eq-eqb, eqb-true, ne-eqb, ltb-true, leb-true}
+use borrow.Author.Tests.{eq-eqb, eqb-true, ne-eqb, ltb-true}
 use mathlib.Core.Path.{_≡_, refl, sym, ap, ap₂, subst, _∙_}
 use mathlib.Core.Bool.{Bool, true, false, not, _&&_, _||_, and-false, or-comm}
 use mathlib.Core.List.{List, [], _∷_, _++_}
 use Prim.Native.Nat.{ℕ, _+_, _-_, _*_, _^_, _<_, _≤_}
 use native.Mathlib.Omega.{arith}
-use lib.Dec.{eqb, ltb, leb}
+use lib.Dec.{eqb, ltb}
 use lib.ListN.{length, getD, take, drop, replicate, length-append}
 use lib.Pow.{pow-mono}
 use lib.Seq.{getD-at}
@@ -17,10 +17,10 @@ use Rattle.records.specs.Lists.{keep, any}
 use Rattle.records.specs.Record.{Rec, Net, at, kind, records, ofKind}
 use Rattle.records.specs.Search.{recordAt}
 use Rattle.records.specs.Group.{isGroup, hasGroup}
-use Rattle.records.specs.Fields.{zeros, matchGood, actionsGood, bucketsGood, fieldsGood}
+use Rattle.records.specs.Fields.{zeros, matchGood, actionsGood, fieldsGood}
 use Rattle.records.specs.Pattern.{patternGood}
 use Rattle.records.specs.Laws.Lists.{keep-in, keep-out}
-use Rattle.records.specs.Laws.Fields.{miss-fields, rule-fields, miss-actions, rule-actions, group-fields, action-each, bucket-each, action-group, bucket-lower}
+use Rattle.records.specs.Laws.Fields.{miss-fields, rule-fields, miss-actions, rule-actions, group-parts, action-each, bucket-each, action-group, bucket-lower}
 use Rattle.records.specs.Laws.Groups.{has-more}
 use Rattle.records.specs.Laws.Kinds.{isGroupRecord, kind-count}
 use Rattle.records.specs.Laws.Limits.{Limits}
@@ -103,12 +103,10 @@ module _ (w : Widths) (limits : Limits w) (r : Rec) where
 
   pub buckets-named : length r ≡ 24 → kind r ≡ 9 → fieldsGood w r ≡ true → BucketsNamed r
   buckets-named l k e =
-      let a = both (ltb (at r 1) (2 ^ w .w) && leb (at r 2) 15 && zeros 3 7 r && bucketsGood w r) (zeros 21 23 r) (sym (group-fields w r k) ∙ e) in
-      let b = both (ltb (at r 1) (2 ^ w .w) && leb (at r 2) 15 && zeros 3 7 r) (bucketsGood w r) (a .0) in
-      let c = both (ltb (at r 1) (2 ^ w .w)) (leb (at r 2) 15) (and-left (ltb (at r 1) (2 ^ w .w) && leb (at r 2) 15) (zeros 3 7 r) (b .0)) in
+      let parts = group-parts w r k e in
       record {
-        switch = switch-lt (ltb-true _ _ (c .0));
-        number = λ j h q. omega (arith, leb-true (at r 2) 15 (c .1), bucket-lower w r l (at r 8) j h (bucket-each w r (b .1) j h) q);
+        switch = switch-lt (parts .0);
+        number = λ j h q. omega (arith, parts .1, bucket-lower w r l (at r 8) j h (bucket-each w r (parts .2) j h) q);
       }
 
 -- the last group, with one record more

@@ -1,0 +1,94 @@
+-- Row 16 on a small network with groups: what each change of one byte of it is refused with, by computation.
+use mathlib.Core.Path.{_≡_, refl}
+use mathlib.Core.List.{List, [], _∷_, _++_, map}
+use mathlib.Core.Option.{none, some}
+use Prim.Native.Nat.{ℕ, suc}
+use lib.ListN.{getD, take, drop, replicate}
+use Rattle.records.specs.Lists.{from}
+use Rattle.records.specs.Record.{Rec, Net}
+use Rattle.records.specs.NetK.{record24}
+use Rattle.rows.specs.Refusal.{Refusal, fileRow, commandRow}
+use Rattle.rows.specs.Computing.{refusing}
+
+-- group g of a switch, with one bucket, to drop
+unfoldable toDrop : ℕ → ℕ → Rec
+toDrop sw g = record24 (9 ∷ sw ∷ g ∷ 0 ∷ 0 ∷ 0 ∷ 0 ∷ 0 ∷ 1 ∷ 0 ∷ 0 ∷ 1 ∷ 0 ∷ [])
+
+-- the widths, H 1, P 2, W 1, and the misses: OUTPUT 0, and group 2
+unfoldable front : Net
+front =
+    record24 (1 ∷ 1 ∷ 2 ∷ 1 ∷ [])
+    ∷ record24 (3 ∷ 0 ∷ 0 ∷ 0 ∷ 0 ∷ 0 ∷ 0 ∷ 0 ∷ 1 ∷ 1 ∷ 0 ∷ 3 ∷ [])
+    ∷ record24 (3 ∷ 1 ∷ 0 ∷ 0 ∷ 0 ∷ 0 ∷ 0 ∷ 0 ∷ 1 ∷ 4 ∷ 2 ∷ 0 ∷ [])
+    ∷ []
+
+-- then 3: a rule of switch 0, group 1; 4: a policy node; 5: group 0/1, to port 1; 6: group 1/0, to the controller; 7: group 1/2, on to group 0, and
+-- SET 1 to drop; 8: group 1/14, to drop
+unfoldable sound : Net
+sound =
+    front ++ (record24 (4 ∷ 0 ∷ 1 ∷ 0 ∷ 0 ∷ 0 ∷ 0 ∷ 0 ∷ 1 ∷ 4 ∷ 1 ∷ 0 ∷ [])
+    ∷ record24 (5 ∷ [])
+    ∷ record24 (9 ∷ 0 ∷ 1 ∷ 0 ∷ 0 ∷ 0 ∷ 0 ∷ 0 ∷ 1 ∷ 0 ∷ 0 ∷ 1 ∷ 1 ∷ [])
+    ∷ record24 (9 ∷ 1 ∷ 0 ∷ 0 ∷ 0 ∷ 0 ∷ 0 ∷ 0 ∷ 1 ∷ 0 ∷ 0 ∷ 1 ∷ 3 ∷ [])
+    ∷ record24 (9 ∷ 1 ∷ 2 ∷ 0 ∷ 0 ∷ 0 ∷ 0 ∷ 0 ∷ 2 ∷ 0 ∷ 0 ∷ 2 ∷ 0 ∷ 1 ∷ 1 ∷ 1 ∷ 0 ∷ [])
+    ∷ toDrop 1 14 ∷ [])
+
+-- it with byte k of record i another
+unfoldable altered : ℕ → ℕ → ℕ → Net
+altered i k v = let r = getD sound i [] in take i sound ++ ((take k r ++ (v ∷ drop (suc k) r)) ∷ drop (suc i) sound)
+
+-- what it is refused with then
+unfoldable answer : ℕ × ℕ × ℕ → Refusal
+answer c = fileRow [] (altered (c .0) (c .1) (c .2))
+
+-- all that these cases compute with
+unfoldable trying : Unit {0}
+unfolding refusing record24 toDrop front sound altered answer
+trying = tt
+
+-- it passes, and so it does with group 15, and with a bucket more of the widest target
+passes : fileRow [] sound ∷ map answer ((8, 2, 15) ∷ (8, 2, 3) ∷ (8, 12, 3) ∷ (6, 12, 0) ∷ (7, 15, 2) ∷ []) ≡ replicate 6 none
+unfolding trying
+passes = refl
+
+-- fields of a group: the switch, the number, bytes 3 and 7, no bucket and four, a bucket missing, a value beside its care, a care beyond the width, a target of no
+-- kind, a port beyond the width, a bucket not used, and byte 21
+fields : map answer
+    ((8, 1, 2) ∷ (8, 2, 16) ∷ (8, 3, 1) ∷ (8, 7, 1) ∷ (8, 8, 0) ∷ (8, 8, 4) ∷ (8, 8, 2) ∷ (8, 9, 1) ∷ (8, 10, 2) ∷ (8, 11, 0) ∷ (8, 11, 3) ∷ (8, 12, 4) ∷ (8, 13, 1) ∷ (8, 20, 1) ∷ (8, 21, 1) ∷ [])
+    ≡ replicate 15 (some (16, 8))
+unfolding trying
+fields = refl
+
+-- a bucket's group that is not lower: its own, a higher one, and a lower one that is not there; a group out of order by its number, the same twice, and by its switch
+lower : map answer ((7, 12, 2) ∷ (7, 12, 14) ∷ (7, 12, 1) ∷ []) ≡ replicate 3 (some (16, 7))
+unfolding trying
+lower = refl
+
+order : map answer ((8, 2, 1) ∷ (8, 2, 2) ∷ (8, 1, 0) ∷ []) ≡ replicate 3 (some (16, 8))
+unfolding trying
+order = refl
+
+-- a miss and a rule that name an absent group, the rule one that another switch has; a group that is there though its own record is faulty; a group number above
+-- 15 and a care that is not zero, which are row 5; a kind that no record has
+named : map answer ((2, 10, 3) ∷ (3, 10, 2) ∷ (5, 2, 3) ∷ (5, 8, 0) ∷ (3, 10, 16) ∷ (3, 11, 1) ∷ (8, 0, 8) ∷ [])
+    ≡ some (16, 2) ∷ some (16, 3) ∷ some (16, 3) ∷ some (16, 5) ∷ some (5, 3) ∷ some (5, 3) ∷ some (3, 8) ∷ []
+unfolding trying
+named = refl
+
+-- sixteen groups pass, and a 17th does not; at a group the misses are incomplete
+many : fileRow [] (front ++ map (toDrop 1) (from 0 16)) ∷ fileRow [] (front ++ (toDrop 0 7 ∷ map (toDrop 1) (from 0 16))) ∷ fileRow [] (take 2 front ++ (toDrop 0 0 ∷ [])) ∷ []
+    ≡ none ∷ some (16, 19) ∷ some (7, 2) ∷ []
+unfolding trying
+many = refl
+
+-- a command on it: an add that names a group of its switch, of the other one, and above 15; a modify of an absent rule that names an absent group; a delete
+commands : map (commandRow sound)
+    (record24 (6 ∷ 1 ∷ 9 ∷ 0 ∷ 0 ∷ 0 ∷ 0 ∷ 0 ∷ 1 ∷ 4 ∷ 14 ∷ 0 ∷ [])
+    ∷ record24 (6 ∷ 0 ∷ 9 ∷ 0 ∷ 0 ∷ 0 ∷ 0 ∷ 0 ∷ 1 ∷ 4 ∷ 14 ∷ 0 ∷ [])
+    ∷ record24 (6 ∷ 0 ∷ 9 ∷ 0 ∷ 0 ∷ 0 ∷ 0 ∷ 0 ∷ 1 ∷ 4 ∷ 16 ∷ 0 ∷ [])
+    ∷ record24 (7 ∷ 0 ∷ 9 ∷ 0 ∷ 0 ∷ 0 ∷ 0 ∷ 0 ∷ 2 ∷ 1 ∷ 1 ∷ 3 ∷ 4 ∷ 2 ∷ 0 ∷ [])
+    ∷ record24 (8 ∷ 0 ∷ 9 ∷ 0 ∷ [])
+    ∷ [])
+    ≡ none ∷ some (16, 0) ∷ some (12, 0) ∷ some (16, 0) ∷ none ∷ []
+unfolding trying
+commands = refl
