@@ -1,4 +1,4 @@
--- Whether the groups that a record names are there goes by the network's groups alone.
+-- Which groups a record names, and whether they are there, which goes by the network's groups alone.
 use mathlib.Core.Path.{_≡_, refl, sym, ap, _∙_}
 use mathlib.Core.Bool.{Bool, true, false, not, _&&_, _||_}
 use mathlib.Core.List.{[], _∷_, _++_}
@@ -10,28 +10,6 @@ use Rattle.records.specs.Record.{Rec, Net, at, kind, RecordKind, kWidths
 use Rattle.records.specs.Group.{bucketKind, bucketTarget, isGroup, hasGroup, runsThere, actionsThere, goesThere, bucketsThere, namedThere, groupsThere}
 use Rattle.records.specs.Laws.Lists.{any-keep, any-snoc, from-fails, from-passes}
 use Rattle.records.specs.Laws.Kinds.{isGroupRecord}
-
-module _ (x y : Net) (same : ofKind 9 x ≡ ofKind 9 y) (r : Rec) where
-  pub actions-alike : actionsThere x r ≡ actionsThere y r
-  unfolding actionsThere runsThere hasGroup
-  actions-alike = ap (λ (groups : Net). all (λ i. not (eqb (at r (9 + 3 * i)) 4) || any (isGroup (at r 1) (at r (10 + 3 * i))) groups) (from 0 4)) same
-
-  buckets-alike : bucketsThere x r ≡ bucketsThere y r
-  unfolding bucketsThere goesThere hasGroup
-  buckets-alike = ap (λ (groups : Net). all (λ j. not (eqb (bucketKind r j) 2) || any (isGroup (at r 1) (bucketTarget r j)) groups) (from 0 3)) same
-
-  pub there-alike : groupsThere x r ≡ groupsThere y r
-  unfolding groupsThere
-  there-alike = go (recordKind (kind r))
-    where
-      go : (k : RecordKind) → namedThere k x r ≡ namedThere k y r
-      go kWidths = refl
-      go kLink = refl
-      go kMiss = actions-alike
-      go kRule = actions-alike
-      go kNode = refl
-      go kGroup = buckets-alike
-      go kNoRecord = refl
 
 -- what a record of each kind names
 module _ (net : Net) (r : Rec) where
@@ -58,6 +36,29 @@ module _ (net : Net) (r : Rec) where
   pub group-there : kind r ≡ 9 → groupsThere net r ≡ bucketsThere net r
   unfolding groupsThere recordKind
   group-there k = rw k
+
+-- two networks with the same groups
+module _ (x y : Net) (same : ofKind 9 x ≡ ofKind 9 y) (r : Rec) where
+  pub actions-alike : actionsThere x r ≡ actionsThere y r
+  unfolding actionsThere runsThere hasGroup
+  actions-alike = ap (λ (groups : Net). all (λ i. not (eqb (at r (9 + 3 * i)) 4) || any (isGroup (at r 1) (at r (10 + 3 * i))) groups) (from 0 4)) same
+
+  buckets-alike : bucketsThere x r ≡ bucketsThere y r
+  unfolding bucketsThere goesThere hasGroup
+  buckets-alike = ap (λ (groups : Net). all (λ j. not (eqb (bucketKind r j) 2) || any (isGroup (at r 1) (bucketTarget r j)) groups) (from 0 3)) same
+
+  pub there-alike : groupsThere x r ≡ groupsThere y r
+  unfolding groupsThere
+  there-alike = go (recordKind (kind r))
+    where
+      go : (k : RecordKind) → namedThere k x r ≡ namedThere k y r
+      go kWidths = refl
+      go kLink = refl
+      go kMiss = actions-alike
+      go kRule = actions-alike
+      go kNode = refl
+      go kGroup = buckets-alike
+      go kNoRecord = refl
 
 -- whether a group is there, with one record more
 pub has-more : (net : Net) (r : Rec) (sw g : ℕ) → hasGroup (net ++ (r ∷ [])) sw g ≡ (hasGroup net sw g || (isGroupRecord r && isGroup sw g r))
