@@ -13,7 +13,7 @@ use wegbaro_tests::networks::{
     largest, largest_without_policies, nested_groups, work_needed, Widths,
 };
 use wegbaro_tests::random::Random;
-use wegbaro_tests::records::{add, miss, output, rule, run, widths, Record};
+use wegbaro_tests::records::{add, link, miss, output, rule, run, widths, Record};
 use wegbaro_tests::second::network::{Action, Network, Pattern};
 use wegbaro_tests::second::states::{Direction, Point, State, DROP};
 use wegbaro_tests::second::{file, routes, steps, Second};
@@ -207,6 +207,47 @@ fn one_switch_with_groups() -> Vec<Record> {
     }
     records.extend(nested_groups(Widths { h: 6, p: 3, w: 0 }, 0));
     records
+}
+
+/// What arrives never leads to a state with a bit that is both set and not: so it holds everywhere.
+fn vacuous(other: u8) -> Vec<Node> {
+    vec![
+        bit(X, 9),
+        not(0),
+        r(X, Y),
+        tc(2, X, Y),
+        bit(Y, other),
+        not(4),
+        and(4, 5),
+        and(3, 6),
+        some(7, Y),
+        and(1, 8),
+    ]
+}
+
+/// 256 rules at one switch, two links, and eight closures that hold. Where there are groups, every
+/// rule runs the highest of the sixteen in place of its action.
+fn closed_at_one_switch(groups: &[Record]) -> Vec<Record> {
+    let mut records = one_switch();
+    if !groups.is_empty() {
+        records[2..].iter_mut().for_each(|rule| rule[9..12].copy_from_slice(&run(15)));
+    }
+    records.splice(1..1, [link(0, 1, 0, 2), link(0, 3, 0, 4)]);
+    records.extend((0..8).flat_map(|number| policy(number, &vacuous(number))));
+    records.extend(groups);
+    records
+}
+
+/// The check call with eight closures: with sixteen nested groups that every rule runs, and without.
+fn check_groups() -> [f64; 2] {
+    let groups = nested_groups(Widths { h: 6, p: 3, w: 0 }, 0);
+    let networks = [closed_at_one_switch(&groups), closed_at_one_switch(&[])];
+    let mut work = vec![0; work_needed(&networks[0])];
+    let stores = networks.map(|records| (store_of(&records), records.len()));
+    let mut check = |(store, n): &(Vec<u8>, usize)| {
+        time(|| assert_eq!(Library.check(black_box(store), *n, &mut work), Checked::Holds))
+    };
+    medians(|| [check(&stores[0]), check(&stores[1])])
 }
 
 /// The step plane, the external row and two cleared planes: the library, and plain Rust.
@@ -430,6 +471,8 @@ fn main() {
     let records = guarded();
     print("check, 256 rules and eight closures", check(&records), "second implementation");
     print("command on the same network", command(&records), "second implementation");
+    let name = "check, 16 groups that 256 rules run, eight closures";
+    print(name, check_groups(), "the library, without the groups");
     for sought in [Sought::in_largest(), Sought::longest(), Sought::none()] {
         let name = sought.name();
         print(

@@ -1,6 +1,6 @@
 -- Row 16 on a small network with groups: what each change of one byte of it is refused with, by computation.
 use mathlib.Core.Path.{_≡_, refl}
-use mathlib.Core.List.{List, [], _∷_, _++_, map}
+use mathlib.Core.List.{[], _∷_, _++_, map}
 use mathlib.Core.Option.{none, some}
 use Prim.Native.Nat.{ℕ, suc}
 use lib.ListN.{getD, take, drop, replicate}

@@ -5,8 +5,8 @@ ghost use mathlib.Core.List.{[], _∷_, _++_};
 ghost use Prim.Native.Nat.{_*_, _≤_, _<_};
 ghost use lib.ListN.{length};
 ghost use Rattle.planes.specs.Plane.{bit};
-ghost use Rattle.records.specs.Record.{Net, at, kind, records};
-ghost use Rattle.records.specs.Group.{bucketKind, bucketTarget, runsThere, actionsThere, goesThere, bucketsThere};
+ghost use Rattle.records.specs.Record.{Net, kind, records};
+ghost use Rattle.records.specs.Group.{runsThere, actionsThere, goesThere, bucketsThere};
 ghost use Rattle.rows.specs.Rows.{outOfOrder};
 ghost use Rattle.rows.specs.Groups.{groupBit, There, Noted, ActionsNamed, BucketsNamed, GroupsOf};
 

@@ -6,5 +6,6 @@ pub mod Existence
 pub mod Sound
 pub mod Starred
 pub mod NoBounce
+pub mod ThroughGroups
 pub mod Stores
 pub mod Laws

@@ -1,4 +1,3 @@
-use mathlib.Core.Path.{_∙_}
 use native.Mathlib.Omega.{arith}
 use Rattle.records.specs.Group.{targetKind}
 use Rattle.records.specs.Laws.Limits.{limits}

@@ -1,9 +1,8 @@
 use borrow.Author.Needs.{needs}
 use borrow.Author.Tests.{le-leb, lt-leb}
-use mathlib.Core.Path.{_≡_, sym, ap, _∙_}
+use mathlib.Core.Path.{sym, ap, _∙_}
 use mathlib.Core.Bool.{true≢false, not}
 use mathlib.Core.Logic.{inr}
-use native.Mathlib.Omega.{arith}
 use Rattle.records.proofs.Tested.{refused, passed}
 use Rattle.records.specs.Laws.Limits.{limits}
 use Rattle.rows.specs.Laws.Groups.{buckets-named}
