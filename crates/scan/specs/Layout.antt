@@ -5,7 +5,7 @@ use mathlib.Core.List.{[]}
 use mathlib.Core.Option.{none, some}
 use Prim.Native.Nat.{ℕ, _+_, _-_, _*_, _^_, _≤_, _<_}
 use lib.ListN.{length, take, drop}
-use Rattle.records.specs.Record.{Net, mostRules, mostPolicies, mostNodes, ofKind}
+use Rattle.records.specs.Record.{Net, mostRules, mostPolicies, mostNodes, mostGroups, ofKind}
 use Rattle.records.specs.Widths.{withinLimits, widthsOf}
 use Rattle.records.specs.Policy.{policyCount, longest}
 use Rattle.rows.specs.Refusal.{Refusal, fileRow}
@@ -27,6 +27,7 @@ pub record LayoutOf (net : Net) (l : Layout) : Type 0 where
   pub switches : l .rules ≡ l .misses + 2 ^ l .widths .w
   pub few-rules : (l .rules ≤ l .nodes) × (l .nodes ≤ l .rules + mostRules)
   pub within : (l .nodes ≤ l .groups) × (l .groups ≤ length net)
+  pub few-groups : length net ≤ l .groups + mostGroups
   pub policies : l .policies ≡ policyCount net
   pub few-policies : l .policies ≤ mostPolicies
   pub longest : l .longest ≡ longest net

@@ -16,6 +16,7 @@ use Rattle.records.specs.Widths.{withinLimits, widthsOf}
 use Rattle.records.specs.Policy.{policyCount, longestOf, longest}
 use Rattle.rows.specs.Rows.{row4, missesIncomplete}
 use Rattle.rows.specs.Refusal.{fileRow}
+use Rattle.rows.specs.Count.{groups-bound}
 use Rattle.scan.specs.Scan.{SeenOf}
 use Rattle.scan.specs.Layout.{LayoutOf, Counted}
 use Rattle.scan.specs.declared.turns.Seen.{Seen}
@@ -284,6 +285,7 @@ layout-of net l clean c =
       switches = c .rules ∙ ap (λ (k : ℕ). l .misses + k) (clean-misses net clean ∙ ap (λ (v : Widths). 2 ^ v .w) (sym w));
       few-rules = (omega (arith, c .nodes), omega (arith, c .nodes, n .2));
       within = (omega (arith, l6), omega (arith, c .groups));
+      few-groups = omega (arith, c .groups, groups-bound net clean);
       policies = c .policies;
       few-policies = omega (arith, c .policies, n .3);
       longest = c .longest;
