@@ -13,12 +13,13 @@ use Rattle.planes.specs.Laws.Tests.{and-right}
 use Rattle.records.specs.Record.{Rec, Net, at, records}
 use Rattle.records.specs.Group.{isGroup}
 use Rattle.records.specs.Search.{firstAt}
-use Rattle.records.specs.Laws.Records.{length-records, part-is, record-at}
+use Rattle.records.specs.Laws.Records.{length-records}
 use Rattle.scan.specs.declared.Layout.{Layout}
 use Rattle.scan.specs.Stored.{Stored}
 use Rattle.actions.specs.Groups.{groupRecord}
 use Rattle.actions.specs.ByPlace.{GroupAt}
 use Rattle.actions.specs.Laws.GoodRecords.{groups-at}
+use Rattle.actions.specs.Laws.Running.{record-read}
 
 -- the first of some records that is group g of a switch
 abbrev firstOf : Net → ℕ → ℕ → Rec
@@ -44,7 +45,7 @@ module _ (n : ℕ) (s : List ℕ) (sw g : ℕ) where
   -- a test of record i, a part of the store
   module _ (i : ℕ) (h : i < n) (S : Sought n s sw g i) (t : Bool) (e : t ≡ isGroup sw g (take (i * 24 + 24 - i * 24) (drop (i * 24) s))) where
     tested : (b : Bool) → t ≡ b → isGroup sw g (getD net i []) ≡ b
-    tested b q = ap (isGroup sw g) (record-at n s i h ∙ sym (part-is s i)) ∙ sym e ∙ q
+    tested b q = ap (isGroup sw g) (record-read n s i h) ∙ sym e ∙ q
 
     left : groupRecord (records n s) sw g ≡ firstOf (getD net i [] ∷ drop (i + 1) net) sw g
     left = S .first ∙ ap (λ (rs : Net). firstOf rs sw g) (drop-cons net i [] (omega (arith, length-records n s)) ∙ ap (λ (k : ℕ). getD net i [] ∷ drop k net) (sym (add-one i)))

@@ -22,9 +22,13 @@ sentTo kPort w sw p lower target h = departing w sw h (except p (target ∷ []))
 sentTo kLowerGroup w sw p lower target h = lower target h
 sentTo kNoTarget w sw p lower target h = []
 
+-- what SET by bucket j of a group's record makes of header h
+abbrev pub bucketHeader : Widths → Rec → ℕ → ℕ → ℕ
+bucketHeader w r j h = putBits (w .h) (bucketValue r j) (bucketCare r j) h
+
 -- what bucket j of a group's record sends of a frame that entered the group with header h
 unfoldable pub bucketSent : Widths → ℕ → ℕ → (ℕ → ℕ → List ℕ) → Rec → ℕ → ℕ → List ℕ
-bucketSent w sw p lower r h j = sentTo (targetKind (bucketKind r j)) w sw p lower (bucketTarget r j) (putBits (w .h) (bucketValue r j) (bucketCare r j) h)
+bucketSent w sw p lower r h j = sentTo (targetKind (bucketKind r j)) w sw p lower (bucketTarget r j) (bucketHeader w r j h)
 
 -- what its first k buckets send
 unfoldable pub bucketsSent : Widths → ℕ → ℕ → (ℕ → ℕ → List ℕ) → Rec → ℕ → ℕ → List ℕ

@@ -3,6 +3,7 @@ pub mod AddedBits
 pub mod AmongChosen
 pub mod Bodies
 pub mod Bounce
+pub mod BucketHeaders
 pub mod Chosen
 pub mod CopiesInOrder
 pub mod Elsewhere

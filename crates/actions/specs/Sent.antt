@@ -9,9 +9,8 @@ use Rattle.records.specs.Record.{Rec, Net, at}
 use Rattle.records.specs.Group.{targetKind}
 use Rattle.records.specs.Fields.{actionGood}
 use Rattle.records.specs.State.{ordinary}
-use Rattle.records.specs.Pattern.{matches, putBits}
+use Rattle.records.specs.Pattern.{matches}
 use Rattle.records.specs.declared.Widths.{Widths}
-use Rattle.records.specs.declared.groups.Bucket.{Bucket}
 use Rattle.actions.specs.Departing.{except}
 use Rattle.actions.specs.Groups.{sentTo, lowerSent, groupSent}
 use Rattle.actions.specs.Actions.{sentBy, headerAfter}
@@ -37,9 +36,9 @@ pub record Ready (net : Net) (w : Widths) (line sw p h : ℕ) (work marks : List
 abbrev pub Ended : Net → Widths → ℕ → ℕ → ℕ → List ℕ → List ℕ → List ℕ → List ℕ → List ℕ → Type 0
 Ended net w line sw p l work marks work′ marks′ = Ran (groupSent net w sw p) line (lineBytes w) l work marks work′ marks′
 
--- what a bucket that was read from the record of group g sends
-abbrev pub bucketSends : Net → Widths → ℕ → ℕ → ℕ → Bucket → ℕ → List ℕ
-bucketSends net w sw p g b h = sentTo (targetKind (b .kind)) w sw p (lowerSent net w sw p g) (b .target) (putBits (w .h) (b .value) (b .care) h)
+-- what a bucket of group g sends to its target, with the header that it set
+abbrev pub targetSends : Net → Widths → ℕ → ℕ → ℕ → ℕ → ℕ → ℕ → List ℕ
+targetSends net w sw p g kind target header = sentTo (targetKind kind) w sw p (lowerSent net w sw p g) target header
 
 -- action i of a record is one of those that it uses, and good
 pub record UsedAction (w : Widths) (r : Rec) (i : ℕ) : Type 0 where

@@ -1,8 +1,8 @@
 // What the groups of a switch send.
+use crate::buckets::BUCKET_HEADERS;
+use crate::buckets::header_by;
 use crate::send_on;
-use records::groups::Bucket;
 use records::groups::bucket_at;
-use records::pattern::put;
 use rows::rules::Found;
 use scan::Layout;
 ghost use mathlib.Core.Path.{_≡_};
@@ -10,13 +10,14 @@ ghost use mathlib.Core.Bool.{true};
 ghost use Prim.Native.Nat.{_<_};
 ghost use lib.ListN.{length};
 ghost use Rattle.records.specs.Record.{records};
-ghost use Rattle.records.specs.Group.{isGroup};
-ghost use Rattle.records.specs.Fields.{usedBucket};
+ghost use Rattle.records.specs.Group.{isGroup, targetKind};
+ghost use Rattle.records.specs.Fields.{targetFields};
 ghost use Rattle.scan.specs.Stored.{Stored};
 ghost use Rattle.actions.specs.Groups.{groupSent};
 ghost use Rattle.actions.specs.ByPlace.{GroupFound};
+ghost use Rattle.actions.specs.BucketHeaders.{BucketHeaders};
 ghost use Rattle.actions.specs.Marks.{mark};
-ghost use Rattle.actions.specs.Sent.{Ready, Ended, bucketSends};
+ghost use Rattle.actions.specs.Sent.{Ready, Ended, targetSends};
 
 // The record of a group is that of number g of a switch.
 fn is_group(r: &[u8], sw: u8, g: u8) -> bool
@@ -53,49 +54,62 @@ fn mark_of(g: u8, h: u8) -> usize
     g as usize * 64 + h as usize
 }
 
-// Runs a bucket of group g for a frame that entered the group with header h.
+// Runs a bucket of group g that set this header, by its target.
 fn run_bucket(
     work: &mut [u8],
     line: usize,
     store: &[u8],
     n: usize,
     l: Layout,
+    buckets: &[u8; BUCKET_HEADERS],
     sw: u8,
     p: u8,
     g: u8,
-    h: u8,
-    b: Bucket,
+    kind: u8,
+    target: u8,
+    header: u8,
     marks: &mut [u8],
 )
-    requires { ⌜ Stored n l (now store) × Ready (records n (now store)) (l .widths) line sw p h (now work) (now marks) ⌝ }
-    requires { ⌜ (g < 16) × (usedBucket (l .widths) g (b .value) (b .care) (b .kind) (b .target) ≡ true) ⌝ }
-    ensures { λ _. ⌜ Ended (records n (now (store .entry))) (l .widths) line sw p (bucketSends (records n (now (store .entry))) (l .widths) sw p g b h) (now (work .entry)) (now (marks .entry)) (now (work .exit)) (now (marks .exit)) ⌝ }
+    requires { ⌜ Stored n l (now store) × Ready (records n (now store)) (l .widths) line sw p header (now work) (now marks) × BucketHeaders (records n (now store)) l (now buckets) ⌝ }
+    requires { ⌜ (g < 16) × (targetFields (targetKind kind) (l .widths) g target ≡ true) ⌝ }
+    ensures { λ _. ⌜ Ended (records n (now (store .entry))) (l .widths) line sw p (targetSends (records n (now (store .entry))) (l .widths) sw p g kind target header) (now (work .entry)) (now (marks .entry)) (now (work .exit)) (now (marks .exit)) ⌝ }
 {
     let w = l.widths;
-    let header = put(w.h, b.value, b.care, h);
-    let kind = b.kind;
-    let target = b.target;
     match kind {
         1 => send_on(work, line, w, sw, p, header, target),
-        2 => run_group(work, line, store, n, l, sw, p, target, header, marks),
+        2 => run_group(
+            work,
+            line,
+            store,
+            n,
+            l,
+            buckets,
+            sw,
+            p,
+            target,
+            header,
+            marks,
+        ),
         0 | 3..=255 => {}
     }
 }
 
 // Runs group g of a switch for a frame that enters it with header h, unless that is marked; marks it when all its buckets have run.
+// What the buckets make of each header is given, as by bucket_headers.
 pub fn run_group(
     work: &mut [u8],
     line: usize,
     store: &[u8],
     n: usize,
     l: Layout,
+    buckets: &[u8; BUCKET_HEADERS],
     sw: u8,
     p: u8,
     g: u8,
     h: u8,
     marks: &mut [u8],
 )
-    requires { ⌜ Stored n l (now store) × Ready (records n (now store)) (l .widths) line sw p h (now work) (now marks) ⌝ }
+    requires { ⌜ Stored n l (now store) × Ready (records n (now store)) (l .widths) line sw p h (now work) (now marks) × BucketHeaders (records n (now store)) l (now buckets) ⌝ }
     requires { ⌜ g < 16 ⌝ }
     ensures { λ _. ⌜ Ended (records n (now (store .entry))) (l .widths) line sw p (groupSent (records n (now (store .entry))) (l .widths) sw p g h) (now (work .entry)) (now (marks .entry)) (now (work .exit)) (now (marks .exit)) ⌝ }
 {
@@ -111,10 +125,26 @@ pub fn run_group(
     let e = a + 24;
     let r = &store[a..e];
     let count = r[8] as usize;
+    let k = i - l.groups;
     let mut j: usize = 0;
     while j < count {
         let b = bucket_at(r, j);
-        run_bucket(work, line, store, n, l, sw, p, g, h, b, marks);
+        let header = header_by(buckets, k, j, h);
+        run_bucket(
+            work,
+            line,
+            store,
+            n,
+            l,
+            buckets,
+            sw,
+            p,
+            g,
+            b.kind,
+            b.target,
+            header,
+            marks,
+        );
         j += 1;
     }
     planes::set_bit(marks, m);

@@ -1,4 +1,5 @@
 // What the actions of a record send.
+use buckets::BUCKET_HEADERS;
 use groups::run_group;
 use records::Widths;
 use records::fields::is_ordinary;
@@ -21,10 +22,12 @@ ghost use Rattle.records.specs.Matched.{MatchedSet};
 ghost use Rattle.actions.specs.Actions.{reached, sent};
 ghost use Rattle.actions.specs.Departing.{except, departing};
 ghost use Rattle.actions.specs.ByPlace.{arrival, ofBody};
+ghost use Rattle.actions.specs.BucketHeaders.{BucketHeaders};
 ghost use Rattle.actions.specs.Adds.{lineBytes, Added};
 ghost use Rattle.actions.specs.Sent.{Sends, flooded, Ready, UsedAction, Acted};
 ghost use Rattle.scan.specs.Stored.{Stored};
 
+pub mod buckets;
 pub mod choice;
 mod groups;
 pub mod state;
@@ -97,6 +100,7 @@ fn act(
     store: &[u8],
     n: usize,
     l: Layout,
+    buckets: &[u8; BUCKET_HEADERS],
     sw: u8,
     p: u8,
     body: &[u8],
@@ -104,7 +108,7 @@ fn act(
     i: usize,
     marks: &mut [u8],
 ) -> u8
-    requires { ⌜ Stored n l (now store) × Ready (records n (now store)) (l .widths) line sw p h (now work) (now marks) × (p < 2 ^ l .widths .p) ⌝ }
+    requires { ⌜ Stored n l (now store) × Ready (records n (now store)) (l .widths) line sw p h (now work) (now marks) × (p < 2 ^ l .widths .p) × BucketHeaders (records n (now store)) l (now buckets) ⌝ }
     requires { ⌜ (length (now body) ≡ 20) × UsedAction (l .widths) (ofBody (now body)) i ⌝ }
     ensures { λ r. ⌜ Acted (records n (now (store .entry))) (l .widths) sw p (ofBody (now (body .entry))) h i line (now (work .entry)) (now (marks .entry)) (now (work .exit)) (now (marks .exit)) r ⌝ }
 {
@@ -124,7 +128,7 @@ fn act(
             h
         }
         4 => {
-            run_group(work, line, store, n, l, sw, p, value, h, marks);
+            run_group(work, line, store, n, l, buckets, sw, p, value, h, marks);
             h
         }
         0 | 5..=255 => h,
@@ -138,12 +142,13 @@ pub fn run(
     store: &[u8],
     n: usize,
     l: Layout,
+    buckets: &[u8; BUCKET_HEADERS],
     sw: u8,
     p: u8,
     body: &[u8],
     h: u8,
 )
-    requires { ⌜ Stored n l (now store) × Sends (l .widths) line sw h (now work) × (p < 2 ^ l .widths .p) ⌝ }
+    requires { ⌜ Stored n l (now store) × Sends (l .widths) line sw h (now work) × (p < 2 ^ l .widths .p) × BucketHeaders (records n (now store)) l (now buckets) ⌝ }
     requires { ⌜ (length (now body) ≡ 20) × (actionsGood (l .widths) (ofBody (now body)) ≡ true) ⌝ }
     ensures { λ _. ⌜ Added (sent (records n (now (store .entry))) (l .widths) (arrival sw p h) (ofBody (now (body .entry)))) line (lineBytes (l .widths)) (now (work .entry)) (now (work .exit)) ⌝ }
 {
@@ -153,7 +158,20 @@ pub fn run(
     let mut header = h;
     while 0 < left {
         let i = count - left;
-        header = act(work, line, store, n, l, sw, p, body, header, i, &mut marks);
+        header = act(
+            work,
+            line,
+            store,
+            n,
+            l,
+            buckets,
+            sw,
+            p,
+            body,
+            header,
+            i,
+            &mut marks,
+        );
         left -= 1;
     }
 }

@@ -1,4 +1,6 @@
 // One step of a packet state.
+use actions::buckets::BUCKET_HEADERS;
+use actions::buckets::bucket_headers;
 use actions::choice::choose;
 use actions::choice::rule_sets;
 use actions::run;
@@ -23,6 +25,7 @@ ghost use Rattle.records.specs.Widths.{states, withinLimits, widthsOf};
 ghost use Rattle.steps.specs.Step.{external};
 ghost use Rattle.actions.specs.ByPlace.{arrival};
 ghost use Rattle.actions.specs.RuleSets.{RuleSets};
+ghost use Rattle.actions.specs.BucketHeaders.{BucketHeaders};
 ghost use Rattle.actions.specs.Adds.{lineBytes, Added};
 ghost use Rattle.steps.specs.Filled.{Filled};
 ghost use Rattle.actions.specs.Sent.{Sends};
@@ -32,7 +35,7 @@ ghost use Rattle.scan.specs.Stored.{Stored};
 
 pub mod links;
 
-// Adds what an arrival steps to, where the patterns of each rule match these ports and headers.
+// Adds what an arrival steps to, where the patterns of each rule match these ports and headers, and the buckets make this of each header.
 fn relay(
     work: &mut [u8],
     line: usize,
@@ -41,12 +44,13 @@ fn relay(
     l: Layout,
     ports: &[u64; MOST_RULES],
     headers: &[u64; MOST_RULES],
+    buckets: &[u8; BUCKET_HEADERS],
     sw: u8,
     p: u8,
     h: u8,
 )
     requires { ⌜ Sends (l .widths) line sw h (now work) × (p < 2 ^ l .widths .p) ⌝ }
-    requires { ⌜ Stored n l (now store) × RuleSets (records n (now store)) l (now ports) (now headers) ⌝ }
+    requires { ⌜ Stored n l (now store) × RuleSets (records n (now store)) l (now ports) (now headers) × BucketHeaders (records n (now store)) l (now buckets) ⌝ }
     ensures { λ _. ⌜ Added (relayed (records n (now (store .entry))) (l .widths) (arrival sw p h)) line (lineBytes (l .widths)) (now (work .entry)) (now (work .exit)) ⌝ }
 {
     if p == 0 {
@@ -55,10 +59,10 @@ fn relay(
     let i = choose(store, n, l, ports, headers, sw, p, h);
     let a = i * 24 + 1;
     let e = a + 20;
-    run(work, line, store, n, l, sw, p, &store[a..e], h);
+    run(work, line, store, n, l, buckets, sw, p, &store[a..e], h);
 }
 
-// Adds the states that s steps to, if it arrives, where the patterns of each rule match these ports and headers.
+// Adds the states that s steps to, if it arrives, by the same tables.
 fn relay_state(
     work: &mut [u8],
     line: usize,
@@ -67,10 +71,11 @@ fn relay_state(
     l: Layout,
     ports: &[u64; MOST_RULES],
     headers: &[u64; MOST_RULES],
+    buckets: &[u8; BUCKET_HEADERS],
     s: usize,
 )
     requires { ⌜ line + lineBytes (l .widths) ≤ length (now work) ⌝ }
-    requires { ⌜ Stored n l (now store) × RuleSets (records n (now store)) l (now ports) (now headers) ⌝ }
+    requires { ⌜ Stored n l (now store) × RuleSets (records n (now store)) l (now ports) (now headers) × BucketHeaders (records n (now store)) l (now buckets) ⌝ }
     ensures { λ _. ⌜ Added (relays (records n (now (store .entry))) (l .widths) s) line (lineBytes (l .widths)) (now (work .entry)) (now (work .exit)) ⌝ }
 {
     let w = l.widths;
@@ -85,6 +90,7 @@ fn relay_state(
         l,
         ports,
         headers,
+        buckets,
         switch(w, s),
         port(w, s),
         header(w, s),
@@ -102,12 +108,14 @@ fn fill_arriving(work: &mut [u8], base: usize, store: &[u8], n: usize, l: Layout
     let bytes = states / 8;
     let mut ports = [0u64; MOST_RULES];
     let mut headers = [0u64; MOST_RULES];
+    let mut buckets = [0u8; BUCKET_HEADERS];
     rule_sets(store, n, l, &mut ports, &mut headers);
+    bucket_headers(store, n, l, &mut buckets);
     let mut s: usize = 0;
     while s < states {
         let line = base + s * bytes;
         planes::clear(work, line, bytes);
-        relay_state(work, line, store, n, l, &ports, &headers, s);
+        relay_state(work, line, store, n, l, &ports, &headers, &buckets, s);
         s += 1;
     }
 }

@@ -84,7 +84,7 @@ run-group-requires c κs =
     let m = c .before .before in
     let s = m .before .before .before .before .before .before .before .before .before in
     let a = s .args in
-    ((s .pre .0 .0, s .pre .0 .1), omega (arith, group-good (a .l .widths) (a .i) (now (a .body)) (s .pre .1 .1) (ap actionKind (m .match .keys4))))
+    ((s .pre .0 .0, s .pre .0 .1, s .pre .0 .3), omega (arith, group-good (a .l .widths) (a .i) (now (a .body)) (s .pre .1 .1) (ap actionKind (m .match .keys4))))
 
 returns : tie.Need-returns
 unfolding actionKind

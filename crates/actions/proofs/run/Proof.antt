@@ -19,14 +19,14 @@ use Rattle.actions.proofs.run.Tie as tie
 
 -- the last actions are left
 abbrev Inv-loop : tie.InvT-loop
-Inv-loop work₀ line store n l sw p body h count marks₀ left₀ header₀ work marks left header =
+Inv-loop work₀ line store n l buckets sw p body h count marks₀ left₀ header₀ work marks left header =
     (left ≤ count) × (length work ≡ length work₀) × (length marks ≡ 128)
     × Ready (records n store) (l .widths) line sw p header work marks
     × TowardList line (lineBytes (l .widths)) (sent (records n store) (l .widths) (arrival sw p h) (ofBody body))
     (copies (records n store) (l .widths) (arrival sw p h) (ofBody body) header (count - left) left) work₀ work
 
 abbrev μ-loop : tie.MeasureT-loop
-μ-loop work₀ line store n l sw p body h count marks₀ left₀ header₀ work marks left header = left
+μ-loop work₀ line store n l buckets sw p body h count marks₀ left₀ header₀ work marks left header = left
 
 loop-holds : tie.Need-loop-holds Inv-loop μ-loop
 unfolding sent
@@ -49,7 +49,7 @@ act-requires c κs =
     let s = c .before .before .before .before .before .before .before .before in
     let a = s .args in
     let o = c .before .before .before .loop in (
-      (s .pre .0 .0, o .inv .3, s .pre .0 .2),
+      (s .pre .0 .0, o .inv .3, s .pre .0 .2, s .pre .0 .3),
       (s .pre .1 .0, used-action (a .l .widths) (ofBody (now (a .body))) (s .pre .1 .1) _ (omega arith)),
     )
 

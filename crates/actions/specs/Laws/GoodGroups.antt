@@ -9,15 +9,15 @@ use Rattle.planes.specs.Laws.Tests.{not-both, and-right}
 use Rattle.records.specs.Record.{Rec, at}
 use Rattle.records.specs.Group.{bucketValue, bucketCare, bucketKind, bucketTarget, TargetKind, kPort, kLowerGroup, targetKind, IsBucket}
 use Rattle.records.specs.Pattern.{patternGood}
-use Rattle.records.specs.Fields.{targetFields, usedBucket, bucketsGood}
+use Rattle.records.specs.Fields.{targetFields, bucketsGood}
 use Rattle.records.specs.Laws.Fields.{buckets-high, bucket-used, bucket-each}
 use Rattle.records.specs.declared.Widths.{Widths}
 use Rattle.records.specs.declared.groups.Bucket.{Bucket}
 
--- a bucket that is used, by the kind of its target
-module _ (w : Widths) (g value care k target : ℕ) (good : usedBucket w g value care k target ≡ true) where
+-- a good target, by its kind
+module _ (w : Widths) (g k target : ℕ) (good : targetFields (targetKind k) w g target ≡ true) where
   fields-as : (x : TargetKind) → targetKind k ≡ x → targetFields x w g target ≡ true
-  fields-as x e = sym (ap (λ (y : TargetKind). targetFields y w g target) e) ∙ and-right (patternGood (w .h) value care) (targetFields (targetKind k) w g target) good
+  fields-as x e = sym (ap (λ (y : TargetKind). targetFields y w g target) e) ∙ good
 
   pub port-within : targetKind k ≡ kPort → target < 2 ^ w .p
   port-within e = ltb-true target (2 ^ w .p) (fields-as kPort e)
@@ -36,13 +36,15 @@ module _ (w : Widths) (r : Rec) where
         go (no h) = omega arith
 
     module _ (j : ℕ) (h : j < at r 8) where
-      used-bucket : usedBucket w (at r 2) (bucketValue r j) (bucketCare r j) (bucketKind r j) (bucketTarget r j) ≡ true
-      used-bucket = sym (bucket-used w r (at r 8) j h) ∙ bucket-each w r good j (omega (arith, few-buckets))
+      good-target : targetFields (targetKind (bucketKind r j)) w (at r 2) (bucketTarget r j) ≡ true
+      good-target =
+          and-right (patternGood (w .h) (bucketValue r j) (bucketCare r j)) (targetFields (targetKind (bucketKind r j)) w (at r 2) (bucketTarget r j))
+          (sym (bucket-used w r (at r 8) j h) ∙ bucket-each w r good j (omega (arith, few-buckets)))
 
       -- as it was read from the record of group g
-      pub used-as : (g : ℕ) (b : Bucket) → at r 2 ≡ g → IsBucket r j b → usedBucket w g (b .value) (b .care) (b .kind) (b .target) ≡ true
-      used-as g b e I = rw (I .value, I .care, I .kind, I .target, ← e) used-bucket
+      pub target-as : (g : ℕ) (b : Bucket) → at r 2 ≡ g → IsBucket r j b → targetFields (targetKind (b .kind)) w g (b .target) ≡ true
+      target-as g b e I = rw (I .kind, I .target, ← e) good-target
 
       -- a port that it sends to
       pub bucket-port : targetKind (bucketKind r j) ≡ kPort → bucketTarget r j < 2 ^ w .p
-      bucket-port = port-within w (at r 2) (bucketValue r j) (bucketCare r j) (bucketKind r j) (bucketTarget r j) used-bucket
+      bucket-port = port-within w (at r 2) (bucketKind r j) (bucketTarget r j) good-target

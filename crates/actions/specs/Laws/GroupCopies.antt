@@ -12,8 +12,8 @@ use Rattle.records.specs.Record.{Rec, Net, at}
 use Rattle.records.specs.Group.{IsBucket}
 use Rattle.records.specs.declared.Widths.{Widths}
 use Rattle.records.specs.declared.groups.Bucket.{Bucket}
-use Rattle.actions.specs.Groups.{groupRecord, bucketSent, bucketsSent, recordSent, lowerSent, groupSent}
-use Rattle.actions.specs.Sent.{bucketSends}
+use Rattle.actions.specs.Groups.{groupRecord, bucketHeader, bucketSent, bucketsSent, recordSent, lowerSent, groupSent}
+use Rattle.actions.specs.Sent.{targetSends}
 
 module _ (net : Net) (w : Widths) (sw p : ℕ) where
   -- what a group sends is the same among those below any higher number
@@ -35,10 +35,10 @@ module _ (net : Net) (w : Widths) (sw p : ℕ) where
     unfolding bucketsSent
     no-buckets = refl
 
-    pub more-buckets : (j : ℕ) (b : Bucket) → IsBucket r j b
-        → bucketsSent w sw p (lowerSent net w sw p g) r h (j + 1) ≡ bucketsSent w sw p (lowerSent net w sw p g) r h j ++ bucketSends net w sw p g b h
+    pub more-buckets : (j header : ℕ) (b : Bucket) → IsBucket r j b → header ≡ bucketHeader w r j h
+        → bucketsSent w sw p (lowerSent net w sw p g) r h (j + 1) ≡ bucketsSent w sw p (lowerSent net w sw p g) r h j ++ targetSends net w sw p g (b .kind) (b .target) header
     unfolding bucketsSent bucketSent
-    more-buckets j b I = rw (add-one, I .kind, I .target, I .value, I .care) refl
+    more-buckets j header b I e = rw (add-one, I .kind, I .target, e) refl
 
     pub all-buckets : groupRecord net sw g ≡ r → groupSent net w sw p g h ≡ bucketsSent w sw p (lowerSent net w sw p g) r h (at r 8)
     unfolding groupSent

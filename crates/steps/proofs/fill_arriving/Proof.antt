@@ -13,22 +13,26 @@ use Rattle.records.specs.Laws.Limits.{limits}
 use Rattle.records.specs.Laws.States.{whole-bytes}
 use Rattle.steps.specs.Relayed.{relays}
 use Rattle.actions.specs.Adds.{lineBytes, Added}
+use Rattle.actions.specs.BucketHeaders.{mostEntries}
 use Rattle.steps.proofs.PlaneOfPairs.{line-more}
 use Rattle.steps.proofs.fill_arriving.Statement.{statement}
 use Rattle.steps.proofs.fill_arriving.Tie as tie
 
 -- the lines of the states below s are filled
 abbrev Inv-loop : tie.InvT-loop
-Inv-loop work₀ base store n l states bytes ports headers s₀ work s = (s ≤ states) × Made (λ x t. member t (relays (records n store) (l .widths) x)) (lineBytes (l .widths)) base s work₀ work
+Inv-loop work₀ base store n l states bytes ports headers buckets s₀ work s = (s ≤ states) × Made (λ x t. member t (relays (records n store) (l .widths) x)) (lineBytes (l .widths)) base s work₀ work
 
 abbrev μ-loop : tie.MeasureT-loop
-μ-loop work₀ base store n l states bytes ports headers s₀ work s = states - s
+μ-loop work₀ base store n l states bytes ports headers buckets s₀ work s = states - s
 
 states-requires : tie.Need-states-requires Inv-loop μ-loop
 states-requires c κs = limits (c .before .before .before .args .l .widths) (c .before .before .before .pre .1 .laid .limits) .bits
 
 rule-sets-requires : tie.Need-rule-sets-requires Inv-loop μ-loop
 rule-sets-requires c κs = (c .before .before .before .before .before .before .pre .1, (length-replicate {A = ℕ} mostRules 0, length-replicate {A = ℕ} mostRules 0))
+
+bucket-headers-requires : tie.Need-bucket-headers-requires Inv-loop μ-loop
+bucket-headers-requires c κs = (c .before .before .before .before .before .before .before .before .pre .1, length-replicate {A = ℕ} mostEntries 0)
 
 loop-holds : tie.Need-loop-holds Inv-loop μ-loop
 loop-holds c = (omega arith, made-none _ _ _ _)
@@ -38,11 +42,11 @@ bytes-are : (c : tie.After-states Inv-loop μ-loop) → c .states .result / 8 �
 bytes-are c = ap (λ (n : ℕ). n / 8) (c .states .ensures)
 
 inside : (c : tie.In-loop Inv-loop μ-loop)
-    → let n = c .before .before .before .before .before in
+    → let n = c .before .before .before .before .before .before .before in
     let r = n .states .result / 8 in
     n .before .before .before .before .args .base + c .before .loop .s * r + r ≤ length (c .before .loop .work)
 inside c =
-    let n = c .before .before .before .before .before in
+    let n = c .before .before .before .before .before .before .before in
     let o = c .before .loop in
     let s = n .before .before .before .before in
     let w = s .args .l .widths in
@@ -52,18 +56,18 @@ inside c =
 
 relay-state-requires : tie.Need-relay-state-requires Inv-loop μ-loop
 relay-state-requires c κs =
-    let k = c .before .before .before .before .before in
+    let k = c .before .before .before .before .before .before in
     let i = k .before .before in
     let m = i .before .before in
-    let n = m .before .before .before in
-    (omega (arith, inside i, bytes-are n, k .clear .ensures .len), (n .before .before .before .before .pre .1, m .rule-sets .ensures))
+    let n = m .before .before .before .before .before in
+    (omega (arith, inside i, bytes-are n, k .clear .ensures .len), (n .before .before .before .before .pre .1, m .before .before .rule-sets .ensures, m .bucket-headers .ensures))
 
 loop-again : tie.Need-loop-again Inv-loop μ-loop
 loop-again c =
-    let k = c .before .before .before .before .before .before .before .before in
+    let k = c .before .before .before .before .before .before .before .before .before in
     let i = k .before .before in
     let o = i .before .loop in
-    let n = i .before .before .before .before .before in
+    let n = i .before .before .before .before .before .before .before in
     let a = n .before .before .before .before .args in
     let e = bytes-are n in (
       omega arith,
@@ -77,7 +81,7 @@ loop-again c =
 returns : tie.Need-returns Inv-loop μ-loop
 returns c =
     let o = c .before .loop in
-    let n = c .before .before .before .before .before in
+    let n = c .before .before .before .before .before .before .before in
     let a = n .before .before .before .before .args in
     let e : o .s ≡ states (a .l .widths) = omega (arith, n .states .ensures) in
     subst (λ (m : ℕ). Made (λ x t. member t (relays (records (a .n) (now (a .store))) (a .l .widths) x)) (lineBytes (a .l .widths)) (a .base) m (now (a .work)) (o .work)) e (o .inv .1)
@@ -90,6 +94,7 @@ fill-arriving-spec =
     μ-loop
     states-requires
     rule-sets-requires
+    bucket-headers-requires
     loop-holds
     (λ c. omega (arith, inside c))
     (λ c. omega (arith, inside c))

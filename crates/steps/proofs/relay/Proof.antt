@@ -26,7 +26,7 @@ choose-requires : tie.Need-choose-requires
 choose-requires c κs =
     let s = c .before .before .before in
     let S = s .pre .0 .0 in
-    (s .pre .1, (S .switch, record { limits = S .ready .limits; port = s .pre .0 .1; header = S .ready .header }))
+    ((s .pre .1 .0, s .pre .1 .1), (S .switch, record { limits = S .ready .limits; port = s .pre .0 .1; header = S .ready .header }))
 
 -- the record that acts is in the store
 within : (c : tie.After-choose) → c .choose .result < c .before .before .before .before .args .n
@@ -41,7 +41,7 @@ run-requires c κs =
     let a = s .args in
     let b = now (a .store) in
     let i = k .choose .result in (
-      (s .pre .1 .0, s .pre .0 .0, s .pre .0 .1),
+      (s .pre .1 .0, s .pre .0 .0, s .pre .0 .1, s .pre .1 .2),
       (
         body-length (a .n) b i (within k) 20 (omega arith) (s .pre .1 .0 .room),
         ap (λ (x : List ℕ). actionsGood (a .l .widths) (ofBody x)) (body-is (a .n) b i (within k) 20 (omega arith) refl)
