@@ -33,8 +33,8 @@ pub record Ready (net : Net) (w : Widths) (line sw p h : ℕ) (work marks : List
   pub done : Done (groupSent net w sw p) line (lineBytes w) work marks
 
 -- the copies in l were added to the line, and the groups that are marked then have theirs in it
-abbrev pub Ended : Net → Widths → ℕ → ℕ → ℕ → List ℕ → List ℕ → List ℕ → List ℕ → List ℕ → Type 0
-Ended net w line sw p l work marks work′ marks′ = Ran (groupSent net w sw p) line (lineBytes w) l work marks work′ marks′
+abbrev pub GroupsRan : Net → Widths → ℕ → ℕ → ℕ → List ℕ → List ℕ → List ℕ → List ℕ → List ℕ → Type 0
+GroupsRan net w line sw p l work marks work′ marks′ = Ran (groupSent net w sw p) line (lineBytes w) l work marks work′ marks′
 
 -- what a bucket of group g sends to its target, with the header that it set
 abbrev pub targetSends : Net → Widths → ℕ → ℕ → ℕ → ℕ → ℕ → ℕ → List ℕ
@@ -48,5 +48,5 @@ pub record UsedAction (w : Widths) (r : Rec) (i : ℕ) : Type 0 where
 
 -- action i was run: its copies are added to the line, and the header after it is the result
 pub record Acted (net : Net) (w : Widths) (sw p : ℕ) (r : Rec) (h i line : ℕ) (work marks work′ marks′ : List ℕ) (result : ℕ) : Type 0 where
-  pub ran : Ended net w line sw p (sentBy net w sw p r h i) work marks work′ marks′
+  pub ran : GroupsRan net w line sw p (sentBy net w sw p r h i) work marks work′ marks′
   pub header : result ≡ headerAfter w r h i

@@ -17,7 +17,7 @@ ghost use Rattle.actions.specs.Groups.{groupSent};
 ghost use Rattle.actions.specs.ByPlace.{GroupFound};
 ghost use Rattle.actions.specs.BucketHeaders.{BucketHeaders};
 ghost use Rattle.actions.specs.Marks.{mark};
-ghost use Rattle.actions.specs.Sent.{Ready, Ended, targetSends};
+ghost use Rattle.actions.specs.Sent.{Ready, GroupsRan, targetSends};
 
 // The record of a group is that of number g of a switch.
 fn is_group(r: &[u8], sw: u8, g: u8) -> bool
@@ -72,7 +72,7 @@ fn run_bucket(
 )
     requires { ⌜ Stored n l (now store) × Ready (records n (now store)) (l .widths) line sw p header (now work) (now marks) × BucketHeaders (records n (now store)) l (now buckets) ⌝ }
     requires { ⌜ (g < 16) × (targetFields (targetKind kind) (l .widths) g target ≡ true) ⌝ }
-    ensures { λ _. ⌜ Ended (records n (now (store .entry))) (l .widths) line sw p (targetSends (records n (now (store .entry))) (l .widths) sw p g kind target header) (now (work .entry)) (now (marks .entry)) (now (work .exit)) (now (marks .exit)) ⌝ }
+    ensures { λ _. ⌜ GroupsRan (records n (now (store .entry))) (l .widths) line sw p (targetSends (records n (now (store .entry))) (l .widths) sw p g kind target header) (now (work .entry)) (now (marks .entry)) (now (work .exit)) (now (marks .exit)) ⌝ }
 {
     let w = l.widths;
     match kind {
@@ -111,7 +111,7 @@ pub fn run_group(
 )
     requires { ⌜ Stored n l (now store) × Ready (records n (now store)) (l .widths) line sw p h (now work) (now marks) × BucketHeaders (records n (now store)) l (now buckets) ⌝ }
     requires { ⌜ g < 16 ⌝ }
-    ensures { λ _. ⌜ Ended (records n (now (store .entry))) (l .widths) line sw p (groupSent (records n (now (store .entry))) (l .widths) sw p g h) (now (work .entry)) (now (marks .entry)) (now (work .exit)) (now (marks .exit)) ⌝ }
+    ensures { λ _. ⌜ GroupsRan (records n (now (store .entry))) (l .widths) line sw p (groupSent (records n (now (store .entry))) (l .widths) sw p g h) (now (work .entry)) (now (marks .entry)) (now (work .exit)) (now (marks .exit)) ⌝ }
 {
     let m = mark_of(g, h);
     if planes::get_bit(marks, m) {

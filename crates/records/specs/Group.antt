@@ -9,16 +9,19 @@ use Rattle.records.specs.Lists.{any, all, from}
 use Rattle.records.specs.Record.{Rec, Net, at, kind, RecordKind, kWidths, kLink, kMiss, kRule, kNode, kGroup, kNoRecord, recordKind, ofKind}
 use Rattle.records.specs.declared.groups.Bucket.{Bucket}
 
--- bucket j of a group, four bytes: header value, header care, target kind, target number
+-- bucket j of a group has four bytes: its header value,
 abbrev pub bucketValue : Rec → ℕ → ℕ
 bucketValue r j = at r (9 + 4 * j)
 
+-- its header care,
 abbrev pub bucketCare : Rec → ℕ → ℕ
 bucketCare r j = at r (10 + 4 * j)
 
+-- its target kind,
 abbrev pub bucketKind : Rec → ℕ → ℕ
 bucketKind r j = at r (11 + 4 * j)
 
+-- and its target number
 abbrev pub bucketTarget : Rec → ℕ → ℕ
 bucketTarget r j = at r (12 + 4 * j)
 

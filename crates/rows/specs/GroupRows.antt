@@ -1,4 +1,5 @@
--- Row 16 on a small network with groups: what each change of one byte of it is refused with, by computation.
+-- Row 16 on a small network with groups, by computation: what each change of one byte of it is refused with, how many groups there may be, which rows come before, and
+-- commands.
 use mathlib.Core.Path.{_≡_, refl}
 use mathlib.Core.List.{[], _∷_, _++_, map}
 use mathlib.Core.Option.{none, some}
@@ -46,7 +47,7 @@ unfoldable trying : Unit {0}
 unfolding refusing record24 toDrop front sound altered answer
 trying = tt
 
--- it passes, and so it does with group 15, and with a bucket more of the widest target
+-- it passes, and so it does with 15 and with 3 for the number of the last group, with that to the controller, with group 1/0 to drop, and with both buckets of 1/2 on to group 0
 passes : fileRow [] sound ∷ map answer ((8, 2, 15) ∷ (8, 2, 3) ∷ (8, 12, 3) ∷ (6, 12, 0) ∷ (7, 15, 2) ∷ []) ≡ replicate 6 none
 unfolding trying
 passes = refl
@@ -59,17 +60,18 @@ fields : map answer
 unfolding trying
 fields = refl
 
--- a bucket's group that is not lower: its own, a higher one, and a lower one that is not there; a group out of order by its number, the same twice, and by its switch
+-- a bucket on to its own group, to a higher one, and to a lower one that is not there
 lower : map answer ((7, 12, 2) ∷ (7, 12, 14) ∷ (7, 12, 1) ∷ []) ≡ replicate 3 (some (16, 7))
 unfolding trying
 lower = refl
 
+-- a group out of order by its number, the same group twice, and one out of order by its switch
 order : map answer ((8, 2, 1) ∷ (8, 2, 2) ∷ (8, 1, 0) ∷ []) ≡ replicate 3 (some (16, 8))
 unfolding trying
 order = refl
 
--- a miss and a rule that name an absent group, the rule one that another switch has; a group that is there though its own record is faulty; a group number above
--- 15 and a care that is not zero, which are row 5; a kind that no record has
+-- a miss and a rule that name an absent group, the rule one that another switch has; the rule's group under another number; a group that is there though its own record is
+-- faulty; a group number above 15 and a care that is not zero, which are row 5; a record of a command's kind
 named : map answer ((2, 10, 3) ∷ (3, 10, 2) ∷ (5, 2, 3) ∷ (5, 8, 0) ∷ (3, 10, 16) ∷ (3, 11, 1) ∷ (8, 0, 8) ∷ [])
     ≡ some (16, 2) ∷ some (16, 3) ∷ some (16, 3) ∷ some (16, 5) ∷ some (5, 3) ∷ some (5, 3) ∷ some (3, 8) ∷ []
 unfolding trying
@@ -80,6 +82,16 @@ many : fileRow [] (front ++ map (toDrop 1) (from 0 16)) ∷ fileRow [] (front ++
     ≡ none ∷ some (16, 19) ∷ some (7, 2) ∷ []
 unfolding trying
 many = refl
+
+-- a faulty group that is first, which is row 3, and one before which a miss is missing, row 7; a rule that is there already and names an absent group, row 8
+before-16 :
+    fileRow [] (toDrop 0 16 ∷ [])
+    ∷ fileRow [] (take 2 front ++ (toDrop 0 16 ∷ []))
+    ∷ fileRow [] (take 4 sound ++ (record24 (4 ∷ 0 ∷ 1 ∷ 0 ∷ 0 ∷ 0 ∷ 0 ∷ 0 ∷ 1 ∷ 4 ∷ 9 ∷ 0 ∷ []) ∷ drop 4 sound))
+    ∷ []
+    ≡ some (3, 0) ∷ some (7, 2) ∷ some (8, 4) ∷ []
+unfolding trying
+before-16 = refl
 
 -- a command on it: an add that names a group of its switch, of the other one, and above 15; a modify of an absent rule that names an absent group; a delete
 commands : map (commandRow sound)

@@ -109,8 +109,8 @@ lastGroup net = let groups = ofKind 9 net in getD groups (length groups - 1) []
 unfoldable pub outOfOrder : Net → Rec → Bool
 outOfOrder before r = ltb 0 (length (ofKind 9 before)) && not (ascends (lastGroup before) r)
 
--- row 16: group fields faulty, or out of order, a 17th group, a rule, miss or bucket naming a group that no record of its switch has, or a
--- bucket one not lower
+-- row 16: group fields faulty, in place of 5 (a bucket's group that is not lower among them), or out of order, a 17th group, or a rule, miss or bucket
+-- naming a group that no record of its switch has
 unfoldable pub row16 : Net → Rec → Net → Bool
 row16 before r after =
     (eqb (kind r) 9 && (not (fieldsGood (widthsOf before) r) || outOfOrder before r || leb mostGroups (length (ofKind 9 before))))

@@ -19,8 +19,8 @@ unfoldable lift : Rec
 lift = record24 (9 ∷ 0 ∷ 0 ∷ 0 ∷ 0 ∷ 0 ∷ 0 ∷ 0 ∷ 1 ∷ 1 ∷ 1 ∷ 1 ∷ 2 ∷ [])
 
 -- group 1: SET 1 to drop, and as it entered to port 2
-unfoldable pair : Rec
-pair = record24 (9 ∷ 0 ∷ 1 ∷ 0 ∷ 0 ∷ 0 ∷ 0 ∷ 0 ∷ 2 ∷ 1 ∷ 1 ∷ 1 ∷ 0 ∷ 0 ∷ 0 ∷ 1 ∷ 2 ∷ [])
+unfoldable twoWays : Rec
+twoWays = record24 (9 ∷ 0 ∷ 1 ∷ 0 ∷ 0 ∷ 0 ∷ 0 ∷ 0 ∷ 2 ∷ 1 ∷ 1 ∷ 1 ∷ 0 ∷ 0 ∷ 0 ∷ 1 ∷ 2 ∷ [])
 
 -- group 2: on to group 0
 unfoldable onward : Rec
@@ -28,19 +28,21 @@ onward = record24 (9 ∷ 0 ∷ 2 ∷ 0 ∷ 0 ∷ 0 ∷ 0 ∷ 0 ∷ 1 ∷ 0 ∷ 0
 
 -- K with these groups behind its policy
 unfoldable KG : Net
-KG = K ++ (lift ∷ pair ∷ onward ∷ [])
+KG = K ++ (lift ∷ twoWays ∷ onward ∷ [])
 
 -- modify of rule A (switch 0, port 1, header 0): an action count and actions
 unfoldable modifyA : List ℕ → Rec
 modifyA actions = record24 ((7 ∷ 0 ∷ 10 ∷ 0 ∷ 1 ∷ 3 ∷ 0 ∷ 1 ∷ []) ++ actions)
 
--- rule A by group 1, by group 2 and so by group 0, and by group 3, which is not there
-unfoldable byPair : Rec
-byPair = modifyA (1 ∷ 4 ∷ 1 ∷ 0 ∷ [])
+-- rule A by group 1
+unfoldable byTwoWays : Rec
+byTwoWays = modifyA (1 ∷ 4 ∷ 1 ∷ 0 ∷ [])
 
+-- by group 2, and so by group 0
 unfoldable byOnward : Rec
 byOnward = modifyA (1 ∷ 4 ∷ 2 ∷ 0 ∷ [])
 
+-- by group 3, which is not there
 unfoldable byAbsent : Rec
 byAbsent = modifyA (1 ∷ 4 ∷ 3 ∷ 0 ∷ [])
 
@@ -53,9 +55,9 @@ answered c = outcomeOf (installedAtStart KG) c 2048 .answer
 -- group 16: row 12; and an add at switch 1, which has no group
 through-groups :
     checked (checkAnswer (inStore KG) 23 2048)
-    ∷ commanded (answered byPair)
-    ∷ listed (next (applied byPair KG) 2)
-    ∷ listed (let reaches = truth (tableOf (applied byPair KG)) (TC (R X Y) X Y) in those 32 0 (λ t. reaches 2 t))
+    ∷ commanded (answered byTwoWays)
+    ∷ listed (next (applied byTwoWays KG) 2)
+    ∷ listed (let reaches = truth (tableOf (applied byTwoWays KG)) (TC (R X Y) X Y) in those 32 0 (λ t. reaches 2 t))
     ∷ commanded (answered byOnward)
     ∷ checked (checkAnswer (inStore (applied byOnward KG)) 23 2048)
     ∷ listed (next (applied (modifyA (2 ∷ 4 ∷ 2 ∷ 0 ∷ 1 ∷ 0 ∷ 3 ∷ [])) KG) 2)
@@ -76,5 +78,5 @@ through-groups :
     ∷ commanded (refused 12 0)
     ∷ commanded (refused 16 0)
     ∷ []
-unfolding computing those lift pair onward KG modifyA byPair byOnward byAbsent
+unfolding computing those lift twoWays onward KG modifyA byTwoWays byOnward byAbsent
 through-groups = refl

@@ -59,7 +59,7 @@ pub fn route(
     }
 }
 
-/// The network in which a route is sought: rows 1 to 11, 14 and 15.
+/// The network in which a route is sought: rows 1 to 11 and 16, then 14 and 15.
 fn routed(
     store: &[u8],
     n: usize,

@@ -16,7 +16,7 @@ use Rattle.actions.specs.Groups.{groupSent}
 use Rattle.actions.specs.Actions.{sentAs, headerBy}
 use Rattle.actions.specs.Adds.{lineBytes, Added}
 use Rattle.actions.specs.Marks.{Done}
-use Rattle.actions.specs.Sent.{Ended, UsedAction, Acted}
+use Rattle.actions.specs.Sent.{GroupsRan, UsedAction, Acted}
 use Rattle.actions.specs.Laws.CopiesInOrder.{sent-as, header-as}
 use Rattle.actions.specs.Laws.AddedBits.{added-none}
 use Rattle.actions.specs.Laws.Bodies.{body-byte}
@@ -55,11 +55,11 @@ module _ (w : Widths) (i : ℕ) (b : List ℕ) where
 
   -- it was run
   module _ (net : Net) (line sw p h : ℕ) (k : ActionKind) (e : actionKind (getD b (8 + 3 * i) 0) ≡ k) (work marks work′ : List ℕ) (result : ℕ) (q : result ≡ headerBy k w value care h) where
-    acted : (marks′ : List ℕ) → Ended net w line sw p (sentAs k net w sw p h value care) work marks work′ marks′ → Acted net w sw p (ofBody b) h i line work marks work′ marks′ result
+    acted : (marks′ : List ℕ) → GroupsRan net w line sw p (sentAs k net w sw p h value care) work marks work′ marks′ → Acted net w sw p (ofBody b) h i line work marks work′ marks′ result
     acted marks′ R = record {
       ran =
           rw (sent-as w (ofBody b) h i net sw p k (is-kind k e))
-          (subst₂ (λ (v x : ℕ). Ended net w line sw p (sentAs k net w sw p h v x) work marks work′ marks′) (sym (value-is b i)) (sym (care-is b i)) R);
+          (subst₂ (λ (v x : ℕ). GroupsRan net w line sw p (sentAs k net w sw p h v x) work marks work′ marks′) (sym (value-is b i)) (sym (care-is b i)) R);
       header = q ∙ ap₂ (λ (v x : ℕ). headerBy k w v x h) (sym (value-is b i)) (sym (care-is b i)) ∙ sym (header-as w (ofBody b) h i k (is-kind k e));
     }
 

@@ -60,7 +60,6 @@ module _ (w : Widths) (sw p h : ℕ) (hs : sw < 2 ^ w .w) (hh : h < 2 ^ w .h) wh
 abbrev pub GroupsGood : Widths → Net → Type 0
 GroupsGood w net = Every (λ r. kind r ≡ 9 → bucketsGood w r ≡ true) net
 
--- every element of two lists joined
 -- what the groups of a switch send, departs elsewhere
 module _ (net : Net) (w : Widths) (groups : GroupsGood w net) (sw p : ℕ) (hs : sw < 2 ^ w .w) where
   -- the ports of a group's buckets are within their width

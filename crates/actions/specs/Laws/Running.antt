@@ -23,7 +23,7 @@ use Rattle.actions.specs.ByPlace.{GroupAt}
 use Rattle.actions.specs.BucketHeaders.{entry, BucketHeaders}
 use Rattle.actions.specs.Adds.{lineBytes}
 use Rattle.actions.specs.Marks.{mark, Done}
-use Rattle.actions.specs.Sent.{Sends, Ready, Ended, targetSends}
+use Rattle.actions.specs.Sent.{Sends, Ready, GroupsRan, targetSends}
 use Rattle.actions.specs.Laws.GoodRecords.{buckets-good}
 use Rattle.actions.specs.Laws.GroupCopies.{no-buckets, more-buckets, all-buckets, no-group}
 use Rattle.actions.specs.Laws.Marking.{done-none, ran-none, ran-marked, ran-both, ran-all}
@@ -67,7 +67,7 @@ module _ (net : Net) (w : Widths) (line sw p : ℕ) where
   pub ready-with : (h k : ℕ) (work marks : List ℕ) → k < 2 ^ w .h → Ready net w line sw p h work marks → Ready net w line sw p k work marks
   ready-with h k work marks lt Q = record { sends = sends-on w line sw h k work work refl lt (Q .sends); room = Q .room; done = Q .done }
 
-  pub ready-on : (h : ℕ) (l a m a₁ m₁ : List ℕ) → Ready net w line sw p h a m → Ended net w line sw p l a m a₁ m₁ → Ready net w line sw p h a₁ m₁
+  pub ready-on : (h : ℕ) (l a m a₁ m₁ : List ℕ) → Ready net w line sw p h a m → GroupsRan net w line sw p l a m a₁ m₁ → Ready net w line sw p h a₁ m₁
   ready-on h l a m a₁ m₁ Q R = record {
     sends = sends-on w line sw h h a a₁ (R .copies .len) (Q .sends .ready .header) (Q .sends);
     room = omega (arith, Q .room, R .marksLen);
@@ -83,31 +83,31 @@ module _ (net : Net) (w : Widths) (line sw p : ℕ) where
 
   -- a bucket that sends on its header, by the kind of its target
   pub bucket-ran : (g kind target header : ℕ) (x : TargetKind) → targetKind kind ≡ x → (a m a₁ m₁ : List ℕ)
-      → Ended net w line sw p (sentTo x w sw p (lowerSent net w sw p g) target header) a m a₁ m₁ → Ended net w line sw p (targetSends net w sw p g kind target header) a m a₁ m₁
+      → GroupsRan net w line sw p (sentTo x w sw p (lowerSent net w sw p g) target header) a m a₁ m₁ → GroupsRan net w line sw p (targetSends net w sw p g kind target header) a m a₁ m₁
   bucket-ran g kind target header x e a m a₁ m₁ R = rw e R
 
   -- group g: its buckets, and its mark
   module _ (g h : ℕ) where
-    pub group-absent : (a m : List ℕ) → groupRecord net sw g ≡ [] → Done (groupSent net w sw p) line (lineBytes w) a m → Ended net w line sw p (groupSent net w sw p g h) a m a m
+    pub group-absent : (a m : List ℕ) → groupRecord net sw g ≡ [] → Done (groupSent net w sw p) line (lineBytes w) a m → GroupsRan net w line sw p (groupSent net w sw p g h) a m a m
     group-absent a m e D = rw (no-group net w sw p g h e) (ran-none (groupSent net w sw p) line (lineBytes w) a m D)
 
     module _ (n : ℕ) (en : n ≡ mark g h) where
-      pub group-marked : (a m : List ℕ) → Ready net w line sw p h a m → bit m n ≡ true → Ended net w line sw p (groupSent net w sw p g h) a m a m
+      pub group-marked : (a m : List ℕ) → Ready net w line sw p h a m → bit m n ≡ true → GroupsRan net w line sw p (groupSent net w sw p g h) a m a m
       group-marked a m Q e = ran-marked (groupSent net w sw p) line (lineBytes w) g h a m (few-headers h a m Q) (ap (bit m) (sym en) ∙ e) (Q .done)
 
     module _ (r : Rec) where
-      pub buckets-start : (a m : List ℕ) → Done (groupSent net w sw p) line (lineBytes w) a m → Ended net w line sw p (bucketsSent w sw p (lowerSent net w sw p g) r h 0) a m a m
+      pub buckets-start : (a m : List ℕ) → Done (groupSent net w sw p) line (lineBytes w) a m → GroupsRan net w line sw p (bucketsSent w sw p (lowerSent net w sw p g) r h 0) a m a m
       buckets-start a m D = rw (no-buckets net w sw p g h r) (ran-none (groupSent net w sw p) line (lineBytes w) a m D)
 
       pub buckets-next : (j header : ℕ) (b : Bucket) (a m a₁ m₁ a₂ m₂ : List ℕ) → IsBucket r j b → header ≡ bucketHeader w r j h
-          → Ended net w line sw p (bucketsSent w sw p (lowerSent net w sw p g) r h j) a m a₁ m₁ → Ended net w line sw p (targetSends net w sw p g (b .kind) (b .target) header) a₁ m₁ a₂ m₂
-          → Ended net w line sw p (bucketsSent w sw p (lowerSent net w sw p g) r h (j + 1)) a m a₂ m₂
+          → GroupsRan net w line sw p (bucketsSent w sw p (lowerSent net w sw p g) r h j) a m a₁ m₁ → GroupsRan net w line sw p (targetSends net w sw p g (b .kind) (b .target) header) a₁ m₁ a₂ m₂
+          → GroupsRan net w line sw p (bucketsSent w sw p (lowerSent net w sw p g) r h (j + 1)) a m a₂ m₂
       buckets-next j header b a m a₁ m₁ a₂ m₂ I e R S =
           rw (more-buckets net w sw p g h r j header b I e) (ran-both (groupSent net w sw p) line (lineBytes w) _ (targetSends net w sw p g (b .kind) (b .target) header) a m a₁ m₁ a₂ m₂ R S)
 
       pub group-ran : (n j : ℕ) (a m a₁ m₁ m₂ : List ℕ) → n ≡ mark g h → h < 64 → groupRecord net sw g ≡ r → j ≡ at r 8
-          → Ended net w line sw p (bucketsSent w sw p (lowerSent net w sw p g) r h j) a m a₁ m₁ → BitSet n m₁ m₂ → Ended net w line sw p (groupSent net w sw p g h) a m a₁ m₂
+          → GroupsRan net w line sw p (bucketsSent w sw p (lowerSent net w sw p g) r h j) a m a₁ m₁ → BitSet n m₁ m₂ → GroupsRan net w line sw p (groupSent net w sw p g h) a m a₁ m₂
       group-ran n j a m a₁ m₁ m₂ en lh is ej R S =
           ran-all (groupSent net w sw p) line (lineBytes w) g h a m a₁ m₁ m₂ lh
-          (subst (λ (x : List ℕ). Ended net w line sw p x a m a₁ m₁) (ap (bucketsSent w sw p (lowerSent net w sw p g) r h) ej ∙ sym (all-buckets net w sw p g h r is)) R)
+          (subst (λ (x : List ℕ). GroupsRan net w line sw p x a m a₁ m₁) (ap (bucketsSent w sw p (lowerSent net w sw p g) r h) ej ∙ sym (all-buckets net w sw p g h r is)) R)
           (subst (λ (x : ℕ). BitSet x m₁ m₂) en S)

@@ -131,14 +131,14 @@ unfolding asRule matchGood actionsGood actionGood zeros
 as-rule-good w [] l q e = absurd (omega arith)
 as-rule-good w (x ∷ c) l q e = let t = change-good w (x ∷ c) (inl q) e in all-good w (asRule (x ∷ c)) refl (t .0) (t .1) (t .2)
 
--- a byte from 8 to 20
+-- records that agree in bytes 8 to 20 agree in each of them
 middle-byte : (r s : Rec) → take 13 (drop 8 r) ≡ take 13 (drop 8 s) → (i : ℕ) → i < 13 → at r (8 + i) ≡ at s (8 + i)
 middle-byte r s e i h = sym (part r) ∙ ap (λ (l : List ℕ). getD l i 0) e ∙ part s
   where
     part : (q : Rec) → getD (take 13 (drop 8 q)) i 0 ≡ at q (8 + i)
     part q = getD-take 13 (drop 8 q) i 0 h ∙ getD-drop 8 q i 0
 
--- so do the groups that they name, beside the switch
+-- whether the groups that actions run are there goes by these bytes and the switch
 there-by : (net : Net) (r s : Rec) → at r 1 ≡ at s 1 → take 13 (drop 8 r) ≡ take 13 (drop 8 s) → actionsThere net r ≡ actionsThere net s
 unfolding actionsThere runsThere all from
 there-by net r s one e =

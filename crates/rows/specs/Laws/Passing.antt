@@ -206,26 +206,16 @@ module _ (before : Net) (r : Rec) (after : Net) (p : Passes before r after) wher
   unfolding row4
   widths-within k = limits (widthsOf (r ∷ [])) (not-false (withinLimits (widthsOf (r ∷ []))) (and-test _ _ (p .not4) (eq-eqb (kind r) 1 k)))
 
-  -- what row 16 has of a record: the tests of a group, and the groups that it names
-  row16-tests : ((isGroupRecord r && (not (fieldsGood (widthsOf before) r) || outOfOrder before r || leb mostGroups (length (ofKind 9 before)))) ≡ false)
-      × (groupsThere (before ++ (r ∷ after)) r ≡ true)
-  unfolding row16
-  row16-tests =
-      let t =
-      or-none (isGroupRecord r && (not (fieldsGood (widthsOf before) r) || outOfOrder before r || leb mostGroups (length (ofKind 9 before))))
-      (not (groupsThere (before ++ (r ∷ after)) r)) (p .not16) in
-      (t .0, not-false _ (t .1))
-
+  -- what row 16 tests of a group
   group-tests : isGroupRecord r ≡ true → (fieldsGood (widthsOf before) r ≡ true) × (outOfOrder before r ≡ false) × (length (ofKind 9 before) < mostGroups)
+  unfolding row16
   group-tests k =
       let faulty = not (fieldsGood (widthsOf before) r) in
       let many = leb mostGroups (length (ofKind 9 before)) in
-      let a = or-none (faulty || outOfOrder before r) many (and-test (isGroupRecord r) (faulty || outOfOrder before r || many) (row16-tests .0) k) in
+      let own = or-none (isGroupRecord r && (faulty || outOfOrder before r || many)) (not (groupsThere (before ++ (r ∷ after)) r)) (p .not16) .0 in
+      let a = or-none (faulty || outOfOrder before r) many (and-test (isGroupRecord r) (faulty || outOfOrder before r || many) own k) in
       let b = or-none faulty (outOfOrder before r) (a .0) in
       (not-false _ (b .0), b .1, leb-false mostGroups (length (ofKind 9 before)) (a .1))
-
-  pub named-there : groupsThere (before ++ (r ∷ after)) r ≡ true
-  named-there = row16-tests .1
 
   pub group-ascends : kind r ≡ 9 → outOfOrder before r ≡ false
   group-ascends k = group-tests (eq-eqb (kind r) 9 k) .1

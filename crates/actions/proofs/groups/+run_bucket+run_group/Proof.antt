@@ -13,7 +13,7 @@ use Rattle.records.specs.Laws.Records.{length-records}
 use Rattle.actions.specs.Groups.{bucketHeader, bucketsSent, lowerSent}
 use Rattle.actions.specs.ByPlace.{GroupAt, GroupFound}
 use Rattle.actions.specs.Marks.{mark}
-use Rattle.actions.specs.Sent.{Ended}
+use Rattle.actions.specs.Sent.{GroupsRan}
 use Rattle.actions.specs.Laws.GoodGroups.{port-within, group-lower, few-buckets, target-as}
 use Rattle.actions.specs.Laws.GroupCopies.{lower-is}
 use Rattle.actions.specs.Laws.Marking.{ran-sent, ran-none}
@@ -136,7 +136,7 @@ bucket-returns-4 t c =
 abbrev Inv-loop : group-lts.InvT-loop
 Inv-loop work₀ line store n l buckets sw p g h marks₀ m i a e r count k j₀ work marks j =
     (j ≤ at r 8) × GroupRead (records n store) (l .widths) sw g r
-    × Ended (records n store) (l .widths) line sw p (bucketsSent (l .widths) sw p (lowerSent (records n store) (l .widths) sw p g) r h j) work₀ marks₀ work marks
+    × GroupsRan (records n store) (l .widths) line sw p (bucketsSent (l .widths) sw p (lowerSent (records n store) (l .widths) sw p g) r h j) work₀ marks₀ work marks
 
 abbrev μ-loop : group-lts.MeasureT-loop
 μ-loop work₀ line store n l buckets sw p g h marks₀ m i a e r count k j₀ work marks j = at r 8 - j
