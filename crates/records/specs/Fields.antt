@@ -7,6 +7,7 @@ use Rattle.records.specs.Lists.{all, from}
 use Rattle.records.specs.Record.{Rec, mostPolicies, at, kind, RecordKind, kWidths, kLink, kMiss, kRule, kNode, kGroup, kNoRecord, recordKind, CommandKind, kAdd, kModify, kDelete, kNoCommand, commandKind, ActionKind, kOutput, kSet, kInPort, kRunGroup, kNoAction, actionKind}
 use Rattle.records.specs.Group.{bucketValue, bucketCare, bucketKind, bucketTarget, TargetKind, kPort, kLowerGroup, kNoTarget, targetKind}
 use Rattle.records.specs.Widths.{width}
+use Rattle.records.specs.Version.{versionGood}
 use Rattle.records.specs.Pattern.{patternGood}
 use Rattle.records.specs.Policy.{NodeKind, kBIT, kR, kE, kNOT, kAND, kOR, kSOME, kALL, kTC, kNone, nodeKind}
 use Rattle.records.specs.declared.Widths.{Widths}
@@ -101,7 +102,7 @@ bucketsGood w r = let count = at r 8 in leb 1 count && leb count 3 && all (bucke
 
 -- the fields of a record of each kind
 abbrev pub fieldsOf : RecordKind → Widths → Rec → Bool
-fieldsOf kWidths w r = zeros 4 23 r
+fieldsOf kWidths w r = versionGood (at r 4) && zeros 5 23 r
 fieldsOf kLink w r = pointGood w (at r 1) (at r 2) && pointGood w (at r 3) (at r 4) && zeros 5 23 r
 fieldsOf kMiss w r = ltb (at r 1) (2 ^ w .w) && zeros 2 7 r && actionsGood w r && zeros 21 23 r
 fieldsOf kRule w r = matchGood w r && actionsGood w r && zeros 21 23 r

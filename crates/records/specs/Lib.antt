@@ -3,6 +3,7 @@ pub mod Lists
 pub mod Record
 pub mod Group
 pub mod Widths
+pub mod Version
 pub mod State
 pub mod Pattern
 pub mod Matched

@@ -2,6 +2,7 @@
 use crate::MOST_POLICIES;
 use crate::Widths;
 use crate::groups::group_good;
+use crate::wire::version_good;
 ghost use mathlib.Core.Path.{_≡_};
 ghost use mathlib.Core.Bool.{true};
 ghost use mathlib.Core.List.{[], _∷_};
@@ -234,6 +235,17 @@ fn policy_node_good(w: Widths, r: &[u8]) -> bool
     zeros(r, 5, 23)
 }
 
+// The fields of the widths record, besides the widths: its version.
+fn widths_record_good(r: &[u8]) -> bool
+    requires { ⌜ (length (now r) ≡ 24) × (kind (now r) ≡ 1) ⌝ }
+    ensures { λ g. ⌜ ((w : Widths) → g ≡ fieldsGood w (now (r .entry))) ⌝ }
+{
+    if !version_good(r[4]) {
+        return false;
+    }
+    zeros(r, 5, 23)
+}
+
 // The fields of a record, as its kind reads them; for the widths record no widths are needed yet.
 pub fn fields_good(w: Widths, r: &[u8]) -> bool
     requires { ⌜ (length (now r) ≡ 24) × ((kind (now r) ≡ 1) ⊎ (withinLimits w ≡ true)) ⌝ }
@@ -241,7 +253,7 @@ pub fn fields_good(w: Widths, r: &[u8]) -> bool
 {
     let k = r[0];
     match k {
-        1 => zeros(r, 4, 23),
+        1 => widths_record_good(r),
         2 => link_good(w, r),
         3 => miss_good(w, r),
         4 => rule_good(w, r),

@@ -6,6 +6,7 @@ ghost use Rattle.records.specs.Widths.{width, states, planeBytes, within
 pub mod fields;
 pub mod groups;
 pub mod pattern;
+pub mod wire;
 
 // The records of the largest network.
 pub const MOST_RECORDS: usize = 657;
@@ -24,6 +25,12 @@ pub const MOST_NODES: usize = 32;
 
 // The groups that a network has at most.
 pub const MOST_GROUPS: usize = 16;
+
+// The wire version of a network's switches.
+pub enum Version {
+    OpenFlow10,
+    OpenFlow13,
+}
 
 // The widths of a network: of headers, of ports and of switches.
 pub struct Widths {

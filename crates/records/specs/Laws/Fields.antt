@@ -15,6 +15,7 @@ use Rattle.planes.specs.Laws.Tests.{true-of, not-both, and-left, and-right}
 use Rattle.records.specs.Lists.{all}
 use Rattle.records.specs.Record.{Rec, mostPolicies, at, kind, kNoRecord, recordKind, commandKind, kNoAction, actionKind}
 use Rattle.records.specs.Group.{bucketValue, bucketCare, bucketKind, bucketTarget, kNoTarget, targetKind}
+use Rattle.records.specs.Version.{versionGood}
 use Rattle.records.specs.Pattern.{patternGood}
 use Rattle.records.specs.Policy.{nodeKind}
 use Rattle.records.specs.Fields.{zeros, usedGood, unusedGood, actionBytesGood, actionGood, actionsGood, pointGood, matchGood, nodeGood, usedBucket, bucketGood, bucketsGood, fieldsGood, commandGood}
@@ -171,7 +172,7 @@ no-kind (suc (suc (suc (suc (suc (suc (suc (suc (suc (suc k)))))))))) h n = refl
 
 -- the fields of a record by its kind
 module _ (w : Widths) (r : Rec) where
-  pub widths-fields : kind r ≡ 1 → fieldsGood w r ≡ zeros 4 23 r
+  pub widths-fields : kind r ≡ 1 → fieldsGood w r ≡ (versionGood (at r 4) && zeros 5 23 r)
   unfolding fieldsGood recordKind
   widths-fields e = rw e
 

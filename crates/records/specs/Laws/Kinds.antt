@@ -11,6 +11,7 @@ use lib.Seq.{getD-at}
 use Rattle.records.specs.Lists.{keep, all}
 use Rattle.records.specs.Record.{Rec, Net, at, kind, ofKind, sameRule, present}
 use Rattle.records.specs.Widths.{widthsOf}
+use Rattle.records.specs.Version.{versionOf}
 use Rattle.records.specs.Policy.{nodesOf, policyCount, longestOf, longest}
 use Rattle.records.specs.Laws.Lists.{keep-append, any-append}
 
@@ -96,10 +97,19 @@ pub present-append : (q : Rec) (xs ys : Net) → present q (xs ++ ys) ≡ (prese
 unfolding present
 present-append q = any-append (sameRule q)
 
--- the widths stand in the first record, whatever follows
+-- the widths and the version stand in the first record
+module _ (x y : Net) (first : getD x 0 [] ≡ getD y 0 []) where
+  pub widths-first : widthsOf x ≡ widthsOf y
+  unfolding widthsOf
+  widths-first = rw first
+
+  pub version-first : versionOf x ≡ versionOf y
+  unfolding versionOf
+  version-first = rw first
+
+-- whatever follows
 pub widths-append : (xs ys : Net) → 0 < length xs → widthsOf (xs ++ ys) ≡ widthsOf xs
-unfolding widthsOf
-widths-append xs ys h = rw (List·getD-append xs ys [] 0 h)
+widths-append xs ys h = widths-first (xs ++ ys) xs (List·getD-append xs ys [] 0 h)
 
 pub last-kind : (xs : Net) (r : Rec) → lastKind (xs ++ (r ∷ [])) ≡ kind r
 last-kind xs r =

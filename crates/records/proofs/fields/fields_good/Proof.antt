@@ -1,5 +1,5 @@
 use borrow.Author.Needs.{needs}
-use mathlib.Core.Path.{_≡_, sym, _∙_}
+use mathlib.Core.Path.{_≡_, sym}
 use mathlib.Core.Bool.{true}
 use mathlib.Core.Logic.{_⊎_, ⊎-elim}
 use Prim.Native.Nat.{ℕ, _<_}
@@ -11,7 +11,7 @@ use Rattle.records.specs.Fields.{fieldsGood}
 use Rattle.records.specs.Widths.{withinLimits}
 use Rattle.records.specs.declared.Widths.{Widths}
 use denote.Ref.{now}
-use Rattle.records.specs.Laws.Fields.{widths-fields, no-record}
+use Rattle.records.specs.Laws.Fields.{no-record}
 use Rattle.records.proofs.fields.fields_good.Statement.{statement}
 use Rattle.records.proofs.fields.fields_good.Tie as tie
 
@@ -22,8 +22,7 @@ asked w r k p l e = (p .0, ⊎-elim (λ f. absurd (omega arith)) (λ g. g) (p .1
 
 returns : tie.Need-returns
 returns c =
-    let a = c .before .before .before .before .args in
-    c .zeros .ensures ∙ sym (widths-fields (a .w) (now (a .r)) (c .before .match .keys1))
+    c .widths-record-good .ensures (c .before .before .before .before .args .w)
 
 returns-7 : tie.Need-returns-7
 unfolding fieldsGood recordKind
