@@ -4,6 +4,7 @@ use Rattle.records.specs.Lists.{keep, any, all, sameNumbers, from}
 use Rattle.records.specs.Record.{recordKind, commandKind, actionKind, records, ofKind, sameRule, present, endsAt, linked}
 use Rattle.records.specs.Group.{targetKind, isGroup, hasGroup, runsThere, actionsThere, goesThere, bucketsThere, groupsThere}
 use Rattle.records.specs.Widths.{states, planeBytes, withinLimits, widthsOf}
+use Rattle.records.specs.Version.{versionGood, versionNamed, versionOf, acting}
 use Rattle.records.specs.State.{ordinary}
 use Rattle.records.specs.Pattern.{patternGood}
 use Rattle.records.specs.Policy.{nodeKind, nodeSays, firstNodes, formula, nodesOf, policyCount, longestOf, longest, free}
@@ -13,5 +14,5 @@ use Rattle.rows.specs.Refusal.{recordRow, fileRow, argumentsRow, network
 
 -- all that a refusal computes with
 unfoldable pub refusing : Unit {0}
-unfolding bitOf keep any all sameNumbers from recordKind commandKind actionKind records ofKind sameRule present endsAt linked targetKind isGroup hasGroup runsThere actionsThere goesThere bucketsThere groupsThere states planeBytes withinLimits widthsOf ordinary patternGood nodeKind nodeSays firstNodes formula nodesOf policyCount longestOf longest free zeros pointGood actionBytesGood actionGood actionsGood matchGood nodeGood bucketGood bucketsGood fieldsGood commandGood row1 row2 row3 row4 row5 row6 row7 row8 row9 row10 row11 row12 row13 row16 row16Command missesIncomplete operandsGood endsPolicy freeAt ascends lastGroup outOfOrder workNeeded recordRow fileRow argumentsRow networkRow checkRefusal commandRow commandRefusal
+unfolding bitOf keep any all sameNumbers from recordKind commandKind actionKind records ofKind sameRule present endsAt linked targetKind isGroup hasGroup runsThere actionsThere goesThere bucketsThere groupsThere states planeBytes withinLimits widthsOf versionGood versionNamed versionOf acting ordinary patternGood nodeKind nodeSays firstNodes formula nodesOf policyCount longestOf longest free zeros pointGood actionBytesGood actionGood actionsGood matchGood nodeGood bucketGood bucketsGood fieldsGood commandGood row1 row2 row3 row4 row5 row6 row7 row8 row9 row10 row11 row12 row13 row16 row16Command missesIncomplete operandsGood endsPolicy freeAt ascends lastGroup outOfOrder workNeeded recordRow fileRow argumentsRow networkRow checkRefusal commandRow commandRefusal
 refusing = tt

@@ -8,6 +8,7 @@ use lib.ListN.{length, getD}
 use Rattle.records.specs.Record.{Rec, Net, mostRecords, storeBytes, at, kind, ofKind, present, linked, mostRules, mostPolicies, mostNodes, mostGroups}
 use Rattle.records.specs.Group.{actionsThere, groupsThere}
 use Rattle.records.specs.Widths.{planeBytes, withinLimits, widthsOf}
+use Rattle.records.specs.Version.{versionOf, acting, isAdd}
 use Rattle.records.specs.State.{ordinary}
 use Rattle.records.specs.Policy.{Y, nodesOf, policyCount, formula, longest, free, NodeKind, kBIT, kR, kE, kNOT, kAND, kOR, kSOME, kALL, kTC, kNone, nodeKind}
 use Rattle.records.specs.Fields.{fieldsGood, commandGood}
@@ -132,6 +133,6 @@ row12 net c = not (eqb (length c) 24) || ltb (kind c) 6 || ltb 8 (kind c) || not
 unfoldable pub row16Command : Net → Rec → Bool
 row16Command net c = not (actionsThere net c)
 
--- row 13: add of a new rule with 256 present
+-- row 13: add of a new rule with 256 present; in 1.0 a modify of a new rule acts as one
 unfoldable pub row13 : Net → Rec → Bool
-row13 net c = eqb (kind c) 6 && not (present c net) && leb mostRules (length (ofKind 4 net))
+row13 net c = isAdd (acting (versionOf net) c net) && not (present c net) && leb mostRules (length (ofKind 4 net))

@@ -7,7 +7,7 @@ use Prim.Native.Nat.{ℕ, _<_, _≤_}
 use native.Mathlib.Omega.{arith}
 use borrow.Author.Tests.{leb-false, lt-leb}
 use lib.Dec.{leb}
-use lib.ListN.{length, length-append}
+use lib.ListN.{length, getD, length-append, List·getD-append}
 use Rattle.planes.specs.Laws.Tests.{or-none, or-left, or-right}
 use Rattle.records.specs.Lists.{any, all}
 use Rattle.records.specs.Record.{Rec, Net, at, kind, ofKind, present, linked, mostRules, mostPolicies, mostNodes}
@@ -16,14 +16,14 @@ use Rattle.records.specs.Policy.{nodesOf}
 use Rattle.rows.specs.Rows.{row5, row6, row7, row8, row9, row10, row16, missesIncomplete, freeAt, lastGroup, outOfOrder}
 use Rattle.rows.specs.Refusal.{fileRow}
 use Rattle.records.specs.Laws.Groups.{there-alike}
-use Rattle.records.specs.Laws.Kinds.{isRule, isNode, lastKind, kinds-append, kind-count, rules-only, nodes-alike, policies-alike, present-append, widths-append, last-kind}
+use Rattle.records.specs.Laws.Kinds.{isRule, isNode, lastKind, kinds-append, kind-count, rules-only, nodes-alike, policies-alike, present-append, widths-first, last-kind}
 use Rattle.rows.specs.Laws.Passing.{Passes, ordered, ordered-later, file-step, step-file, file-end, end-file}
 
 -- two fronts that differ in rules alone
 pub record Alike (p p′ : Net) : Type 0 where
   pub some : 0 < length p
   pub some′ : 0 < length p′
-  pub widths : widthsOf p′ ≡ widthsOf p
+  pub first : getD p′ 0 [] ≡ getD p 0 []
   pub same : (k : ℕ) → (k ≡ 4 → ⊥) → ofKind k p′ ≡ ofKind k p
 
 -- the second has no rule that the first has not, and not more of them
@@ -31,15 +31,18 @@ pub record Fewer (p p′ : Net) : Type 0 where
   pub count : length (ofKind 4 p′) ≤ length (ofKind 4 p)
   pub absent : (q : Rec) → present q p ≡ false → present q p′ ≡ false
 
+widths-kept : (p p′ : Net) → Alike p p′ → widthsOf p′ ≡ widthsOf p
+widths-kept p p′ a = widths-first p′ p (a .first)
+
 misses-kept : (p p′ : Net) → Alike p p′ → missesIncomplete p′ ≡ missesIncomplete p
 unfolding missesIncomplete
-misses-kept p p′ a = rw (a .widths, a .same 3 (λ q. omega arith))
+misses-kept p p′ a = rw (widths-kept p p′ a, a .same 3 (λ q. omega arith))
 
 -- a record after an alike front
 module _ (p p′ : Net) (r : Rec) (after : Net) (a : Alike p p′) where
   kept-6 : row6 p′ r ≡ row6 p r
   unfolding row6 linked
-  kept-6 = rw (a .widths, a .same 2 (λ q. omega arith))
+  kept-6 = rw (widths-kept p p′ a, a .same 2 (λ q. omega arith))
 
   kept-7 : row7 p′ r ≡ row7 p r
   unfolding row7
@@ -54,7 +57,7 @@ module _ (p p′ : Net) (r : Rec) (after : Net) (a : Alike p p′) where
   kept-16 =
       let same = a .same 9 (λ q. omega arith) in
       rw (
-        a .widths,
+        widths-kept p p′ a,
         same,
         there-alike (p′ ++ (r ∷ after)) (p ++ (r ∷ after))
             (kinds-append 9 p′ (r ∷ after) ∙ ap (λ (l : Net). l ++ ofKind 9 (r ∷ after)) same ∙ sym (kinds-append 9 p (r ∷ after))) r,
@@ -87,7 +90,7 @@ module _ (p p′ : Net) (r : Rec) (after : Net) (a : Alike p p′) where
       record {
         not3 = ordered-later p′ r (a .some′) (omega (arith, t .low, one)) (t .group) order;
         not4 = s .not4;
-        not5 = rw (a .widths) (s .not5);
+        not5 = rw (widths-kept p p′ a) (s .not5);
         not6 = kept-6 ∙ s .not6;
         not7 = kept-7 ∙ s .not7;
         not8 = kept-8 f (s .not8);
@@ -101,7 +104,7 @@ alike-more : (p p′ more : Net) → Alike p p′ → Alike (p ++ more) (p′ ++
 alike-more p p′ more a = record {
   some = omega (arith, length-append p more, a .some);
   some′ = omega (arith, length-append p′ more, a .some′);
-  widths = widths-append p′ more (a .some′) ∙ a .widths ∙ sym (widths-append p more (a .some));
+  first = List·getD-append p′ more [] 0 (a .some′) ∙ a .first ∙ sym (List·getD-append p more [] 0 (a .some));
   same = λ k h. kinds-append k p′ more ∙ ap (λ (l : Net). l ++ ofKind k more) (a .same k h) ∙ sym (kinds-append k p more);
 }
 
@@ -175,7 +178,7 @@ pub alike-rules : (xs old new : Net) → 0 < length xs → all isRule old ≡ tr
 alike-rules xs old new h o n = record {
   some = omega (arith, length-append xs old);
   some′ = omega (arith, length-append xs new);
-  widths = widths-append xs new h ∙ sym (widths-append xs old h);
+  first = List·getD-append xs new [] 0 h ∙ sym (List·getD-append xs old [] 0 h);
   same = λ k q. kinds-append k xs new ∙ ap (λ (l : Net). ofKind k xs ++ l) (rules-only k q new n ∙ sym (rules-only k q old o)) ∙ sym (kinds-append k xs old);
 }
 
