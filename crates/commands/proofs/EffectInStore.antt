@@ -5,18 +5,19 @@ use mathlib.Core.List.{List, [], _∷_, _++_}
 use mathlib.Core.Option.{none, some}
 use Prim.Native.Nat.{ℕ, suc, _+_, _≤_}
 use native.Mathlib.Omega.{arith}
-use lib.ListN.{take, drop, drop-of-length-le, take-append-drop}
-use Rattle.records.specs.Record.{Rec, Net, records, sameRule, present}
+use lib.ListN.{take, drop, take-append-drop}
+use Rattle.records.specs.Record.{Rec, Net, records, sameRule}
 use Rattle.records.specs.Search.{recordAt, firstAt}
 use Rattle.rows.specs.Found.{foundRule}
 use Rattle.records.specs.Laws.Records.{length-records}
-use Rattle.rows.specs.Laws.Found.{first-none, found-present, found-absent}
+use Rattle.rows.specs.Laws.Found.{found-present, found-absent}
 use Rattle.commands.specs.Apply.{asRule, changed, inserted, removed, added}
 use Rattle.commands.specs.Effect.{spliced, joined, aboveRules}
+use Rattle.commands.specs.Laws.RulePlace.{removed-none}
 use Rattle.commands.proofs.FoundRule.{first-le, at-first, at-record}
 
 -- a new rule goes before the first record of a higher kind
-pub inserted-at : (c : Rec) (net : Net) → inserted c net ≡ spliced net (firstAt aboveRules net) (firstAt aboveRules net) (asRule c)
+inserted-at : (c : Rec) (net : Net) → inserted c net ≡ spliced net (firstAt aboveRules net) (firstAt aboveRules net) (asRule c)
 unfolding inserted firstAt
 inserted-at c [] = refl
 inserted-at c (r ∷ rs) = go (aboveRules r) (firstAt aboveRules rs) (inserted-at c rs)
@@ -38,6 +39,10 @@ module _ (t : Rec → Bool) (g : Net → Net) (over : (r : Rec) (rs : Net) → t
       go true q k e = refl
       go false q k e = over r rs q ∙ ap (λ (l : Net). r ∷ l) e
 
+-- nothing
+pub all-kept : (s : List ℕ) (n : ℕ) → records n s ≡ joined (records n s) n n
+all-kept s n = sym (take-append-drop n (records n s))
+
 -- the effect of a command on the records of a store
 module _ (c : Rec) (s : List ℕ) (n : ℕ) where
   abbrev net : Net
@@ -48,14 +53,6 @@ module _ (c : Rec) (s : List ℕ) (n : ℕ) where
     at-same k e =
         from-first (sameRule c) g over net ∙ ap (λ (m : ℕ). take m net ++ g (drop m net)) (at-first c s n k e)
         ∙ ap (λ (l : Net). take k net ++ g l) (at-record c s n k e .1)
-
-    at-none : none ≡ foundRule c net → g [] ≡ [] → g net ≡ joined net n n
-    unfolding present
-    at-none e z =
-        let d : drop n net ≡ [] = drop-of-length-le net {i = n} (omega (arith, length-records n s)) in
-        from-first (sameRule c) g over net
-        ∙ ap (λ (m : ℕ). take m net ++ g (drop m net)) (first-none (sameRule c) s n (sym (found-absent c net e)))
-        ∙ ap (λ (l : Net). take n net ++ l) (ap g d ∙ z ∙ sym d)
 
   changed-over : (f : Rec → Rec) (r : Rec) (rs : Net) → sameRule c r ≡ false → changed f c (r ∷ rs) ≡ r ∷ changed f c rs
   unfolding changed
@@ -70,31 +67,22 @@ module _ (c : Rec) (s : List ℕ) (n : ℕ) where
   unfolding changed
   changed-at f k e = at-same (changed f c) (changed-over f) k e ∙ rw (at-record c s n k e .0, changed)
 
-  pub changed-none : (f : Rec → Rec) → none ≡ foundRule c net → changed f c net ≡ joined net n n
-  unfolding changed
-  changed-none f e = at-none (changed f c) (changed-over f) e refl
-
   -- delete
   pub removed-at : (k : ℕ) → some k ≡ foundRule c net → removed c net ≡ joined net k (k + 1)
   unfolding removed
   removed-at k e = at-same (removed c) removed-over k e ∙ rw (at-record c s n k e .0, removed)
 
-  pub removed-none : none ≡ foundRule c net → removed c net ≡ joined net n n
-  unfolding removed
-  removed-none e = at-none (removed c) removed-over e refl
+  pub removed-absent : none ≡ foundRule c net → removed c net ≡ joined net n n
+  removed-absent e = removed-none c net (sym (found-absent c net e)) ∙ all-kept s n
 
   -- add
   pub added-at : (k : ℕ) → some k ≡ foundRule c net → added c net ≡ spliced net k (k + 1) (asRule c)
   unfolding added
   added-at k e = rw (sym (found-present c net k e), added) (changed-at (λ r. asRule c) k e)
 
-  pub added-new : (k : ℕ) → k ≡ firstAt aboveRules net → none ≡ foundRule c net → added c net ≡ spliced net k k (asRule c)
-  unfolding added
-  added-new k q e = rw (sym (found-absent c net e), added) (inserted-at c net ∙ ap (λ (m : ℕ). spliced net m m (asRule c)) (sym q))
+  -- a new rule
+  pub inserted-new : (k : ℕ) → k ≡ firstAt aboveRules net → inserted c net ≡ spliced net k k (asRule c)
+  inserted-new k q = inserted-at c net ∙ ap (λ (m : ℕ). spliced net m m (asRule c)) (sym q)
 
   pub new-below : (k : ℕ) → k ≡ firstAt aboveRules net → k ≤ n
   new-below k q = omega (arith, first-le aboveRules net, length-records n s)
-
--- nothing
-pub all-kept : (s : List ℕ) (n : ℕ) → records n s ≡ joined (records n s) n n
-all-kept s n = sym (take-append-drop n (records n s))

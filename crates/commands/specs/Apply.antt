@@ -3,7 +3,9 @@ use mathlib.Core.Bool.{true, false}
 use mathlib.Core.List.{[], _∷_, _++_}
 use lib.Dec.{ltb}
 use lib.ListN.{take, drop}
-use Rattle.records.specs.Record.{Rec, Net, kind, CommandKind, kAdd, kModify, kDelete, kNoCommand, commandKind, sameRule, present}
+use Rattle.records.specs.Record.{Rec, Net, kind, CommandKind, kAdd, kModify, kDelete, kNoCommand, sameRule, present}
+use Rattle.records.specs.Version.{acting}
+use Rattle.records.specs.declared.Version.{Version}
 
 -- the rule of a command, stored as kind 4
 unfoldable pub asRule : Rec → Rec
@@ -32,13 +34,13 @@ removed c (r ∷ rest) = elim (sameRule c r) [ true ↦ rest | false ↦ r ∷ r
 unfoldable pub added : Rec → Net → Net
 added c net = elim (present c net) [ true ↦ changed (λ r. asRule c) c net | false ↦ inserted c net ]
 
--- what a command of each kind leaves; without the same rule, modify and delete change nothing
+-- what a command leaves, by what it acts as; without the same rule, modify and delete change nothing
 abbrev pub appliedAs : CommandKind → Rec → Net → Net
 appliedAs kAdd c net = added c net
 appliedAs kModify c net = changed (withActions c) c net
 appliedAs kDelete c net = removed c net
 appliedAs kNoCommand c net = net
 
--- the network that a command would leave
-unfoldable pub applied : Rec → Net → Net
-applied c net = appliedAs (commandKind (kind c)) c net
+-- the network that a command would leave, in the version of the switches
+unfoldable pub applied : Version → Rec → Net → Net
+applied v c net = appliedAs (acting v c net) c net

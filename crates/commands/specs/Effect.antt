@@ -8,8 +8,10 @@ use lib.Dec.{ltb}
 use lib.ListN.{length, take, drop, replicate}
 use Rattle.records.specs.Record.{Rec, Net, mostRecords, storeBytes, kind, records, flat, ofKind}
 use Rattle.records.specs.Widths.{withinLimits, widthsOf}
+use Rattle.records.specs.Version.{versionOf}
 use Rattle.rows.specs.Refusal.{Refusal}
 use Rattle.records.specs.declared.Widths.{Widths}
+use Rattle.records.specs.declared.Version.{Version}
 use Rattle.commands.specs.declared.Admission.{Admission}
 use Rattle.commands.specs.declared.Admission.the-variants.{Refused, Passed}
 
@@ -44,10 +46,11 @@ pub record Built (net : Net) (count : ℕ) (next : List ℕ) : Type 0 where
   pub count-is : count ≡ length net
   pub bytes-are : next ≡ filled net
 
--- what is known of a network that no row below 12 refuses: its widths and how many rules it has
-pub record Known (w : Widths) (store : List ℕ) (n rules : ℕ) : Type 0 where
+-- what is known of a network that no row below 12 refuses: its widths, its version and how many rules it has
+pub record Known (w : Widths) (v : Version) (store : List ℕ) (n rules : ℕ) : Type 0 where
   pub stored : n * 24 ≤ length store
   pub widths : w ≡ widthsOf (records n store)
+  pub version : v ≡ versionOf (records n store)
   pub limits : withinLimits w ≡ true
   pub rules-are : rules ≡ length (ofKind 4 (records n store))
 

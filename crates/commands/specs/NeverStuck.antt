@@ -7,48 +7,50 @@ use native.Mathlib.Omega.{arith}
 use lib.ListN.{length}
 use Rattle.records.specs.Record.{Rec, Net, mostRecords, ofKind}
 use Rattle.records.specs.Widths.{planeBytes, widthsOf}
+use Rattle.records.specs.Version.{versionOf}
 use Rattle.rows.specs.Rows.{workNeeded}
 use Rattle.rows.specs.Refusal.{fileRow, commandRow}
 use Rattle.rows.specs.Count.{count-bound}
 use Rattle.records.specs.declared.Widths.{Widths}
 use Rattle.records.specs.Laws.Records.{Whole}
-use Rattle.records.specs.Laws.Kinds.{longest-alike}
+use Rattle.records.specs.Laws.Kinds.{longest-alike, widths-first, version-first}
 use Rattle.rows.specs.Laws.Passing.{not-empty}
 use Rattle.commands.specs.Apply.{applied}
 use Rattle.commands.specs.Laws.StoredRule.{command}
 use Rattle.commands.specs.Laws.StillPasses.{applied-kept}
 
--- what holds of the network that a command would leave: widths, links, misses, policies and groups are the same, and a series may go on with it
-pub record GoesOn (net : Net) (c : Rec) : Type 0 where
-  pub passes : fileRow [] (applied c net) ≡ none
-  pub same-widths : widthsOf (applied c net) ≡ widthsOf net
-  pub same-links : ofKind 2 (applied c net) ≡ ofKind 2 net
-  pub same-misses : ofKind 3 (applied c net) ≡ ofKind 3 net
-  pub same-policies : ofKind 5 (applied c net) ≡ ofKind 5 net
-  pub same-groups : ofKind 9 (applied c net) ≡ ofKind 9 net
-  pub few : length (applied c net) ≤ mostRecords
-  pub some : 0 < length (applied c net)
-  pub whole : Whole (applied c net)
+-- what holds of the network that a command leaves: widths, version, links, misses, policies and groups are the same, and a series may go on with it
+pub record GoesOn (net after : Net) : Type 0 where
+  pub passes : fileRow [] after ≡ none
+  pub same-widths : widthsOf after ≡ widthsOf net
+  pub same-version : versionOf after ≡ versionOf net
+  pub same-links : ofKind 2 after ≡ ofKind 2 net
+  pub same-misses : ofKind 3 after ≡ ofKind 3 net
+  pub same-policies : ofKind 5 after ≡ ofKind 5 net
+  pub same-groups : ofKind 9 after ≡ ofKind 9 net
+  pub few : length after ≤ mostRecords
+  pub some : 0 < length after
+  pub whole : Whole after
 
 -- a network that rows 3 to 10 and 16 pass goes on after every command that rows 12, 16 and 13 pass
-pub never-stuck : (net : Net) (c : Rec) → Whole net → 0 < length net → fileRow [] net ≡ none → commandRow net c ≡ none → GoesOn net c
+pub never-stuck : (net : Net) (c : Rec) → Whole net → 0 < length net → fileRow [] net ≡ none → commandRow net c ≡ none → GoesOn net (applied (versionOf net) c net)
 never-stuck net c whole some e f =
+    let after = applied (versionOf net) c net in
     let k = applied-kept net c whole e (command net c f) in
     record {
       passes = k .passes;
-      same-widths = k .alike .widths;
+      same-widths = widths-first after net (k .alike .first);
+      same-version = version-first after net (k .alike .first);
       same-links = k .alike .same 2 (λ q. omega arith);
       same-misses = k .alike .same 3 (λ q. omega arith);
       same-policies = k .alike .same 5 (λ q. omega arith);
       same-groups = k .alike .same 9 (λ q. omega arith);
-      few = count-bound (applied c net) (k .passes);
-      some = not-empty (applied c net) (k .passes);
+      few = count-bound after (k .passes);
+      some = not-empty after (k .passes);
       whole = k .whole;
     }
 
 -- and needs the same work
-pub work-same : (net : Net) (c : Rec) → Whole net → 0 < length net → fileRow [] net ≡ none → commandRow net c ≡ none → workNeeded (applied c net) ≡ workNeeded net
+pub work-same : (net after : Net) → GoesOn net after → workNeeded after ≡ workNeeded net
 unfolding workNeeded
-work-same net c whole some e f =
-    let g = never-stuck net c whole some e f in
-    ap₂ (λ (k : ℕ) (w : Widths). (k + 2) * planeBytes w) (longest-alike (applied c net) net (g .same-policies)) (g .same-widths)
+work-same net after g = ap₂ (λ (k : ℕ) (w : Widths). (k + 2) * planeBytes w) (longest-alike after net (g .same-policies)) (g .same-widths)

@@ -1,18 +1,20 @@
 // The effect of a command, made in a second buffer; and the rows that refuse a command.
+use records::Version;
 use records::Widths;
 use rows::rules::Found;
 ghost use mathlib.Core.Path.{_≡_};
-ghost use mathlib.Core.Bool.{true};
+ghost use mathlib.Core.Bool.{true, false};
 ghost use mathlib.Core.List.{_++_};
 ghost use Prim.Native.Nat.{_+_, _-_, _*_, _≤_};
 ghost use lib.ListN.{length, take, drop};
-ghost use Rattle.records.specs.Record.{Net, storeBytes, records, flat, ofKind};
+ghost use Rattle.records.specs.Record.{Net, storeBytes, kind, commandKind, present, records, flat, ofKind};
 ghost use Rattle.records.specs.Widths.{withinLimits, widthsOf};
+ghost use Rattle.records.specs.Version.{versionOf, modifyAs, actsAs, isAdd};
 ghost use Rattle.rows.specs.Rows.{row12, row13, row16Command};
 ghost use Rattle.rows.specs.Groups.{ActionsNamed};
 ghost use Rattle.rows.specs.Refusal.{commandRow};
 ghost use Rattle.records.specs.Search.{firstAt};
-ghost use Rattle.commands.specs.Apply.{asRule, withActions, changed, added, removed, applied};
+ghost use Rattle.commands.specs.Apply.{asRule, withActions, inserted, added, removed, applied};
 ghost use Rattle.commands.specs.Effect.{padded, spliced, joined, aboveRules, BufferRoom, Built, Known, admissionRefusal};
 
 // The rule of a command.
@@ -89,28 +91,50 @@ fn join(next: &mut [u8], store: &[u8], n: usize, i: usize, j: usize) -> usize
     i + (n - j)
 }
 
+// A new rule, after the last rule.
+fn insert(next: &mut [u8], store: &[u8], n: usize, given: &[u8]) -> usize
+    requires { ⌜ BufferRoom (now next) (now store) n (length (inserted (now given) (records n (now store)))) ⌝ }
+    requires { ⌜ length (now given) ≡ 24 ⌝ }
+    ensures { λ r. ⌜ Built (inserted (now (given .entry)) (records n (now (store .entry)))) r (now (next .exit)) ⌝ }
+{
+    let rule = as_rule(given);
+    let i = place(store, n);
+    splice(next, store, n, &rule, i, i)
+}
+
 // Add: replaces the same rule in its place, or else goes after the last rule.
 fn add(next: &mut [u8], store: &[u8], n: usize, given: &[u8]) -> usize
     requires { ⌜ BufferRoom (now next) (now store) n (length (added (now given) (records n (now store)))) ⌝ }
     requires { ⌜ length (now given) ≡ 24 ⌝ }
     ensures { λ r. ⌜ Built (added (now (given .entry)) (records n (now (store .entry)))) r (now (next .exit)) ⌝ }
 {
-    let rule = as_rule(given);
     let f = rows::rules::find_rule(store, n, given);
     match f {
-        Found::At(i) => splice(next, store, n, &rule, i, i + 1),
-        Found::Nothing => {
-            let i = place(store, n);
-            splice(next, store, n, &rule, i, i)
+        Found::At(i) => {
+            let rule = as_rule(given);
+            splice(next, store, n, &rule, i, i + 1)
         }
+        Found::Nothing => insert(next, store, n, given),
+    }
+}
+
+// Modify without its rule: in 1.0 it acts as an add, in 1.3 it changes nothing.
+fn modify_absent(version: Version, next: &mut [u8], store: &[u8], n: usize, given: &[u8]) -> usize
+    requires { ⌜ BufferRoom (now next) (now store) n (length (applied version (now given) (records n (now store)))) ⌝ }
+    requires { ⌜ (length (now given) ≡ 24) × (kind (now given) ≡ 7) × (present (now given) (records n (now store)) ≡ false) ⌝ }
+    ensures { λ r. ⌜ Built (applied version (now (given .entry)) (records n (now (store .entry)))) r (now (next .exit)) ⌝ }
+{
+    match version {
+        Version::OpenFlow10 => insert(next, store, n, given),
+        Version::OpenFlow13 => join(next, store, n, n, n),
     }
 }
 
 // Modify: replaces the action count and actions of the same rule.
-fn modify(next: &mut [u8], store: &[u8], n: usize, given: &[u8]) -> usize
-    requires { ⌜ BufferRoom (now next) (now store) n (length (changed (withActions (now given)) (now given) (records n (now store)))) ⌝ }
-    requires { ⌜ length (now given) ≡ 24 ⌝ }
-    ensures { λ r. ⌜ Built (changed (withActions (now (given .entry))) (now (given .entry)) (records n (now (store .entry)))) r (now (next .exit)) ⌝ }
+fn modify(version: Version, next: &mut [u8], store: &[u8], n: usize, given: &[u8]) -> usize
+    requires { ⌜ BufferRoom (now next) (now store) n (length (applied version (now given) (records n (now store)))) ⌝ }
+    requires { ⌜ (length (now given) ≡ 24) × (kind (now given) ≡ 7) ⌝ }
+    ensures { λ r. ⌜ Built (applied version (now (given .entry)) (records n (now (store .entry)))) r (now (next .exit)) ⌝ }
 {
     let f = rows::rules::find_rule(store, n, given);
     match f {
@@ -120,7 +144,7 @@ fn modify(next: &mut [u8], store: &[u8], n: usize, given: &[u8]) -> usize
             let rule = with_actions(given, &store[a..e]);
             splice(next, store, n, &rule, i, i + 1)
         }
-        Found::Nothing => join(next, store, n, n, n),
+        Found::Nothing => modify_absent(version, next, store, n, given),
     }
 }
 
@@ -138,15 +162,15 @@ fn delete(next: &mut [u8], store: &[u8], n: usize, given: &[u8]) -> usize
 }
 
 // Makes next the network that a command would leave, and counts its records.
-pub fn apply_to(next: &mut [u8], store: &[u8], n: usize, given: &[u8]) -> usize
-    requires { ⌜ BufferRoom (now next) (now store) n (length (applied (now given) (records n (now store)))) ⌝ }
+pub fn apply_to(version: Version, next: &mut [u8], store: &[u8], n: usize, given: &[u8]) -> usize
+    requires { ⌜ BufferRoom (now next) (now store) n (length (applied version (now given) (records n (now store)))) ⌝ }
     requires { ⌜ length (now given) ≡ 24 ⌝ }
-    ensures { λ r. ⌜ Built (applied (now (given .entry)) (records n (now (store .entry)))) r (now (next .exit)) ⌝ }
+    ensures { λ r. ⌜ Built (applied version (now (given .entry)) (records n (now (store .entry)))) r (now (next .exit)) ⌝ }
 {
     let kind = given[0];
     match kind {
         6 => add(next, store, n, given),
-        7 => modify(next, store, n, given),
+        7 => modify(version, next, store, n, given),
         8 => delete(next, store, n, given),
         0..=5 | 9..=255 => join(next, store, n, n, n),
     }
@@ -184,12 +208,34 @@ fn names_absent(store: &[u8], n: usize, given: &[u8]) -> bool
     !rows::groups::actions_there(&there, given)
 }
 
+// A modify of a new rule acts as an add.
+fn modify_adds(version: Version) -> bool
+    ensures { λ r. ⌜ r ≡ isAdd (modifyAs version false) ⌝ }
+{
+    match version {
+        Version::OpenFlow10 => true,
+        Version::OpenFlow13 => false,
+    }
+}
+
+// A command of this kind, of a new rule, acts as an add.
+fn adds_new(version: Version, kind: u8) -> bool
+    ensures { λ r. ⌜ r ≡ isAdd (actsAs version false (commandKind kind)) ⌝ }
+{
+    match kind {
+        6 => true,
+        7 => modify_adds(version),
+        0..=5 | 8..=255 => false,
+    }
+}
+
 // Admission 13: add of a new rule with 256 present.
-fn is_full(store: &[u8], n: usize, rules: usize, given: &[u8]) -> bool
+fn is_full(version: Version, store: &[u8], n: usize, rules: usize, given: &[u8]) -> bool
     requires { ⌜ (n * 24 ≤ length (now store)) × (length (now given) ≡ 24) × (rules ≡ length (ofKind 4 (records n (now store)))) ⌝ }
+    requires { ⌜ version ≡ versionOf (records n (now store)) ⌝ }
     ensures { λ r. ⌜ r ≡ row13 (records n (now (store .entry))) (now (given .entry)) ⌝ }
 {
-    if given[0] != 6 {
+    if !adds_new(version, given[0]) {
         return false;
     }
     if rules < records::MOST_RULES {
@@ -205,8 +251,15 @@ pub enum Admission {
 }
 
 // The first of rows 12, 16 and 13 that refuses a command.
-pub fn command_row(w: Widths, store: &[u8], n: usize, rules: usize, given: &[u8]) -> Admission
-    requires { ⌜ Known w (now store) n rules ⌝ }
+pub fn command_row(
+    w: Widths,
+    version: Version,
+    store: &[u8],
+    n: usize,
+    rules: usize,
+    given: &[u8],
+) -> Admission
+    requires { ⌜ Known w version (now store) n rules ⌝ }
     ensures { λ r. ⌜ admissionRefusal r ≡ commandRow (records n (now (store .entry))) (now (given .entry)) ⌝ }
 {
     if is_faulty(w, given) {
@@ -215,7 +268,7 @@ pub fn command_row(w: Widths, store: &[u8], n: usize, rules: usize, given: &[u8]
     if names_absent(store, n, given) {
         return Admission::Refused { number: 16 };
     }
-    if is_full(store, n, rules, given) {
+    if is_full(version, store, n, rules, given) {
         return Admission::Refused { number: 13 };
     }
     Admission::Passed

@@ -36,7 +36,7 @@ is-full-requires : tie.Need-is-full-requires
 is-full-requires c κs =
     let e = c .before .before in
     let s = e .before .before .before .before in
-    (s .pre .stored, faultless-length (net s) (now (s .args .given)) (faultless e), s .pre .rules-are)
+    ((s .pre .stored, faultless-length (net s) (now (s .args .given)) (faultless e), s .pre .rules-are), s .pre .version)
 
 returns-3 : tie.Need-returns-3
 returns-3 c =

@@ -10,7 +10,7 @@ use Rattle.commands.specs.Apply.{removed}
 use Rattle.commands.specs.Effect.{joined}
 use Rattle.commands.proofs.RecordBytes.{room-joined}
 use Rattle.commands.proofs.FoundRule.{at-below}
-use Rattle.commands.proofs.EffectInStore.{removed-at, removed-none}
+use Rattle.commands.proofs.EffectInStore.{removed-at, removed-absent}
 use Rattle.commands.proofs.delete.Statement.{statement}
 use Rattle.commands.proofs.delete.Tie as tie
 
@@ -43,7 +43,7 @@ module _ (c : tie.After-enum-told) where
   start-2 = c .before .before .before .before .before .before
 
   keeps : left start-2 ≡ joined (net start-2) (start-2 .args .n) (start-2 .args .n)
-  keeps = removed-none _ _ _ (sym (ap placeOf (c .enum-told .given .1)) ∙ c .before .before .find-rule .ensures)
+  keeps = removed-absent _ _ _ (sym (ap placeOf (c .enum-told .given .1)) ∙ c .before .before .find-rule .ensures)
 
 add-join : tie.Need-add-join
 add-join c = omega (arith, below (c .before .before))

@@ -4,14 +4,17 @@ use mathlib.Core.Path.{_≡_, sym, ap, _∙_}
 use mathlib.Core.Option.{some}
 use Prim.Native.Nat.{ℕ, _+_, _<_}
 use native.Mathlib.Omega.{arith}
-use Rattle.records.specs.Record.{Rec, Net, records}
+use mathlib.Core.Bool.{false}
+use Rattle.records.specs.Record.{Rec, Net, records, present}
 use Rattle.rows.specs.Found.{placeOf, foundRule}
+use Rattle.rows.specs.Laws.Found.{found-present, found-absent}
 use Rattle.records.specs.Laws.Records.{part-is}
-use Rattle.commands.specs.Apply.{withActions, changed}
-use Rattle.commands.specs.Effect.{spliced, joined}
-use Rattle.commands.proofs.RecordBytes.{room-spliced, room-joined}
+use Rattle.commands.specs.Apply.{withActions, applied}
+use Rattle.commands.specs.Effect.{spliced}
+use Rattle.commands.specs.Laws.Applied.{modify-there}
+use Rattle.commands.proofs.RecordBytes.{room-spliced}
 use Rattle.commands.proofs.FoundRule.{at-below}
-use Rattle.commands.proofs.EffectInStore.{changed-at, changed-none}
+use Rattle.commands.proofs.EffectInStore.{changed-at}
 use Rattle.commands.proofs.modify.Statement.{statement}
 use Rattle.commands.proofs.modify.Tie as tie
 
@@ -19,7 +22,7 @@ abbrev net : tie.Start → Net
 net s = records (s .args .n) (now (s .args .store))
 
 abbrev left : tie.Start → Net
-left s = changed (withActions (now (s .args .given))) (now (s .args .given)) (net s)
+left s = applied (s .args .version) (now (s .args .given)) (net s)
 
 -- where the same rule was found
 module _ (c : tie.After-f) where
@@ -40,16 +43,13 @@ replaces : (c : tie.After-with-actions) → left (start (c .before .before .befo
 replaces c =
     let f = c .before .before .before in
     let given = now (start f .args .given) in
-    changed-at _ _ _ (withActions given) (i f) (told f)
+    modify-there (start f .args .version) given (net (start f)) (start f .pre .1 .1) (sym (found-present given (net (start f)) (i f) (told f)))
+    ∙ changed-at _ _ _ (withActions given) (i f) (told f)
     ∙ ap (λ (r : Rec). spliced (net (start f)) (i f) (i f + 1) r) (sym (c .with-actions .ensures ∙ ap (withActions given) (part-is (now (start f .args .store)) (i f))))
 
 -- where it was not
-module _ (c : tie.After-enum-told) where
-  abbrev start-2 : tie.Start
-  start-2 = c .before .before .before .before .before .before
-
-  keeps : left start-2 ≡ joined (net start-2) (start-2 .args .n) (start-2 .args .n)
-  keeps = changed-none _ _ _ (withActions (now (start-2 .args .given))) (sym (ap placeOf (c .enum-told .given .1)) ∙ c .before .before .find-rule .ensures)
+absent : (c : tie.After-enum-told) → present (now (c .before .before .before .before .before .before .args .given)) (net (c .before .before .before .before .before .before)) ≡ false
+absent c = sym (found-absent _ _ (sym (ap placeOf (c .enum-told .given .1)) ∙ c .before .before .find-rule .ensures))
 
 mul-a : tie.Need-mul-a
 mul-a c = omega (arith, below (c .before), c .before .before .before .before .before .before .before .pre .0 .stored)
@@ -70,14 +70,14 @@ splice-requires c κs =
     let h = below f in
     (room-spliced _ _ _ _ _ (replaces w) (omega arith) (start f .pre .0), (omega arith, omega arith))
 
-join-requires : tie.Need-join-requires
-join-requires c κs = (room-joined _ _ _ _ (keeps (c .before)) (omega arith) (start-2 (c .before) .pre .0), (omega arith, omega arith))
+modify-absent-requires : tie.Need-modify-absent-requires
+modify-absent-requires c κs =
+    let t = c .before in
+    let s = t .before .before .before .before .before .before in
+    (s .pre .0, (s .pre .1 .0, s .pre .1 .1, absent t))
 
 returns : tie.Need-returns
 returns c = let w = c .before .before in rw (replaces (w .before .before .before)) (w .splice .ensures)
-
-returns-2 : tie.Need-returns-2
-returns-2 c = let w = c .before .before in rw (keeps (w .before .before)) (w .join .ensures)
 
 pub modify-spec : {M : Type 1} → statement M
 modify-spec =
@@ -94,8 +94,8 @@ modify-spec =
     add-splice
     splice-requires
     (λ c. search needs)
-    join-requires
+    modify-absent-requires
     (λ c. search needs)
     returns
     (λ c. search needs)
-    returns-2)
+    (λ c. c .before .before .modify-absent .ensures))

@@ -1,22 +1,43 @@
--- The effect of a command by its kind.
+-- The effect of a command by its kind: only that of a modify without its rule is another in each version.
 use mathlib.Core.Path.{_≡_, refl}
+use mathlib.Core.Bool.{true, false}
 use Prim.Native.Nat.{ℕ, zero, suc}
-use Rattle.records.specs.Record.{Rec, Net, kind, kNoCommand, commandKind}
-use Rattle.commands.specs.Apply.{withActions, changed, removed, added, applied}
+use Rattle.records.specs.Record.{Rec, Net, kind, kModify, kNoCommand, commandKind, present}
+use Rattle.records.specs.Version.{modifyAs, acting}
+use Rattle.records.specs.declared.Version.{Version}
+use Rattle.records.specs.declared.Version.the-variants.{OpenFlow10, OpenFlow13}
+use Rattle.commands.specs.Apply.{withActions, changed, inserted, removed, added, applied}
+use Rattle.commands.specs.Laws.RulePlace.{changed-none, added-new}
 
-pub applied-add : (c : Rec) (net : Net) → kind c ≡ 6 → applied c net ≡ added c net
-unfolding applied commandKind
-applied-add c net e = rw e
+module _ (v : Version) (c : Rec) (net : Net) where
+  pub applied-add : kind c ≡ 6 → applied v c net ≡ added c net
+  unfolding applied acting commandKind
+  applied-add e = rw e
 
-pub applied-modify : (c : Rec) (net : Net) → kind c ≡ 7 → applied c net ≡ changed (withActions c) c net
-unfolding applied commandKind
-applied-modify c net e = rw e
+  -- with its rule there, a modify does the same in both versions
+  pub modify-there : kind c ≡ 7 → present c net ≡ true → applied v c net ≡ changed (withActions c) c net
+  unfolding applied acting commandKind
+  modify-there e t = rw (e, t, there v)
+    where
+      there : (v : Version) → modifyAs v true ≡ kModify
+      there OpenFlow10 = refl
+      there OpenFlow13 = refl
 
-pub applied-delete : (c : Rec) (net : Net) → kind c ≡ 8 → applied c net ≡ removed c net
-unfolding applied commandKind
-applied-delete c net e = rw e
+  pub applied-delete : kind c ≡ 8 → applied v c net ≡ removed c net
+  unfolding applied acting commandKind
+  applied-delete e = rw e
 
-no-command : (k : ℕ) → (k ≡ 6 → ⊥) → (k ≡ 7 → ⊥) → (k ≡ 8 → ⊥) → commandKind k ≡ kNoCommand
+-- without its rule, it adds in 1.0
+pub modify-adds : (c : Rec) (net : Net) → kind c ≡ 7 → present c net ≡ false → applied OpenFlow10 c net ≡ inserted c net
+unfolding applied acting commandKind
+modify-adds c net e t = rw (e, t) (added-new c net t)
+
+-- and changes nothing in 1.3
+pub modify-nothing : (c : Rec) (net : Net) → kind c ≡ 7 → present c net ≡ false → applied OpenFlow13 c net ≡ net
+unfolding applied acting commandKind
+modify-nothing c net e t = rw e (changed-none (withActions c) c net t)
+
+pub no-command : (k : ℕ) → (k ≡ 6 → ⊥) → (k ≡ 7 → ⊥) → (k ≡ 8 → ⊥) → commandKind k ≡ kNoCommand
 unfolding commandKind
 no-command zero a m d = refl
 no-command (suc zero) a m d = refl
@@ -30,6 +51,6 @@ no-command (suc (suc (suc (suc (suc (suc (suc (suc zero)))))))) a m d = absurd (
 no-command (suc (suc (suc (suc (suc (suc (suc (suc (suc k))))))))) a m d = refl
 
 -- what is no command changes nothing
-pub applied-none : (c : Rec) (net : Net) → (kind c ≡ 6 → ⊥) → (kind c ≡ 7 → ⊥) → (kind c ≡ 8 → ⊥) → applied c net ≡ net
-unfolding applied
-applied-none c net a m d = rw (no-command (kind c) a m d)
+pub applied-none : (v : Version) (c : Rec) (net : Net) → (kind c ≡ 6 → ⊥) → (kind c ≡ 7 → ⊥) → (kind c ≡ 8 → ⊥) → applied v c net ≡ net
+unfolding applied acting
+applied-none v c net a m d = rw (no-command (kind c) a m d)

@@ -12,7 +12,7 @@ use Rattle.records.specs.Lists.{any}
 use Rattle.records.specs.Record.{Rec, Net, kind, sameRule, present}
 use Rattle.records.specs.Laws.Kinds.{isNode}
 use Rattle.rows.specs.Laws.Fronts.{From}
-use Rattle.commands.specs.Apply.{asRule, changed, inserted, removed}
+use Rattle.commands.specs.Apply.{asRule, changed, inserted, removed, added}
 
 -- the same rule as c between a front and a back
 pub record RuleIn (c : Rec) (net : Net) : Type 0 where
@@ -57,6 +57,11 @@ removed-none c [] e = refl
 removed-none c (r ∷ rest) e =
     let t = or-none (sameRule c r) (present c rest) e in
     rw (t .0, removed) (ap (λ (l : Net). r ∷ l) (removed-none c rest (t .1)))
+
+-- and an add inserts
+pub added-new : (c : Rec) (net : Net) → present c net ≡ false → added c net ≡ inserted c net
+unfolding added
+added-new c net e = rw (e, added)
 
 -- the place of a new rule: before the first record of a higher kind
 pub record Place (c : Rec) (net : Net) : Type 0 where

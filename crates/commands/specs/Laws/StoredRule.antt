@@ -7,20 +7,22 @@ use mathlib.Core.Option.{none}
 use Prim.Native.Nat.{ℕ, _+_, _*_, _<_, _≤_}
 use native.Mathlib.Decide.{ℕ-discrete}
 use native.Mathlib.Omega.{arith}
-use borrow.Author.Tests.{eq-eqb, eqb-true, ltb-false, leb-false, not-false}
+use borrow.Author.Tests.{eqb-true, ltb-false, leb-false, not-false}
 use lib.Dec.{T, eqb, ltb, lit<}
 use lib.ListN.{length, getD, take, drop, length-append, length-drop}
 use lib.Seq.{length-take-le, take-all, take-at, drop-at, drop-drop, getD-take, getD-drop}
 use Rattle.planes.specs.Laws.Tests.{both, and-both, or-none}
 use Rattle.records.specs.Lists.{all, from}
-use Rattle.records.specs.Record.{Rec, Net, mostRules, at, kind, ofKind, sameRule, present}
+use Rattle.records.specs.Record.{Rec, Net, mostRules, at, kind, CommandKind, kDelete, commandKind, ofKind, sameRule, present}
 use Rattle.records.specs.Group.{runsThere, actionsThere, groupsThere}
 use Rattle.records.specs.Widths.{widthsOf}
+use Rattle.records.specs.Version.{versionOf, acting, isAdd}
 use Rattle.rows.specs.Rows.{row12, row13, row16Command}
 use Rattle.records.specs.Fields.{zeros, actionGood, actionsGood, matchGood, fieldsGood, commandGood}
 use Rattle.rows.specs.Refusal.{orElse, row, commandRow}
 use Rattle.rows.specs.Groups.{ActionsNamed}
 use Rattle.records.specs.declared.Widths.{Widths}
+use Rattle.records.specs.declared.Version.{Version}
 use Rattle.rows.specs.Laws.Passing.{and-test, not-met, neither}
 use Rattle.rows.specs.Laws.Groups.{switch-lt, match-switch, actions-named}
 use Rattle.records.specs.Laws.Groups.{rule-there}
@@ -37,7 +39,7 @@ pub record Command (net : Net) (c : Rec) : Type 0 where
   pub most : kind c ≤ 8
   pub good : commandGood (widthsOf net) c ≡ true
   pub there : actionsThere net c ≡ true
-  pub room : kind c ≡ 6 → present c net ≡ false → length (ofKind 4 net) < mostRules
+  pub room : isAdd (acting (versionOf net) c net) ≡ true → present c net ≡ false → length (ofKind 4 net) < mostRules
 
 -- row 12 refuses a command of another length
 pub faultless-length : (net : Net) (c : Rec) → row12 net c ≡ false → length c ≡ 24
@@ -66,7 +68,7 @@ command net c e =
       most = fine .1;
       good = fine .2;
       there = not-false _ (not-met (row16Command net c) 16 0 (u .0));
-      room = λ q absent. leb-false _ _ (and-test _ _ (not-met (row13 net c) 13 0 (u .1)) (and-both (eqb (kind c) 6) (not (present c net)) (eq-eqb (kind c) 6 q) (rw absent)));
+      room = λ q absent. leb-false _ _ (and-test _ _ (not-met (row13 net c) 13 0 (u .1)) (and-both (isAdd (acting (versionOf net) c net)) (not (present c net)) q (rw absent)));
     }
 
 -- a command's fields, where it is no delete
@@ -82,6 +84,11 @@ six-or-seven {k} l h n = go (ℕ-discrete k 6)
     go : Dec (k ≡ 6) → (k ≡ 6) ⊎ (k ≡ 7)
     go (yes e) = inl e
     go (no e) = inr (omega (arith, e, n))
+
+-- what acts on a rule and does not delete it is an add or a modify
+pub add-or-modify : (v : Version) (c : Rec) (net : Net) (k : CommandKind) → acting v c net ≡ k → (k ≡ kDelete → ⊥) → 6 ≤ kind c → kind c ≤ 8 → (kind c ≡ 6) ⊎ (kind c ≡ 7)
+unfolding acting commandKind
+add-or-modify v c net k e n l h = six-or-seven l h (λ q. n (sym e ∙ rw q))
 
 -- a command that row 12 passes names groups that have bits
 pub command-named : (net : Net) (c : Rec) → Limits (widthsOf net) → row12 net c ≡ false → ActionsNamed c
@@ -126,10 +133,10 @@ as-rule-bytes c l = omega (arith, length-drop 1 c)
 all-good : (w : Widths) (r : Rec) → kind r ≡ 4 → matchGood w r ≡ true → actionsGood w r ≡ true → zeros 21 23 r ≡ true → fieldsGood w r ≡ true
 all-good w r q m a z = rule-fields w r q ∙ rw (m, a, z)
 
-pub as-rule-good : (w : Widths) (c : Rec) → length c ≡ 24 → kind c ≡ 6 → commandGood w c ≡ true → fieldsGood w (asRule c) ≡ true
+pub as-rule-good : (w : Widths) (c : Rec) → length c ≡ 24 → (kind c ≡ 6) ⊎ (kind c ≡ 7) → commandGood w c ≡ true → fieldsGood w (asRule c) ≡ true
 unfolding asRule matchGood actionsGood actionGood zeros
 as-rule-good w [] l q e = absurd (omega arith)
-as-rule-good w (x ∷ c) l q e = let t = change-good w (x ∷ c) (inl q) e in all-good w (asRule (x ∷ c)) refl (t .0) (t .1) (t .2)
+as-rule-good w (x ∷ c) l q e = let t = change-good w (x ∷ c) q e in all-good w (asRule (x ∷ c)) refl (t .0) (t .1) (t .2)
 
 -- records that agree in bytes 8 to 20 agree in each of them
 middle-byte : (r s : Rec) → take 13 (drop 8 r) ≡ take 13 (drop 8 s) → (i : ℕ) → i < 13 → at r (8 + i) ≡ at s (8 + i)
@@ -207,12 +214,12 @@ module _ (c r : Rec) (lc : length c ≡ 24) (lr : length r ≡ 24) where
   zeros-same =
       ap (all (eqb 0)) (ap (drop 21) (take-all 24 (withActions c r) (omega (arith, with-actions-bytes))) ∙ from-21 ∙ ap (drop 21) (sym (take-all 24 r (omega (arith, lr)))))
 
-  pub with-actions-good : (w : Widths) → kind c ≡ 7 → kind r ≡ 4 → commandGood w c ≡ true → fieldsGood w r ≡ true → fieldsGood w (withActions c r) ≡ true
+  pub with-actions-good : (w : Widths) → (kind c ≡ 6) ⊎ (kind c ≡ 7) → kind r ≡ 4 → commandGood w c ≡ true → fieldsGood w r ≡ true → fieldsGood w (withActions c r) ≡ true
   with-actions-good w q k good e =
       let t = both (matchGood w r && actionsGood w r) (zeros 21 23 r) (sym (rule-fields w r k) ∙ e) in
       all-good w (withActions c r) (with-actions-kind ∙ k)
       (match-front w (withActions c r) r same-front ∙ both (matchGood w r) (actionsGood w r) (t .0) .0)
-      (actions-middle w (withActions c r) c (ap (take 13) from-8 ∙ take-at (take 13 (drop 8 c)) (drop 21 r) 13 middle-13) ∙ change-good w c (inr q) good .1)
+      (actions-middle w (withActions c r) c (ap (take 13) from-8 ∙ take-at (take 13 (drop 8 c)) (drop 21 r) 13 middle-13) ∙ change-good w c q good .1)
       (zeros-same ∙ t .1)
 
   -- it names the command's groups
