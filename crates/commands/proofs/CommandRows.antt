@@ -1,17 +1,16 @@
 -- Rows 12, 16 and 13 by what a command fails, and the first that refuses it.
 use borrow.Author.Tests.{eq-eqb, ne-eqb, lt-ltb, le-ltb, le-leb, lt-leb}
-use mathlib.Core.Path.{_≡_}
-use mathlib.Core.Bool.{Bool, true, false, not, _&&_, and-true, and-false, or-true}
+use mathlib.Core.Path.{_≡_, _∙_}
+use mathlib.Core.Bool.{true, false, not, and-true, and-false, or-true}
 use mathlib.Core.Option.{none, some}
 use Prim.Native.Nat.{_≤_, _<_}
-use lib.Dec.{leb}
 use lib.ListN.{length}
-use Rattle.records.specs.Record.{Rec, Net, mostRules, kind, commandKind, ofKind, present}
+use Rattle.records.specs.Record.{Rec, Net, kind, ofKind, present}
 use Rattle.records.specs.Widths.{widthsOf}
-use Rattle.records.specs.Version.{versionOf, actsAs, acting, isAdd}
 use Rattle.rows.specs.Rows.{row12, row13, row16Command}
 use Rattle.records.specs.Fields.{commandGood}
 use Rattle.rows.specs.Refusal.{commandRow}
+use Rattle.rows.specs.FullTable.{addsNew, by-new}
 
 module _ (net : Net) (c : Rec) where
   pub wrong-length : (length c ≡ 24 → ⊥) → row12 net c ≡ true
@@ -30,29 +29,14 @@ module _ (net : Net) (c : Rec) where
   unfolding row12
   by-fields l h k = rw (eq-eqb _ _ l, le-ltb _ _ h, le-ltb _ _ k)
 
-  -- what it acts as, were its rule new
-  abbrev pub addsNew : Bool
-  addsNew = isAdd (actsAs (versionOf net) false (commandKind (kind c)))
-
-  pub no-add : addsNew ≡ false → row13 net c ≡ false
-  unfolding row13 acting
-  no-add h = go (present c net)
-    where
-      go : (there : Bool) → (isAdd (actsAs (versionOf net) there (commandKind (kind c))) && not there && leb mostRules (length (ofKind 4 net))) ≡ false
-      go true = rw and-false
-      go false = rw h
+  pub no-add : addsNew net c ≡ false → row13 net c ≡ false
+  no-add h = by-new net c ∙ rw h
 
   pub not-full : length (ofKind 4 net) < 256 → row13 net c ≡ false
-  unfolding row13
-  not-full h = rw (lt-leb _ _ h, and-false)
+  not-full h = by-new net c ∙ rw (lt-leb _ _ h, and-false, and-false)
 
-  pub when-full : addsNew ≡ true → 256 ≤ length (ofKind 4 net) → row13 net c ≡ not (present c net)
-  unfolding row13 acting
-  when-full e h = rw (le-leb _ _ h, and-true) (go (present c net))
-    where
-      go : (there : Bool) → (isAdd (actsAs (versionOf net) there (commandKind (kind c))) && not there) ≡ not there
-      go true = rw and-false
-      go false = rw e
+  pub when-full : addsNew net c ≡ true → 256 ≤ length (ofKind 4 net) → row13 net c ≡ not (present c net)
+  when-full e h = by-new net c ∙ rw (e, le-leb _ _ h, and-true)
 
   pub refused-12 : row12 net c ≡ true → some (12, 0) ≡ commandRow net c
   unfolding commandRow

@@ -111,8 +111,8 @@ fn add(next: &mut [u8], store: &[u8], n: usize, given: &[u8]) -> usize
     let f = rows::rules::find_rule(store, n, given);
     match f {
         Found::At(i) => {
-            let rule = as_rule(given);
-            splice(next, store, n, &rule, i, i + 1)
+            let replacing = as_rule(given);
+            splice(next, store, n, &replacing, i, i + 1)
         }
         Found::Nothing => insert(next, store, n, given),
     }
@@ -141,8 +141,8 @@ fn modify(version: Version, next: &mut [u8], store: &[u8], n: usize, given: &[u8
         Found::At(i) => {
             let a = i * 24;
             let e = a + 24;
-            let rule = with_actions(given, &store[a..e]);
-            splice(next, store, n, &rule, i, i + 1)
+            let changed = with_actions(given, &store[a..e]);
+            splice(next, store, n, &changed, i, i + 1)
         }
         Found::Nothing => modify_absent(version, next, store, n, given),
     }

@@ -8,4 +8,5 @@ pub mod Count
 pub mod Ascending
 pub mod Computing
 pub mod GroupRows
+pub mod FullTable
 pub mod Laws

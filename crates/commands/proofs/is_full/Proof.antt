@@ -7,7 +7,8 @@ use native.Mathlib.Omega.{arith}
 use Rattle.records.specs.Record.{Net, kind, commandKind, records}
 use Rattle.records.specs.Version.{actsAs, isAdd}
 use Rattle.records.specs.declared.Version.{Version}
-use Rattle.commands.proofs.CommandRows.{addsNew, no-add, not-full, when-full}
+use Rattle.rows.specs.FullTable.{addsNew}
+use Rattle.commands.proofs.CommandRows.{no-add, not-full, when-full}
 use Rattle.commands.proofs.is_full.Statement.{statement}
 use Rattle.commands.proofs.is_full.Tie as tie
 
