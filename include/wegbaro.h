@@ -27,7 +27,7 @@
 #endif
 
 /* The version of the library. */
-#define WEGBARO_VERSION "0.5.0"
+#define WEGBARO_VERSION "0.6.0"
 
 /* ---- Sizes ---- */
 
