@@ -29,6 +29,7 @@ pub mod templates;
 pub mod tokens;
 pub mod trouble;
 pub mod truth;
+pub mod version;
 pub mod widths;
 pub mod words;
 pub mod written;

@@ -351,6 +351,7 @@ const WORDS: &[&str] = &[
     "H",
     "P",
     "W",
+    "version",
     "X",
     "Y",
     "R",

@@ -10,6 +10,7 @@ use crate::formula::Formula;
 use crate::names::{Names, Point};
 use crate::policies::Split;
 use crate::tokens::{statements, Place, Statement, Token};
+use crate::version::read_version;
 use crate::widths::Widths;
 use crate::{record, Record, RECORD};
 
@@ -274,7 +275,7 @@ impl Reader {
         let p = statement.byte("the port width", 4)?;
         statement.expect("W")?;
         let w = statement.byte("the switch width", 4)?;
-        statement.finish()?;
+        let version = read_version(statement)?;
         let widths = Widths { h, p, w };
         if !widths.within_limits() {
             let message =
@@ -284,7 +285,7 @@ impl Reader {
         self.given = Given::Line(keyword.place.line);
         self.widths = Some(widths);
         self.names.widths = Some(widths);
-        Ok(record(&[1, h, p, w]).to_vec())
+        Ok(record(&[1, h, p, w, version]).to_vec())
     }
 
     /// The widths for the statement that starts with the keyword. That they are missing is told once.

@@ -90,7 +90,8 @@ fn print_bytes(bytes: &[u8]) -> String {
 fn plain(widths: Option<Widths>, record: &Record) -> Option<String> {
     let [kind, one, two, three, four, ..] = *record;
     if kind == 1 {
-        return Some(format!("widths H {one} P {two} W {three}"));
+        let version = if four == 0 { String::new() } else { format!(" version {four}") };
+        return Some(format!("widths H {one} P {two} W {three}{version}"));
     }
     let of = widths?;
     let keyword = match kind {

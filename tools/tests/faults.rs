@@ -61,6 +61,34 @@ fn statements() {
 }
 
 #[test]
+fn versions() {
+    let widths = |end: &str, message: &str| {
+        fault(&format!("widths H 1 P 2 W 1 {end}"), &format!("line 1, column {message}"));
+    };
+    let version = "a version (1 for OpenFlow 1.0, or 4 for OpenFlow 1.3)";
+    for wrong in ["2", "3", "5", "255", "256", "01", "04", "X"] {
+        widths(&format!("version {wrong}"), &format!("28: expected {version}, found `{wrong}`"));
+    }
+    widths("version", &format!("27: expected {version}, found the end of the statement"));
+    widths("version 1 4", "30: expected the end of the statement, found `4`");
+    widths("1", "20: expected `version` or the end of the statement, found `1`");
+    fault("widths H 1 P 2 version 1", "line 1, column 16: expected `W`, found `version`");
+    let limits = "the limits are H 1 to 6, P 2 to 4, W 0 to 4, and 1 + H + P + W at most 10";
+    fault("widths H 4 P 4 W 2 version 1", &format!("line 1, column 1: {limits}"));
+
+    let hint = |end: &str, column: usize, hint: &str| {
+        let faults = parse(&format!("widths H 1 P 2 W 1 {end}")).unwrap_err();
+        assert_eq!((faults.len(), faults[0].column), (1, column), "{}", faults[0]);
+        assert_eq!(faults[0].hint.as_deref(), Some(hint), "{}", faults[0]);
+    };
+    let wire = "it is the version on the wire: 1 for OpenFlow 1.0, 4 for OpenFlow 1.3";
+    hint("version 1.0", 29, wire);
+    hint("version 1.3", 29, wire);
+    hint("Version 1", 20, "did you mean `version`?");
+    hint("verson 1", 20, "did you mean `version`?");
+}
+
+#[test]
 fn rules_and_commands() {
     second_line("rule 0 port 1", "line 2, column 8: expected `priority`, found `port`");
     second_line(
@@ -235,7 +263,10 @@ fn policies() {
 #[test]
 fn columns_count_characters() {
     fault("widths H 1 P 2 W 1 # ä\n\u{e4}", "line 2, column 1: `ä` has no meaning here");
-    second_line("\tlink", "line 2, column 2: expected the end of the statement, found `link`");
+    second_line(
+        "\tlink",
+        "line 2, column 2: expected `version` or the end of the statement, found `link`",
+    );
 }
 
 /// The hint of the one fault of a statement on line 2.

@@ -154,6 +154,11 @@ fn names_that_do_not_fit() {
         "column 13: `in_port` is a word of the language and cannot be a name",
         None,
     );
+    fault(
+        "name switch 0 Version",
+        "column 15: `version` is a word of the language and cannot be a name",
+        None,
+    );
     for name in ["1st", "a*", "\"a\""] {
         let message = "expected a name (a letter, then letters, digits or `_`)";
         fault(

@@ -41,6 +41,7 @@ fn well_formed_networks_and_commands_of_every_width() {
                 _ => random_network(&mut random, of, MODEST),
             };
             let mut bytes = records.concat();
+            bytes[4] = random.pick(&[0, 1, 4]);
             for wish in SOUND {
                 bytes.extend(command(&mut random, &records, wish));
             }
@@ -114,6 +115,29 @@ policy 0 nodes: E X; BIT X 4; NOT 1; AND 0 2; R X Y; TC 4 X Y; E Y; BIT Y 4; BIT
     AND 9 8; AND 5 10; SOME 11 Y; AND 3 12
 ";
     assert_eq!(there_and_back(&k().concat()), text);
+}
+
+/// A version stands behind the widths, unless its byte is 0.
+#[test]
+fn versions_in_text() {
+    for version in 0..=255 {
+        let text =
+            there_and_back(&[with(widths(1, 2, 0), 4, version), miss(0, &[IN_PORT])].concat());
+        let [first, .., last] = text.lines().collect::<Vec<_>>()[..] else { panic!("{text}") };
+        match version {
+            0 => assert_eq!([first, last], ["widths H 1 P 2 W 0", "miss 0: in_port"]),
+            1 | 4 => {
+                let widths = format!("widths H 1 P 2 W 0 version {version}");
+                assert_eq!([first, last], [&widths, "miss 0: in_port"]);
+            }
+            // What is no version is no widths statement either, so that nothing else is in words.
+            _ => assert!(first.starts_with("bytes 01 01 02 00 ") && last.starts_with("bytes 03 ")),
+        }
+    }
+    let byte_4 = |text: &str| parsed(text).bytes[4];
+    assert_eq!(byte_4("widths H 1 P 2 W 0"), 0);
+    assert_eq!(byte_4("widths H 1 P 2 W 0 version 0"), 0);
+    assert_eq!(byte_4("widths H 1 P 2 W 0\n  version 1 # OpenFlow 1.0"), 1);
 }
 
 /// `in_port` stands at every place among the actions, alone and several times.
