@@ -2,6 +2,7 @@
 //!
 //! The gate keeps the network; this keeps beside it what the words about a record need.
 
+use crate::version::modify_adds;
 use crate::Record;
 
 /// Records and where each comes from, in words.
@@ -25,12 +26,13 @@ impl Book {
     pub fn after(&self, command: &Record, origin: &str) -> Book {
         let mut left = self.clone();
         let is_same = |rule: &Record| rule[0] == 4 && rule[1..8] == command[1..8];
+        let adds = command[0] == 6 || command[0] == 7 && modify_adds(&self.records);
         match (command[0], self.records.iter().position(is_same)) {
             (6 | 7, Some(place)) => {
                 left.records[place][8..21].copy_from_slice(&command[8..21]);
                 left.origins[place] = origin.to_string();
             }
-            (6, None) => {
+            (_, None) if adds => {
                 let is_behind = |record: &Record| record[0] > 4;
                 let end = self.records.len();
                 let place = self.records.iter().position(is_behind).unwrap_or(end);

@@ -57,9 +57,18 @@ pub fn command_cause(records: &[Record], given: &[u8], refusal: Refusal) -> Opti
             }
             field_fault(Widths::of(records.first()?)?, &command).map(Cause::from)
         }
-        13 => Some("256 rules are there, and this one is new".to_string().into()),
+        13 => Some(table_full_cause(given).into()),
         16 => absent_cause(records, given.try_into().ok()?),
         _ => None,
+    }
+}
+
+/// Why a command that adds is refused; a modify is, where it acts as an add.
+fn table_full_cause(given: &[u8]) -> String {
+    let words = "256 rules are there, and this one is new";
+    match given.first() {
+        Some(7) => format!("{words}: in OpenFlow 1.0 a modify without its rule adds it"),
+        _ => words.to_string(),
     }
 }
 

@@ -2,6 +2,7 @@
 //! of a group itself.
 
 use crate::groups::{BUCKET_BYTES, LAST_GROUP, MOST_BUCKETS};
+use crate::version::version_fault;
 use crate::widths::Widths;
 use crate::Record;
 
@@ -20,7 +21,7 @@ pub fn width_fault(record: &Record) -> Option<String> {
 /// What is wrong with a record's fields.
 pub fn field_fault(of: Widths, record: &Record) -> Option<String> {
     match record[0] {
-        1 => unused(record, 4, 24),
+        1 => version_fault(record[4]).or_else(|| unused(record, 5, 24)),
         2 => link_fault(of, record),
         3 => switch_fault(of, record[1])
             .or_else(|| unused(record, 2, 8))

@@ -12,6 +12,7 @@ use wegbaro_tests::gate::{Checked, Gate as _};
 use wegbaro_tests::networks::{all_widths, crowded, guarded_network, random_network};
 use wegbaro_tests::networks::{work_needed, Sizes, Widths, MODEST};
 use wegbaro_tests::random::Random;
+use wegbaro_tests::records::{delete, miss, modify, output, record, rule, widths, with, ANY};
 use wegbaro_tests::second::{self, Second};
 use wegbaro_tools::book::Book;
 use wegbaro_tools::causes::{command_cause, network_cause};
@@ -320,9 +321,10 @@ fn reasons_of_shared_nodes() {
 #[test]
 fn the_book_goes_with_the_gate() {
     let mut random = Random::new(6);
-    let [mut forwarded, mut blocked] = [0, 0];
-    for _ in 0..40 {
-        let records = guarded_network(&mut random, SMALL);
+    let [mut forwarded, mut blocked, mut added] = [0, 0, 0];
+    for round in 0..60 {
+        let mut records = guarded_network(&mut random, SMALL);
+        records[0][4] = [0, 1, 4][round % 3];
         let mut gate = Gate::new(&records).unwrap();
         let mut book = Book::new(&records, &[]);
         for number in 1..60 {
@@ -339,9 +341,36 @@ fn the_book_goes_with_the_gate() {
             }
             assert_eq!(book.records, gate.records(), "{given:?} on {before:?}");
             assert_eq!(book.origins.len(), book.records.len());
+            added += usize::from(given[0] == 7 && gate.count() > before.len());
         }
     }
     assert!(forwarded > 100 && blocked > 50, "{forwarded} forwarded, {blocked} blocked");
+    assert!(added > 20, "{added} rules added by a modify");
+}
+
+/// A modify without its rule: in version 1 the book has one rule more, behind the others.
+#[test]
+fn a_modify_without_its_rule() {
+    let [low, high] = [10, 20].map(|priority| rule(0, priority, ANY, ANY, &[output(1, 3)]));
+    let group = record(&[9, 0, 0, 0, 0, 0, 0, 0, 1, 0, 0, 1, 1]);
+    let before = |version: u8, rules: &[Record]| {
+        let start = [with(widths(1, 2, 0), 4, version), miss(0, &[output(0, 3)])];
+        Book::new(&[&start, rules, &[group]].concat(), &[])
+    };
+    for version in [0, 4] {
+        let book = before(version, &[high]);
+        assert_eq!(book.after(&modify(low), "command 1"), book);
+    }
+    let left = before(1, &[high]).after(&modify(low), "command 1");
+    assert_eq!(left.records, before(1, &[high, low]).records);
+    assert_eq!(left.origins, ["record 0", "record 1", "record 2", "command 1", "record 3"]);
+    let first = before(1, &[]).after(&modify(low), "command 1");
+    assert_eq!(first.records, before(1, &[low]).records);
+    // With its rule it replaces the actions, and a delete without its rule changes nothing.
+    let dropped = rule(0, 20, ANY, ANY, &[output(0, 3)]);
+    let replaced = left.after(&modify(dropped), "command 2");
+    assert_eq!(replaced.records, before(1, &[dropped, low]).records);
+    assert_eq!(first.after(&delete(high), "command 2"), first);
 }
 
 /// Every refusal of a damaged network or command has a cause of its own row.

@@ -8,8 +8,8 @@ use running::{expect, wegbaro};
 use wegbaro::Refusal;
 use wegbaro_tests::formulas::{and, bit, external, not, policy, r, some, tc, Node, X, Y};
 use wegbaro_tests::k::{k, k_set};
-use wegbaro_tests::records::{add, link, miss, output, record, rule, set, widths, with, Record};
-use wegbaro_tests::records::{Action, ANY, IN_PORT};
+use wegbaro_tests::records::{add, link, miss, modify, output, record, rule, set, widths, with};
+use wegbaro_tests::records::{Action, Record, ANY, IN_PORT};
 use wegbaro_tools::book::Book;
 use wegbaro_tools::source::Source;
 use wegbaro_tools::words::{Answer, Form, Teller};
@@ -84,13 +84,37 @@ fn row_4() {
     wrong(255, 255, 255, "the header width H is 255, outside 1 to 6");
 }
 
+/// What a version must be.
+const VERSIONS: &str = "must be 1 (OpenFlow 1.0) or 4 (OpenFlow 1.3; 0 reads as 4)";
+
+/// A faulty version of a text can only be given by bytes.
+#[test]
+fn row_5_of_a_version() {
+    let text = format!("# an old ward\nbytes 01 01 02 00 02{}\n", " 00".repeat(19));
+    let cause = format!("the version is 2, and {VERSIONS}");
+    refused_text(&text, &format!("5, {cause}, at record 0 (widths), line 2"));
+    let object = format!(
+        r#"{{"subject":"start","answer":"refused","row":5,"place":0,"cause":"{cause}","line":2}}"#
+    );
+    expect(&["check", "--json", "-"], text.as_bytes(), 1, &format!("{object}\n"));
+    let sound = |version| [with(widths(1, 2, 0), 4, version), miss(0, &[output(0, 3)])].concat();
+    for version in [0, 1, 4] {
+        expect(&["check", "--gate", "-"], &sound(version), 0, "start holds\n");
+    }
+}
+
 #[test]
 fn row_5_in_widths_links_and_matches() {
-    let widths = |byte, words: &str| {
-        k_refused(&[(0, byte, 1)], &format!("5, {words}, at record 0 (widths)"));
+    let widths = |byte, value, words: &str| {
+        k_refused(&[(0, byte, value)], &format!("5, {words}, at record 0 (widths)"));
     };
-    widths(4, "byte 4 is 1, and must be zero");
-    widths(23, "byte 23 is 1, and must be zero");
+    for version in [2, 3, 5, 255] {
+        widths(4, version, &format!("the version is {version}, and {VERSIONS}"));
+    }
+    widths(5, 1, "byte 5 is 1, and must be zero");
+    widths(23, 1, "byte 23 is 1, and must be zero");
+    let first = "4, the header width H is 7, outside 1 to 6, at record 0 (widths)";
+    k_refused(&[(0, 1, 7), (0, 4, 2)], first);
     let link = |byte, value, words: &str| {
         k_refused(&[(1, byte, value)], &format!("5, {words}, at record 1 (link 0)"));
     };
@@ -415,4 +439,39 @@ fn row_12() {
     );
     refused_command(12, with(add, 0, 8), "byte 8 is 1, and must be zero");
     refused_command(12, with(with(add, 0, 7), 23, 5), "byte 23 is 5, and must be zero");
+}
+
+/// One switch with 256 rules, of priorities 0 to 255.
+fn full(version: u8) -> Vec<Record> {
+    let mut full = one();
+    full[0] = with(full[0], 4, version);
+    full.extend((0..256).map(|priority| rule(0, priority, ANY, ANY, &[output(0, 3)])));
+    full
+}
+
+/// The line of a command to a network in words.
+fn told(network: &[Record], command: Record) -> String {
+    let ran = wegbaro(&["run", "-"], &[network, &[command]].concat().concat());
+    ran.text().lines().last().unwrap().to_string()
+}
+
+/// A new rule has no room, be it an add's or, in OpenFlow 1.0, a modify's.
+#[test]
+fn row_13() {
+    let new = rule(0, 256, ANY, ANY, &[output(1, 3)]);
+    let there = rule(0, 255, ANY, ANY, &[output(1, 3)]);
+    let add_words = ": refused: row 13, 256 rules are there, and this one is new";
+    let modify_words = format!("{add_words}: in OpenFlow 1.0 a modify without its rule adds it");
+    let judged = ": forwarded, the network then has 258 records";
+    for version in [0, 1, 4] {
+        let full = full(version);
+        let ends = |command: Record, words: &str| {
+            let line = told(&full, command);
+            assert!(line.ends_with(words), "version {version}: {line}");
+        };
+        ends(add(new), add_words);
+        ends(modify(new), if version == 1 { &modify_words } else { judged });
+        ends(add(there), judged);
+        ends(modify(there), judged);
+    }
 }

@@ -9,6 +9,7 @@ use std::sync::mpsc::{channel, Receiver};
 use std::thread;
 use std::time::Duration;
 use wegbaro_tests::k::{first_add, k, k_with_d, second_add};
+use wegbaro_tests::records::Record;
 
 /// How long an answer may take.
 const PATIENCE: Duration = Duration::from_secs(20);
@@ -93,6 +94,79 @@ fn a_line_and_its_answer() {
     assert!(session.lines.recv_timeout(Duration::from_millis(200)).is_err());
     let third = session.ask(b"ity 5 header 0\n");
     assert!(third.ends_with("forwarded, the network then has 20 records"), "{third}");
+    assert_eq!(session.end(), (Some(1), String::new()));
+}
+
+/// K with a version.
+fn versioned_k(version: u8) -> Vec<Record> {
+    let mut records = k();
+    records[0][4] = version;
+    records
+}
+
+/// In OpenFlow 1.0 a modify without its rule adds it, and is judged as an add.
+#[test]
+fn a_modify_that_adds() {
+    let mut session = Session::new(&[&file("adds", &versioned_k(1).concat())]);
+    assert_eq!(session.line(), "start: the network holds, no policy is broken");
+    let first = session.ask(b"modify 0 priority 5: output 2\n");
+    let blocked =
+        "command 1 (modify 0 priority 5 port ** header *: output 2): blocked: policy 0 is \
+                   broken by state 3 (switch 0, port 1, arriving, header 1)";
+    assert_eq!(first, blocked);
+    assert!(session.line().starts_with("    with Y = state 29 "));
+    let own = "    - switch 0: in at port 1, out at port 2, header 1 (command 1: rule 0 priority 5";
+    assert!(session.line().starts_with(own));
+    assert!(session.line().starts_with("    - switch 1: "));
+    let mut count = |command: &[u8], records: usize| {
+        let answer = session.ask(command);
+        let words = format!("forwarded, the network then has {records} records");
+        assert!(answer.ends_with(&words), "{answer}");
+    };
+    count(b"modify 0 priority 5 header 0: output 2\n", 21);
+    count(b"modify 0 priority 5 header 0: output drop\n", 21);
+    count(b"modify 1 priority 5: output drop\n", 22);
+    count(b"delete 0 priority 5 header 0\n", 21);
+    count(b"delete 0 priority 5 header 0\n", 21);
+    // A rule that a modify added is told by that command.
+    session.ask(b"delete 1 priority 10 port 1\n");
+    session.ask(b"modify 1 priority 5: set 1, output 2\n");
+    session.line();
+    session.line();
+    let added = session.line();
+    let rule = "(command 8: rule 1 priority 5 port ** header *: set 1, output 2)";
+    assert!(added.starts_with("    - switch 1: ") && added.ends_with(rule), "{added}");
+    assert_eq!(session.end(), (Some(1), String::new()));
+}
+
+/// In OpenFlow 1.3 it changes nothing.
+#[test]
+fn a_modify_that_changes_nothing() {
+    for version in [0, 4] {
+        let file = file("changes-nothing", &versioned_k(version).concat());
+        let mut session = Session::new(&["--gate", &file]);
+        assert_eq!(session.line(), "start holds");
+        assert_eq!(session.ask(b"modify 0 priority 5: output 2\n"), "1 forwarded 20");
+        assert_eq!(session.ask(b"add 0 priority 5: output 2\n"), "2 blocked 0 3");
+        assert_eq!(session.end(), (Some(1), String::new()));
+    }
+}
+
+/// The 256th rule has room, and the next has not; rules that are there can be modified.
+#[test]
+fn a_modify_that_finds_the_table_full() {
+    let mut text = "widths H 1 P 2 W 0 version 1\nmiss 0: output drop\n".to_string();
+    for priority in 0..255 {
+        text += &format!("rule 0 priority {priority}: output drop\n");
+    }
+    let mut session = Session::new(&["--gate", &file("full", text.as_bytes())]);
+    assert_eq!(session.line(), "start holds");
+    assert_eq!(session.ask(b"modify 0 priority 255: output 1\n"), "1 forwarded 258");
+    assert_eq!(session.ask(b"modify 0 priority 256: output 1\n"), "2 refused 13 0");
+    assert_eq!(session.ask(b"modify 0 priority 255: output 2\n"), "3 forwarded 258");
+    assert_eq!(session.ask(b"modify 0 priority 256: group 0\n"), "4 refused 16 0");
+    assert_eq!(session.ask(b"delete 0 priority 0\n"), "5 forwarded 257");
+    assert_eq!(session.ask(b"modify 0 priority 256: output 1\n"), "6 forwarded 258");
     assert_eq!(session.end(), (Some(1), String::new()));
 }
 
