@@ -6,7 +6,7 @@ use wegbaro_tools::parse::{expand, parse, Parsed, MOST_FAULTS};
 use wegbaro_tools::print::print;
 
 /// Words put in where they do not belong.
-const WORDS: [&str; 34] = [
+const WORDS: [&str; 36] = [
     "policy",
     "0",
     "1",
@@ -41,6 +41,8 @@ const WORDS: [&str; 34] = [
     "group",
     "; group 1",
     ", group 1",
+    "version",
+    "version 1",
 ];
 
 /// The text with a piece taken out, put in, or said twice.
@@ -87,7 +89,7 @@ fn damaged_examples() {
     let mut random = Random::new(1);
     let folder = Path::new(env!("CARGO_MANIFEST_DIR")).join("../examples");
     let read = |example| std::fs::read_to_string(folder.join(example).join("network.txt")).unwrap();
-    let texts = ["chain", "flood", "k", "routes", "templates", "uplinks"].map(read);
+    let texts = ["chain", "flood", "k", "openflow10", "routes", "templates", "uplinks"].map(read);
     let [mut faulty, mut sound] = [0, 0];
     for _ in 0..1_500 {
         let mut text = texts[random.below(texts.len())].clone();

@@ -56,7 +56,7 @@ fn behind_bytes() {
 fn the_same_records() {
     let folder = Path::new(env!("CARGO_MANIFEST_DIR")).join("../examples");
     let mut texts = vec![];
-    for example in ["chain", "flood", "k", "routes", "templates", "uplinks"] {
+    for example in ["chain", "flood", "k", "openflow10", "routes", "templates", "uplinks"] {
         texts.push(std::fs::read_to_string(folder.join(example).join("network.txt")).unwrap());
     }
     let misses: String = (0..8).map(|switch| format!("miss {switch}: output drop\n")).collect();
