@@ -38,8 +38,9 @@ impl Gate {
         self.verdict
     }
 
-    /// Judges a command, and carries it out if the network that it leaves holds. Only rows 12, 16 and
-    /// 13, in this order, can refuse it: a command leaves widths, policies and groups as they are.
+    /// Judges a command as [`command`] does, and carries it out if the network that it leaves holds.
+    /// Only rows 12, 16 and 13, in this order, can refuse it: a command leaves widths, policies and
+    /// groups as they are.
     ///
     /// Where the network does not hold, the command is judged all the same: it is forwarded if what
     /// it leaves holds.

@@ -1,11 +1,11 @@
 //! A forwarding gate for hospital ward switches: the three calls of the proved library for Rust.
 //!
-//! A network is a list of records of 24 bytes: the widths, links, what a switch does with a frame
-//! that no rule matches, rules, policies, and groups. The **check call** judges a network. The
-//! **command call** judges the network that an add, a modify or a delete would leave, and carries the
-//! command out only if no policy is broken then. The **route call** finds how a frame gets from one
-//! state to another. `docs/FORMAT.md` describes the records and the states, byte by byte and bit by
-//! bit.
+//! A network is a list of records of 24 bytes: the widths with the wire version, links, what a switch
+//! does with a frame that no rule matches, rules, policies, and groups. The **check call** judges a
+//! network. The **command call** judges the network that an add, a modify or a delete would leave,
+//! and carries the command out only if no policy is broken then. The **route call** finds how a frame
+//! gets from one state to another. `docs/FORMAT.md` describes the records and the states, byte by
+//! byte and bit by bit.
 //!
 //! [`Gate`] owns the buffers of the calls, sized to its network. Where no heap is wanted, [`check`],
 //! [`command`] and [`route`] are the same calls over lent buffers.

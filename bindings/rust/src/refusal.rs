@@ -9,7 +9,8 @@ const ROWS: [&str; 16] = [
     "the store has fewer than 15,768 bytes",
     "a kind is not 1 to 5 or 9 or is below the one before, or kind 1 is not once and first",
     "a width is outside its limits",
-    "a field is outside its range or width, an action is bad, or an unnamed byte is not zero",
+    "a field is outside its range or width, the version is not 0, 1 or 4, an action is bad, or an \
+     unnamed byte is not zero",
     "a link ends at a port that is not ordinary or at a point already linked, or both ends are the \
      same point",
     "a miss is not that of the next switch, or a switch has no miss",
@@ -18,7 +19,7 @@ const ROWS: [&str; 16] = [
     "there is a 257th rule, a ninth policy or a 33rd node",
     "the work buffer is too short",
     "the command is not 24 bytes, or not a well-formed add, modify or delete",
-    "256 rules are present, and the add is of a new one",
+    "256 rules are present, and the command would add a new one",
     "the start or the end is not below 2^N",
     "the list has fewer than 2^N + 1 entries",
     "a group has a faulty field, is out of order or the 17th, a bucket's group is not lower, or a \

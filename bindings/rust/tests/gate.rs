@@ -7,7 +7,7 @@ use wegbaro_tests::formulas::{external, policy, tc, X};
 use wegbaro_tests::k::{delete_d, first_add, k, k_set, k_with_d, second_add};
 use wegbaro_tests::networks::{all_widths, crowded, random_network, work_needed, MODEST};
 use wegbaro_tests::random::Random;
-use wegbaro_tests::records::{add, miss, output, record, rule, widths, with, ANY};
+use wegbaro_tests::records::{add, miss, modify, output, record, rule, widths, with, ANY};
 
 fn store(records: &[Record]) -> Vec<u8> {
     let mut store = records.concat();
@@ -63,6 +63,13 @@ fn routes_of_a_gate() {
     assert_eq!(violated.route(3, 29), Ok(Some(vec![3, 21, 11, 29])));
 }
 
+/// A network of a version that has as many rules as there may be, of priorities 0 to 255.
+fn full(version: u8) -> Vec<Record> {
+    let mut full = vec![with(widths(1, 2, 0), 4, version), miss(0, &[output(0, 3)])];
+    full.extend((0..256).map(|priority| rule(0, priority, ANY, ANY, &[output(0, 3)])));
+    full
+}
+
 /// Each row that can refuse a gate's network or command.
 #[test]
 fn refusals() {
@@ -71,6 +78,7 @@ fn refusals() {
     assert_eq!(refused(&vec![[0; 24]; 658]), Some((1, 0)));
     assert_eq!(refused(&[[9; 24]]), Some((3, 0)));
     assert_eq!(refused(&k_set(&[(0, 1, 7)])), Some((4, 0)));
+    assert_eq!(refused(&k_set(&[(0, 4, 2)])), Some((5, 0)));
     assert_eq!(refused(&k_set(&[(4, 23, 1)])), Some((5, 4)));
     assert_eq!(refused(&k_set(&[(1, 2, 3)])), Some((6, 1)));
     assert_eq!(refused(&k()[..3]), Some((7, 3)));
@@ -81,14 +89,40 @@ fn refusals() {
 
     assert_eq!(refused(&k_set(&[(4, 9, 4), (4, 11, 0)])), Some((16, 4)));
 
-    let mut full = vec![widths(1, 2, 0), miss(0, &[output(0, 3)])];
-    full.extend((0..256).map(|priority| rule(0, priority, ANY, ANY, &[output(0, 3)])));
+    let full = full(0);
     let new = add(rule(0, 256, ANY, ANY, &[output(0, 3)]));
     let answer = Gate::new(&full).unwrap().command(&new);
     assert_eq!(answer, Err(Refusal { row: 13, place: 0 }));
     let absent = with(with(new, 9, 4), 11, 0);
     let answer = Gate::new(&full).unwrap().command(&absent);
     assert_eq!(answer, Err(Refusal { row: 16, place: 0 }));
+}
+
+/// In version 1, OpenFlow 1.0, a modify without its rule adds it; in the others it changes nothing.
+#[test]
+fn versions() {
+    let [first, second] = [first_add(), second_add()].map(modify);
+    for version in [0, 4] {
+        let mut gate = Gate::new(&k_set(&[(0, 4, version)])).unwrap();
+        assert_eq!(gate.command(&first), Ok(Commanded::Forwarded { count: 20 }));
+        assert_eq!(gate.records(), k_set(&[(0, 4, version)]));
+    }
+    let old = k_set(&[(0, 4, 1)]);
+    let mut gate = Gate::new(&old).unwrap();
+    assert_eq!(gate.command(&first), Ok(Commanded::Blocked { policy: 0, state: 3 }));
+    assert_eq!(gate.records(), old);
+    assert_eq!(gate.command(&second), Ok(Commanded::Forwarded { count: 21 }));
+    let added = with(second, 0, 4);
+    assert_eq!(gate.records(), [&old[..6], &[added], &old[6..]].concat());
+    // Now it is there, and only its actions change.
+    let dropping = with(second, 10, 0);
+    assert_eq!(gate.command(&dropping), Ok(Commanded::Forwarded { count: 21 }));
+    assert_eq!(gate.records(), [&old[..6], &[with(added, 10, 0)], &old[6..]].concat());
+
+    let mut gate = Gate::new(&full(1)).unwrap();
+    let sent = |priority| modify(rule(0, priority, ANY, ANY, &[output(1, 3)]));
+    assert_eq!(gate.command(&sent(256)), Err(Refusal { row: 13, place: 0 }));
+    assert_eq!(gate.command(&sent(255)), Ok(Commanded::Forwarded { count: 258 }));
 }
 
 /// A frame goes through a group in one step, and commands may name a group that is there.
@@ -196,7 +230,12 @@ fn buffers_are_sized_to_the_network() {
 fn refusals_in_words() {
     let words = |row, place| Refusal { row, place }.to_string();
     assert_eq!(words(1, 0), "refused by row 1: there are no records, or more than 657");
+    let field = "a field is outside its range or width, the version is not 0, 1 or 4, an action \
+                 is bad, or an unnamed byte is not zero";
+    assert_eq!(words(5, 0), format!("refused by row 5 at record 0: {field}"));
     assert_eq!(words(8, 5), "refused by row 8 at record 5: the same rule stands twice");
+    let full = "256 rules are present, and the command would add a new one";
+    assert_eq!(words(13, 0), format!("refused by row 13: {full}"));
     assert_eq!(words(14, 0), "refused by row 14: the start or the end is not below 2^N");
     assert_eq!(words(15, 0), "refused by row 15: the list has fewer than 2^N + 1 entries");
     let group = "a group has a faulty field, is out of order or the 17th, a bucket's group is not \
