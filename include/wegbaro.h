@@ -1,6 +1,7 @@
 /* Wegbaro: the check call, the command call and the route call, for C (C89 and later) and C++. Link with -lwegbaro.
  *
- * The words used here (record, policy, state, route, row) are explained in docs/FORMAT.md, installed in share/doc/wegbaro.
+ * The words used here (record, version, policy, state, route, row) are explained in docs/FORMAT.md, installed in
+ * share/doc/wegbaro.
  *
  * Every length, every content and every number is allowed: what is wrong with them is answered as a refusal. Asked of
  * the caller is only what C asks of any function: each pointer is not null, even with length 0, is aligned as its type
@@ -78,8 +79,8 @@
  *    3       a kind is not 1 to 5 or 9, or below the one before, or kind 1 is not once and  the record, from 0
  *            first
  *    4       a width is outside its limits                                                  the record
- *    5       a field is outside its range or width, an action is bad, or an unnamed byte    the record
- *            is not zero
+ *    5       a field is outside its range or width, the version is not 0, 1 or 4, an        the record
+ *            action is bad, or an unnamed byte is not zero
  *    6       a link's end is not ordinary or already linked, or both ends are the same      the record
  *    7       a miss is not that of the next switch                                          the record
  *            the misses are incomplete                                                      the record behind them, or n
@@ -88,7 +89,7 @@
  *    10      there is a 257th rule, a ninth policy or a 33rd node                           the record
  *    11      the work buffer is too short                                                   0
  *    12      the command is not 24 bytes, or no well-formed add, modify or delete           0
- *    13      an add of a new rule with 256 present                                          0
+ *    13      an add of a new rule with 256 present, or in version 1 a modify of one         0
  *    14      the start or the end is not below 2^N                                          0
  *    15      the list is under 2^N + 1 entries                                              0
  *    16      a group has a faulty field, is out of order or the 17th, or a bucket of it     the record
@@ -151,8 +152,10 @@ wegbaro_answer wegbaro_check(const unsigned char *store, size_t store_len, size_
  *                   store is untouched.
  * WEGBARO_REFUSED   the command was not judged: number and place of the table above. The store is untouched.
  *
- * An add of a rule that is there replaces it; a modify or a delete of a rule that is not there changes nothing, and is
- * judged like any command. The command is only read. The work buffer is left as by the check call. */
+ * An add of a rule that is there replaces it. A delete of a rule that is not there changes nothing. A modify of one adds
+ * it in version 1 (OpenFlow 1.0), and changes nothing in version 4 (OpenFlow 1.3); the version is byte 4 of the widths
+ * record, and 0 reads as 4. A command that changes nothing is judged like any other. The command is only read. The work
+ * buffer is left as by the check call. */
 wegbaro_answer wegbaro_command(unsigned char *store, size_t store_len, size_t n, unsigned char *work, size_t work_len,
                                const unsigned char *given, size_t given_len);
 
