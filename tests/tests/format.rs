@@ -83,9 +83,10 @@ fn answer_to(changes: &str) -> String {
     checked(Library.check(&store, n, &mut vec![0xA5; work_len]))
 }
 
-/// The command call's answer on network K.
-fn answer_on_k(command: &str) -> String {
+/// The command call's answer on network K with a version.
+fn answer_on_k(version: u8, command: &str) -> String {
     let mut store = k().concat();
+    store[4] = version;
     store.resize(STORE, 0);
     let mut work = vec![0xA5; work_needed(&k())];
     commanded(Library.command(&mut store, k().len(), &mut work, &record(&bytes(command))))
@@ -228,6 +229,7 @@ fn the_changed_networks() {
     }
 }
 
+/// K as it is listed has version 0, which reads as 4.
 #[test]
 fn the_commands() {
     let document = document();
@@ -235,7 +237,20 @@ fn the_commands() {
     assert!(examples.len() >= 10, "{examples:?}");
     for example in examples {
         let command = example[0].trim_matches('`');
-        assert_eq!(answer_on_k(command), example[1], "{command}");
+        for version in [0, 4] {
+            assert_eq!(answer_on_k(version, command), example[1], "{command}");
+        }
+    }
+}
+
+#[test]
+fn the_commands_in_version_1() {
+    let document = document();
+    let examples = table(&document, "command in version 1, bytes 0 to 14");
+    assert_eq!(examples.len(), 6, "{examples:?}");
+    for example in examples {
+        let command = example[0].trim_matches('`');
+        assert_eq!(answer_on_k(1, command), example[1], "{command}");
     }
 }
 
