@@ -1,5 +1,5 @@
 -- What the two calls have done, by whether a row refuses and by the verdict.
-use mathlib.Core.Path.{_≡_, refl, sym, ap, _∙_}
+use mathlib.Core.Path.{_≡_, refl, sym, ap, subst⁻¹, _∙_}
 use mathlib.Core.List.{List, [], _++_}
 use mathlib.Core.Option.{none, some}
 use Prim.Native.Nat.{ℕ, _+_, _-_, _*_, _≤_}
@@ -7,12 +7,13 @@ use native.Mathlib.Omega.{arith}
 use lib.ListN.{length, drop, replicate, length-append, length-drop, length-replicate}
 use lib.Seq.{length-take-le}
 use Rattle.records.specs.Record.{Rec, Net, storeBytes, records, flat}
+use Rattle.records.specs.Version.{versionOf}
 use Rattle.rows.specs.Rows.{workNeeded}
 use Rattle.rows.specs.Refusal.{Refusal, fileRow, checkRefusal, commandRow, commandRefusal}
 use Rattle.scan.specs.Layout.{LayoutOf}
+use Rattle.records.specs.declared.Version.{Version}
 use Rattle.scan.specs.declared.Layout.{Layout}
 use Rattle.records.specs.Laws.Records.{length-flat}
-use Rattle.rows.specs.Laws.Passing.{not-empty}
 use Rattle.verdict.specs.declared.judge.Judged.{Judged}
 use Rattle.verdict.specs.declared.judge.Judged.the-variants as judged
 use Rattle.verdict.specs.Verdict.{Verdict, holds, violated}
@@ -26,7 +27,6 @@ use Rattle.calls.specs.Check.{ofVerdict, checkAnswer, cleared, checkWork
 use Rattle.calls.specs.Reference.{Installed, Outcome, stored, judged as judgedStep, outcomeOf, commandWork}
 use Rattle.commands.specs.NeverStuck.{GoesOn, work-same}
 use Rattle.calls.specs.Command.{Promised, call}
-use Rattle.calls.specs.Laws.Store.{installed-whole}
 use Rattle.commands.specs.Laws.StoredRule.{command}
 use Rattle.calls.specs.Laws.Refusals.{checks, passed, goes-on}
 use Rattle.calls.proofs.InStore.{stored-filled}
@@ -86,29 +86,31 @@ command-refused store n work given k p e = record { answered = rw (← e) refl; 
 
 -- what is known of a network that rows 1 to 11 and 16 pass
 pub known : (store : List ℕ) (n work : ℕ) (l : Layout) → checkRefusal store n work ≡ none → LayoutOf (records n store) l
-    → Known (l .widths) store n (l .nodes - l .rules)
-known store n work l e laid =
+    → (v : Version) → v ≡ versionOf (records n store) → Known (l .widths) v store n (l .nodes - l .rules)
+known store n work l e laid v q =
     let c = checks store n work e in
     record {
       stored = omega (arith, c .arguments .few, c .arguments .long);
       widths = laid .widths;
+      version = q;
       limits = laid .limits;
       rules-are = sym (ap length (laid .rules) ∙ length-take-le (l .nodes - l .rules) (drop (l .rules) (records n store)) (omega (arith, length-drop (l .rules) (records n store), laid .within)));
     }
 
 -- the command call, not refused
-module _ (store : List ℕ) (n : ℕ) (work : List ℕ) (given : Rec) (e : commandRefusal store n (length work) given ≡ none) where
+module _ (store : List ℕ) (n : ℕ) (work : List ℕ) (given : Rec) (e : commandRefusal store n (length work) given ≡ none)
+    (version : Version) (same : version ≡ versionOf (records n store)) where
   abbrev present : Net
   present = records n store
 
   abbrev result : Net
-  result = applied given present
+  result = applied version given present
 
   abbrev found : Installed
   found = record { count = n; bytes = store }
 
-  goes : GoesOn present given
-  goes = goes-on store n (length work) given e
+  goes : GoesOn present result
+  goes = subst⁻¹ (λ (v : Version). GoesOn present (applied v given present)) same (goes-on store n (length work) given e)
 
   pub in-store : (n * 24 ≤ length store) × (storeBytes ≤ length store)
   in-store = let a = passed store n (length work) given e .check .arguments in (omega (arith, a .few, a .long), a .long)
@@ -133,9 +135,7 @@ module _ (store : List ℕ) (n : ℕ) (work : List ℕ) (given : Rec) (e : comma
         ∙ omega (arith, length-replicate {A = ℕ} (storeBytes - length (flat result)) 0, goes .few)
 
     same-work : workNeeded (records count next) ≡ workNeeded present
-    same-work =
-        let p = passed store n (length work) given e in
-        ap workNeeded read ∙ work-same present given (installed-whole store n (p .check .arguments)) (not-empty present (p .check .file)) (p .check .file) (p .command)
+    same-work = ap workNeeded read ∙ work-same present result goes
 
     pub judged-ready : (count * 24 ≤ length next) × (fileRow [] (records count next) ≡ none) × (workNeeded (records count next) ≤ length work)
     judged-ready = (
@@ -146,7 +146,7 @@ module _ (store : List ℕ) (n : ℕ) (work : List ℕ) (given : Rec) (e : comma
 
     stepped : (v : Verdict) → verdict result ≡ v → outcomeOf found given (length work) ≡ judgedStep found result v
     unfolding outcomeOf
-    stepped v q = rw (e, q) refl
+    stepped v q = rw (e, ← same, q) refl
 
     module _ (j : Judged) (after : List ℕ) (J : Judges (records count next) work j after) where
       verdict-is : verdict result ≡ verdictOf j

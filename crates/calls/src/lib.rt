@@ -1,5 +1,6 @@
 // The check call and the command call.
 use commands::Admission;
+use records::Version;
 use scan::Layout;
 use scan::Reading;
 use verdict::judge::Judged;
@@ -9,6 +10,7 @@ ghost use mathlib.Core.Option.{none};
 ghost use Prim.Native.Nat.{_*_, _≤_};
 ghost use lib.ListN.{length};
 ghost use Rattle.records.specs.Record.{records};
+ghost use Rattle.records.specs.Version.{versionOf};
 ghost use Rattle.rows.specs.Rows.{workNeeded};
 ghost use Rattle.rows.specs.Refusal.{fileRow, checkRefusal, commandRefusal};
 ghost use Rattle.scan.specs.Layout.{LayoutOf};
@@ -73,16 +75,17 @@ fn verdict_on(store: &[u8], n: usize, work: &mut [u8]) -> Judged
 
 // A command that no row refuses, judged by the network that it would leave, which is made in `next` and written back where it holds.
 fn judged_in(
+    version: Version,
     next: &mut [u8; records::STORE_BYTES],
     store: &mut [u8],
     n: usize,
     work: &mut [u8],
     given: &[u8],
 ) -> Commanded
-    requires { ⌜ commandRefusal (now store) n (length (now work)) (now given) ≡ none ⌝ }
+    requires { ⌜ (version ≡ versionOf (records n (now store))) × (commandRefusal (now store) n (length (now work)) (now given) ≡ none) ⌝ }
     ensures { λ r. ⌜ Promised (call (now (store .entry)) n (now (work .entry)) (now (given .entry)) (commandAnswerOf r) (now (store .exit)) (now (work .exit))) ⌝ }
 {
-    let count = commands::apply_to(next, store, n, given);
+    let count = commands::apply_to(version, next, store, n, given);
     let v = verdict_on(next, count, work);
     match v {
         Judged::Violated { policy, state } => Commanded::Blocked { policy, state },
@@ -94,12 +97,12 @@ fn judged_in(
 }
 
 // The same; the buffer is made here, so that no need of it speaks of 15,768 zeros.
-fn judged(store: &mut [u8], n: usize, work: &mut [u8], given: &[u8]) -> Commanded
-    requires { ⌜ commandRefusal (now store) n (length (now work)) (now given) ≡ none ⌝ }
+fn judged(version: Version, store: &mut [u8], n: usize, work: &mut [u8], given: &[u8]) -> Commanded
+    requires { ⌜ (version ≡ versionOf (records n (now store))) × (commandRefusal (now store) n (length (now work)) (now given) ≡ none) ⌝ }
     ensures { λ r. ⌜ Promised (call (now (store .entry)) n (now (work .entry)) (now (given .entry)) (commandAnswerOf r) (now (store .exit)) (now (work .exit))) ⌝ }
 {
     let mut next = [0u8; records::STORE_BYTES];
-    judged_in(&mut next, store, n, work, given)
+    judged_in(version, &mut next, store, n, work, given)
 }
 
 // A command on a network that rows 1 to 11 and 16 pass: rows 12, 16 and 13, and then the verdict.
@@ -107,10 +110,11 @@ fn after_check(store: &mut [u8], n: usize, l: Layout, work: &mut [u8], given: &[
     requires { ⌜ (checkRefusal (now store) n (length (now work)) ≡ none) × LayoutOf (records n (now store)) l ⌝ }
     ensures { λ r. ⌜ Promised (call (now (store .entry)) n (now (work .entry)) (now (given .entry)) (commandAnswerOf r) (now (store .exit)) (now (work .exit))) ⌝ }
 {
-    let row = commands::command_row(l.widths, store, n, l.nodes - l.rules, given);
+    let version = records::wire::version_of(store);
+    let row = commands::command_row(l.widths, version, store, n, l.nodes - l.rules, given);
     match row {
         Admission::Refused { number } => Commanded::Refused { number, place: 0 },
-        Admission::Passed => judged(store, n, work, given),
+        Admission::Passed => judged(version, store, n, work, given),
     }
 }
 

@@ -8,31 +8,31 @@ apply-to-requires : tie.Need-apply-to-requires
 apply-to-requires c κs =
     let start = c .before .before .before .before .before in
     let a = start .args in
-    ready (now (a .store)) (a .n) (now (a .work)) (now (a .given)) (start .pre) (now (a .next)) (search needs)
+    ready (now (a .store)) (a .n) (now (a .work)) (now (a .given)) (start .pre .1) _ (start .pre .0) (now (a .next)) (search needs)
 
 verdict-on-requires : tie.Need-verdict-on-requires
 verdict-on-requires c κs =
     let start = c .before .before .before .before .before .before .before .before .before in
     let a = start .args in
-    judged-ready (now (a .store)) (a .n) (now (a .work)) (now (a .given)) (start .pre) _ _ (c .before .before .before .apply-to .ensures)
+    judged-ready (now (a .store)) (a .n) (now (a .work)) (now (a .given)) (start .pre .1) _ (start .pre .0) _ _ (c .before .before .before .apply-to .ensures)
 
 write-back-requires : tie.Need-write-back-requires
 write-back-requires c κs =
     let start = c .before .before .before .before .before .before .before .before .before .before .before .before .before .before .before .before .before in
     let a = start .args in
-    (next-long (now (a .store)) (a .n) (now (a .work)) (now (a .given)) (start .pre) _ _ (c .before .before .before .before .before .before .before .before .before .before .before .apply-to .ensures), in-store (now (a .store)) (a .n) (now (a .work)) (now (a .given)) (start .pre) .1)
+    (next-long (now (a .store)) (a .n) (now (a .work)) (now (a .given)) (start .pre .1) _ (start .pre .0) _ _ (c .before .before .before .before .before .before .before .before .before .before .before .apply-to .ensures), in-store (now (a .store)) (a .n) (now (a .work)) (now (a .given)) (start .pre .1) _ (start .pre .0) .1)
 
 returns : tie.Need-returns
 returns c =
     let start = c .before .before .before .before .before .before .before .before .before .before .before .before .before .before .before in
     let a = start .args in
-    command-blocked (now (a .store)) (a .n) (now (a .work)) (now (a .given)) (start .pre) _ _ (c .before .before .before .before .before .before .before .before .before .apply-to .ensures) _ _ (c .before .before .before .before .before .verdict-on .ensures) _ _ (c .before .v .given .1)
+    command-blocked (now (a .store)) (a .n) (now (a .work)) (now (a .given)) (start .pre .1) _ (start .pre .0) _ _ (c .before .before .before .before .before .before .before .before .before .apply-to .ensures) _ _ (c .before .before .before .before .before .verdict-on .ensures) _ _ (c .before .v .given .1)
 
 returns-2 : tie.Need-returns-2
 returns-2 c =
     let start = c .before .before .before .before .before .before .before .before .before .before .before .before .before .before .before .before .before .before .before .before in
     let a = start .args in
-    command-forwarded (now (a .store)) (a .n) (now (a .work)) (now (a .given)) (start .pre) _ _ (c .before .before .before .before .before .before .before .before .before .before .before .before .before .before .apply-to .ensures) _ _ (c .before .before .before .before .before .before .before .before .before .before .verdict-on .ensures) _ (c .before .before .before .before .before .before .enum-told .given .1) (c .before .before .write-back .ensures)
+    command-forwarded (now (a .store)) (a .n) (now (a .work)) (now (a .given)) (start .pre .1) _ (start .pre .0) _ _ (c .before .before .before .before .before .before .before .before .before .before .before .before .before .before .apply-to .ensures) _ _ (c .before .before .before .before .before .before .before .before .before .before .verdict-on .ensures) _ (c .before .before .before .before .before .before .enum-told .given .1) (c .before .before .write-back .ensures)
 
 pub judged-in-spec : {M : Type 1} → statement M
 judged-in-spec =

@@ -7,6 +7,7 @@ use native.Mathlib.Omega.{arith}
 use lib.ListN.{length, getD, drop, replicate, length-append, length-drop, length-replicate, getD-replicate, List·getD-append}
 use lib.Seq.{getD-drop, getD-append-add}
 use Rattle.records.specs.Record.{Rec, Net, mostRecords, storeBytes, at, records, flat}
+use Rattle.records.specs.Version.{versionOf}
 use Rattle.rows.specs.Rows.{workNeeded}
 use Rattle.rows.specs.Refusal.{Refusal, checkRefusal, commandRefusal}
 use Rattle.records.specs.Laws.Records.{Whole, length-flat, byte-of}
@@ -123,7 +124,7 @@ module _ (i : Installed) (c : Rec) (work : List ℕ) where
         work-refused = λ k p q. refl;
       }
   leaves-bytes none e holds =
-      let net = applied c (network i) in
+      let net = applied (versionOf (network i)) c (network i) in
       let p = passed (i .bytes) (i .count) (length work) c e in
       let g = goes-on (i .bytes) (i .count) (length work) c e in
       record {
