@@ -8,4 +8,5 @@ pub mod Starred
 pub mod NoBounce
 pub mod ThroughGroups
 pub mod Stores
+pub mod OldSwitches
 pub mod Laws

@@ -4,6 +4,7 @@ use mathlib.Core.List.{List, [], _∷_, map}
 use Prim.Native.Nat.{ℕ}
 use lib.ListN.{length}
 use Rattle.records.specs.Record.{Rec, Net}
+use Rattle.records.specs.Version.{versionOf}
 use Rattle.verdict.specs.Verdict.{Holds, Lowest}
 use Rattle.calls.specs.Answer.{CheckAnswer, CommandAnswer, forwarded, blocked}
 use Rattle.commands.specs.Apply.{applied}
@@ -34,7 +35,7 @@ fed c = (c .given, length (c .work))
 
 -- a command applied if it was forwarded
 abbrev pub ifForwarded : CommandAnswer → Rec → Net → Net
-ifForwarded (CommandAnswer.forwarded m) c net = applied c net
+ifForwarded (CommandAnswer.forwarded m) c net = applied (versionOf net) c net
 ifForwarded (CommandAnswer.blocked p x) c net = net
 ifForwarded (CommandAnswer.refused k p) c net = net
 

@@ -4,6 +4,7 @@ use mathlib.Core.List.{List, [], _∷_}
 use mathlib.Core.Option.{none, some}
 use Prim.Native.Nat.{ℕ}
 use Rattle.records.specs.Record.{Rec, Net, records}
+use Rattle.records.specs.Version.{versionOf}
 use Rattle.rows.specs.Rows.{row11}
 use Rattle.rows.specs.Refusal.{Refusal, orElse, row, fileRow, argumentsRow, networkRow, checkRefusal, commandRow, commandRefusal}
 use Rattle.rows.specs.Laws.Passing.{neither, not-empty}
@@ -32,14 +33,14 @@ pub sound-holds : (store : List ℕ) (n work : ℕ) → checkAnswer store n work
 sound-holds store n work e = sound-start store n work (holds-passes store n work e)
 
 -- so it is after a verdict on what a command would leave
-judged-sound : (i : Installed) (c : Rec) (v : Verdict) → Sound i → commandRow (network i) c ≡ none → Sound (judged i (applied c (network i)) v .after)
+judged-sound : (i : Installed) (c : Rec) (v : Verdict) → Sound i → commandRow (network i) c ≡ none → Sound (judged i (applied (versionOf (network i)) c (network i)) v .after)
 unfolding judged
 judged-sound i c holds s e =
     let a = arguments (i .bytes) (i .count) (s .arguments) in
-    let g : GoesOn (network i) c = never-stuck (network i) c (installed-whole (i .bytes) (i .count) a) (not-empty (network i) (s .file)) (s .file) e in
+    let g : GoesOn (network i) (applied (versionOf (network i)) c (network i)) = never-stuck (network i) c (installed-whole (i .bytes) (i .count) a) (not-empty (network i) (s .file)) (s .file) e in
     record {
-      arguments = arguments-pass _ _ (record { some = g .some; few = g .few; long = stored-long (applied c (network i)) (i .bytes) });
-      file = subst⁻¹ (λ (net : Net). fileRow [] net ≡ none) (stored-records (applied c (network i)) (i .bytes) (g .whole)) (g .passes);
+      arguments = arguments-pass _ _ (record { some = g .some; few = g .few; long = stored-long (applied (versionOf (network i)) c (network i)) (i .bytes) });
+      file = subst⁻¹ (λ (net : Net). fileRow [] net ≡ none) (stored-records (applied (versionOf (network i)) c (network i)) (i .bytes) (g .whole)) (g .passes);
     }
 judged-sound i c (violated p x) s e = s
 

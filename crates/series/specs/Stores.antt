@@ -7,7 +7,7 @@ use Rattle.calls.specs.Reference.{installedAtStart, outcomeOf}
 use Rattle.series.specs.Starred.{computing, KD}
 
 -- K with these rules
-unfoldable withRules : Net → Net
+unfoldable pub withRules : Net → Net
 withRules rules =
     record24 (1 ∷ 1 ∷ 2 ∷ 1 ∷ [])
     ∷ record24 (2 ∷ 0 ∷ 2 ∷ 1 ∷ 1 ∷ [])
@@ -16,11 +16,11 @@ withRules rules =
     ∷ (rules ++ policy0)
 
 -- the rule of the second add, as kind 4: switch 0, priority 5, any port, header 0, OUTPUT 2
-unfoldable ruleZero : Rec
+unfoldable pub ruleZero : Rec
 ruleZero = record24 (4 ∷ 0 ∷ 5 ∷ 0 ∷ 0 ∷ 0 ∷ 0 ∷ 1 ∷ 1 ∷ 1 ∷ 2 ∷ 3 ∷ [])
 
 -- A's match with OUTPUT 0
-unfoldable ruleDrop : Rec
+unfoldable pub ruleDrop : Rec
 ruleDrop = record24 (4 ∷ 0 ∷ 10 ∷ 0 ∷ 1 ∷ 3 ∷ 0 ∷ 1 ∷ 1 ∷ 1 ∷ 0 ∷ 3 ∷ [])
 
 -- the rule of the first add, as kind 4: switch 0, priority 5, any port, any header, OUTPUT 2

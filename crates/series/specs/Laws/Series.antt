@@ -6,6 +6,7 @@ use Prim.Native.Nat.{ℕ}
 use native.Mathlib.Omega.{arith}
 use lib.ListN.{length}
 use Rattle.records.specs.Record.{Rec, Net}
+use Rattle.records.specs.Version.{versionOf}
 use Rattle.rows.specs.Refusal.{Refusal, checkRefusal, commandRefusal}
 use Rattle.records.specs.Laws.Records.{Whole}
 use Rattle.verdict.specs.Verdict.{Verdict, holds, violated, Holds, Is}
@@ -35,7 +36,7 @@ said-holds i s =
 
 module _ (i : Installed) (c : Rec) (work : ℕ) where
   abbrev net : Net
-  net = applied c (network i)
+  net = applied (versionOf (network i)) c (network i)
 
   -- the outcome, by whether it is refused and by its verdict
   abbrev outcome : Refusal → Verdict → Outcome
