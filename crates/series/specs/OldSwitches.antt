@@ -1,6 +1,6 @@
 -- Request 5 of document 02 on network K in each version: theorems by computation.
 use mathlib.Core.Path.{_≡_, refl}
-use mathlib.Core.List.{List, [], _∷_, map}
+use mathlib.Core.List.{[], _∷_, map}
 use Prim.Native.Nat.{ℕ}
 use lib.ListN.{drop}
 use Rattle.records.specs.Record.{Rec, Net}

@@ -1,5 +1,5 @@
 -- In a series from a network that the check call passed, only row 11 and a command's own rows, 12, 16 and 13, ever refuse it.
-use mathlib.Core.Path.{_≡_, refl, subst⁻¹}
+use mathlib.Core.Path.{_≡_, refl, ap, subst⁻¹, _∙_}
 use mathlib.Core.List.{List, [], _∷_}
 use mathlib.Core.Option.{none, some}
 use Prim.Native.Nat.{ℕ}
@@ -32,17 +32,23 @@ sound-start store n work e =
 pub sound-holds : (store : List ℕ) (n work : ℕ) → checkAnswer store n work ≡ CheckAnswer.holds → Sound (record { count = n; bytes = store })
 sound-holds store n work e = sound-start store n work (holds-passes store n work e)
 
--- so it is after a verdict on what a command would leave
-judged-sound : (i : Installed) (c : Rec) (v : Verdict) → Sound i → commandRow (network i) c ≡ none → Sound (judged i (applied (versionOf (network i)) c (network i)) v .after)
+-- so it is after a verdict on what a command would leave, and the version is as it was
+judged-kept : (i : Installed) (c : Rec) (v : Verdict) → Sound i → commandRow (network i) c ≡ none
+    → Sound (judged i (applied (versionOf (network i)) c (network i)) v .after)
+    × (versionOf (network (judged i (applied (versionOf (network i)) c (network i)) v .after)) ≡ versionOf (network i))
 unfolding judged
-judged-sound i c holds s e =
+judged-kept i c holds s e =
+    let net = applied (versionOf (network i)) c (network i) in
     let a = arguments (i .bytes) (i .count) (s .arguments) in
-    let g : GoesOn (network i) (applied (versionOf (network i)) c (network i)) = never-stuck (network i) c (installed-whole (i .bytes) (i .count) a) (not-empty (network i) (s .file)) (s .file) e in
-    record {
-      arguments = arguments-pass _ _ (record { some = g .some; few = g .few; long = stored-long (applied (versionOf (network i)) c (network i)) (i .bytes) });
-      file = subst⁻¹ (λ (net : Net). fileRow [] net ≡ none) (stored-records (applied (versionOf (network i)) c (network i)) (i .bytes) (g .whole)) (g .passes);
-    }
-judged-sound i c (violated p x) s e = s
+    let g : GoesOn (network i) net = never-stuck (network i) c (installed-whole (i .bytes) (i .count) a) (not-empty (network i) (s .file)) (s .file) e in
+    let read = stored-records net (i .bytes) (g .whole) in (
+      record {
+        arguments = arguments-pass _ _ (record { some = g .some; few = g .few; long = stored-long net (i .bytes) });
+        file = subst⁻¹ (λ (net : Net). fileRow [] net ≡ none) read (g .passes);
+      },
+      ap versionOf read ∙ g .same-version,
+    )
+judged-kept i c (violated p x) s e = (s, refl)
 
 -- a command that is not refused passes rows 12, 16 and 13
 row-passed : (i : Installed) (c : Rec) (work : ℕ) → commandRefusal (i .bytes) (i .count) work c ≡ none → commandRow (network i) c ≡ none
@@ -50,19 +56,29 @@ unfolding commandRefusal
 row-passed i c work e = neither (checkRefusal (i .bytes) (i .count) work) (commandRow (network i) c) e .1
 
 -- so it is again after one command, whatever the command and its work
-pub outcome-sound : (i : Installed) (c : Rec) (work : ℕ) → Sound i → Sound (outcomeOf i c work .after)
+outcome-kept : (i : Installed) (c : Rec) (work : ℕ) → Sound i
+    → Sound (outcomeOf i c work .after) × (versionOf (network (outcomeOf i c work .after)) ≡ versionOf (network i))
 unfolding outcomeOf
-outcome-sound i c work s = go (commandRefusal (i .bytes) (i .count) work c) refl
+outcome-kept i c work s = go (commandRefusal (i .bytes) (i .count) work c) refl
   where
-    go : (f : Refusal) → commandRefusal (i .bytes) (i .count) work c ≡ f → Sound (outcomeOf i c work .after)
-    go none q = rw (q, outcomeOf) (judged-sound i c _ s (row-passed i c work q))
-    go (some f) q = rw (q, outcomeOf) s
+    go : (f : Refusal) → commandRefusal (i .bytes) (i .count) work c ≡ f
+        → Sound (outcomeOf i c work .after) × (versionOf (network (outcomeOf i c work .after)) ≡ versionOf (network i))
+    go none q = rw (q, outcomeOf) (judged-kept i c _ s (row-passed i c work q))
+    go (some f) q = rw (q, outcomeOf) (s, refl)
 
 -- and after every series
 pub series-sound : (cs : List (Rec × ℕ)) (i : Installed) → Sound i → Sound (installed i cs)
 unfolding installed
 series-sound [] i s = s
-series-sound (c ∷ cs) i s = series-sound cs (outcomeOf i (c .0) (c .1) .after) (outcome-sound i (c .0) (c .1) s)
+series-sound (c ∷ cs) i s = series-sound cs (outcomeOf i (c .0) (c .1) .after) (outcome-kept i (c .0) (c .1) s .0)
+
+-- which has one version from its start to its end
+pub one-version : (cs : List (Rec × ℕ)) (i : Installed) → Sound i → versionOf (network (installed i cs)) ≡ versionOf (network i)
+unfolding installed
+one-version [] i s = refl
+one-version (c ∷ cs) i s =
+    let k = outcome-kept i (c .0) (c .1) s in
+    one-version cs (outcomeOf i (c .0) (c .1) .after) (k .0) ∙ k .1
 
 -- what refuses a command is then row 11, 12, 16 or 13
 pub refused-late : (i : Installed) (c : Rec) (work : ℕ) → Sound i
