@@ -21,7 +21,7 @@ fn unnamed_bytes() -> Vec<CheckCase> {
             }
         }
     };
-    stray(0, 4..24);
+    stray(0, 5..24);
     stray(1, 5..24);
     stray(2, 2..8);
     stray(2, 12..24);

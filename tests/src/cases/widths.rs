@@ -26,7 +26,7 @@ pub fn cases() -> Vec<CheckCase> {
 /// Row 4 is the lower number.
 fn stray_byte(name: &str, h: u8, number: usize) -> CheckCase {
     let mut records = network(h, 2, 0);
-    records[0] = with(records[0], 4, 1);
+    records[0] = with(records[0], 5, 1);
     refused(name, &records, number, 0)
 }
 

@@ -2,7 +2,7 @@
 
 use super::fields;
 use super::file::MOST_RULES;
-use super::network::{Match, Network, Record, Rule};
+use super::network::{Match, Network, Record, Rule, Version};
 use super::states::Widths;
 
 pub enum Command {
@@ -41,11 +41,12 @@ pub fn apply(network: &Network, command: Command) -> Option<Network> {
             None if left.rules.len() == MOST_RULES => return None,
             None => left.rules.push(rule),
         },
-        Command::Modify(rule) => {
-            if let Some(place) = left.same_rule(rule.matching) {
-                left.rules[place].actions = rule.actions;
-            }
-        }
+        Command::Modify(rule) => match left.same_rule(rule.matching) {
+            Some(place) => left.rules[place].actions = rule.actions,
+            // In OpenFlow 1.0 a modify without its rule acts as an add.
+            None if left.version == Version::V1_0 => return apply(network, Command::Add(rule)),
+            None => {}
+        },
         Command::Delete(matching) => left.rules.retain(|rule| rule.matching != matching),
     }
     Some(left)

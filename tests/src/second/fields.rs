@@ -2,7 +2,7 @@
 //! command).
 
 use super::network::{
-    Action, Bucket, Group, Link, Match, Node, Pattern, Record, Rule, Target, Variable,
+    Action, Bucket, Group, Link, Match, Node, Pattern, Record, Rule, Target, Variable, Version,
 };
 use super::states::{Point, Widths};
 
@@ -10,6 +10,17 @@ use super::states::{Point, Widths};
 const ACTIONS: std::ops::Range<usize> = 8..21;
 /// The highest number of a group.
 const HIGHEST_GROUP: u8 = 15;
+
+/// The version in a widths record; the widths have a row of their own.
+pub fn version(record: &Record) -> Option<Version> {
+    let version = match record[4] {
+        0 => Version::Unnamed,
+        1 => Version::V1_0,
+        4 => Version::V1_3,
+        _ => return None,
+    };
+    are_zero(&record[5..]).then_some(version)
+}
 
 /// The fields of a link record.
 pub fn link(widths: Widths, record: &Record) -> Option<Link> {

@@ -20,9 +20,8 @@ pub struct Refusal {
 /// The network of some records, or the first refusal.
 pub fn read(records: &[Record]) -> Result<Network, Refusal> {
     let at = |place| move |number| Refusal { number, place };
-    let widths = read_widths(&records[0]).map_err(at(0))?;
+    let mut network = begin(&records[0]).map_err(at(0))?;
     let named = Named::of(records);
-    let mut network = Network::new(widths);
     for place in 1..records.len() {
         let (before, record) = (&records[place - 1], &records[place]);
         take(&mut network, &named, before, record, records.get(place + 1)).map_err(at(place))?;
@@ -60,16 +59,14 @@ impl Named {
     }
 }
 
-/// The first record: rows 3, 4 and 5.
-fn read_widths(record: &Record) -> Result<Widths, usize> {
+/// The network that the first record begins: rows 3, 4 and 5.
+fn begin(record: &Record) -> Result<Network, usize> {
     if record[0] != 1 {
         return Err(3);
     }
     let widths = Widths::within_limits(record[1], record[2], record[3]).ok_or(4_usize)?;
-    match record[4..].iter().all(|byte| *byte == 0) {
-        true => Ok(widths),
-        false => Err(5),
-    }
+    let version = fields::version(record).ok_or(5_usize)?;
+    Ok(Network::new(widths, version))
 }
 
 /// A later record, taken into the network unless a row refuses it.

@@ -73,6 +73,15 @@ pub struct Group {
     pub buckets: Vec<Bucket>,
 }
 
+/// The OpenFlow version of a network's switches, by its byte in the widths record.
+#[derive(Clone, Copy, Debug, PartialEq, Eq)]
+pub enum Version {
+    /// Not named: as 1.3, but the byte stays 0.
+    Unnamed = 0,
+    V1_0 = 1,
+    V1_3 = 4,
+}
+
 /// A two-way link.
 #[derive(Clone, Copy, Debug)]
 pub struct Link {
@@ -169,6 +178,7 @@ impl Policy {
 #[derive(Clone, Debug)]
 pub struct Network {
     pub widths: Widths,
+    pub version: Version,
     pub links: Vec<Link>,
     /// The actions of each switch's miss record.
     pub misses: Vec<Vec<Action>>,
@@ -179,9 +189,10 @@ pub struct Network {
 }
 
 impl Network {
-    pub fn new(widths: Widths) -> Network {
+    pub fn new(widths: Widths, version: Version) -> Network {
         Network {
             widths,
+            version,
             links: vec![],
             misses: vec![],
             rules: vec![],
@@ -228,7 +239,7 @@ impl Network {
 
     /// The network as records.
     pub fn records(&self) -> Vec<Record> {
-        let mut records = vec![widths_record(self.widths)];
+        let mut records = vec![widths_record(self.widths, self.version)];
         records.extend(self.links.iter().map(link_record));
         for (switch, actions) in self.misses.iter().enumerate() {
             records.push(miss_record(switch as u8, actions));
@@ -252,8 +263,8 @@ pub fn groups_run(actions: &[Action]) -> impl Iterator<Item = u8> + '_ {
     })
 }
 
-fn widths_record(widths: Widths) -> Record {
-    record(1, &[widths.header, widths.port, widths.switch])
+fn widths_record(widths: Widths, version: Version) -> Record {
+    record(1, &[widths.header, widths.port, widths.switch, version as u8])
 }
 
 fn link_record(link: &Link) -> Record {

@@ -214,12 +214,13 @@ pub fn apply(records: &[Record], command: &Record) -> Vec<Record> {
     let mut left = records.to_vec();
     let same = left.iter().position(|record| record[0] == 4 && record[1..8] == command[1..8]);
     let behind = left.iter().rposition(|record| record[0] == 3 || record[0] == 4);
+    let version = records[0][4];
     let mut rule = *command;
     rule[0] = 4;
-    match (command[0], same) {
-        (6, None) => left.insert(behind.expect("a miss") + 1, rule),
-        (6 | 7, Some(place)) => left[place] = rule,
-        (8, Some(place)) => drop(left.remove(place)),
+    match (command[0], version, same) {
+        (6, _, None) | (7, 1, None) => left.insert(behind.expect("a miss") + 1, rule),
+        (6 | 7, _, Some(place)) => left[place] = rule,
+        (8, _, Some(place)) => drop(left.remove(place)),
         _ => {}
     }
     left
