@@ -34,6 +34,13 @@ pub fn widths(h: u8, p: u8, w: u8) -> Record {
     record(&[1, h, p, w])
 }
 
+/// A network's records with another wire version.
+pub fn in_version(records: &[Record], version: u8) -> Vec<Record> {
+    let mut records = records.to_vec();
+    records[0][4] = version;
+    records
+}
+
 pub fn link(switch: u8, port: u8, other_switch: u8, other_port: u8) -> Record {
     record(&[2, switch, port, other_switch, other_port])
 }

@@ -70,6 +70,19 @@ fn row_4() {
 }
 
 #[test]
+fn versions() {
+    run_checks(cases::versions::cases());
+    run_commands(cases::versions::commands());
+}
+
+/// The cases of all rows in the versions that their networks do not name.
+#[test]
+fn cases_in_every_version() {
+    run_checks(cases::versions::checks_in_each());
+    run_commands(cases::versions::commands_in_each());
+}
+
+#[test]
 fn row_5() {
     run_checks(cases::fields::cases());
 }

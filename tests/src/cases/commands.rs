@@ -83,28 +83,28 @@ pub fn refused(name: &str, records: &[Record], given: &[u8], number: usize) -> C
 }
 
 /// K without the records of the range.
-fn k_without(range: std::ops::Range<usize>) -> Vec<Record> {
+pub fn k_without(range: std::ops::Range<usize>) -> Vec<Record> {
     let mut records = k();
     records.drain(range);
     records
 }
 
 /// Records with one put in at a place.
-fn inserted(records: &[Record], place: usize, record: Record) -> Vec<Record> {
+pub fn inserted(records: &[Record], place: usize, record: Record) -> Vec<Record> {
     let mut records = records.to_vec();
     records.insert(place, record);
     records
 }
 
 /// Records without one.
-fn removed(records: &[Record], place: usize) -> Vec<Record> {
+pub fn removed(records: &[Record], place: usize) -> Vec<Record> {
     let mut records = records.to_vec();
     records.remove(place);
     records
 }
 
 /// Records with one put in the place of another.
-fn replaced(records: &[Record], place: usize, record: Record) -> Vec<Record> {
+pub fn replaced(records: &[Record], place: usize, record: Record) -> Vec<Record> {
     let mut records = records.to_vec();
     records[place] = record;
     records
@@ -208,7 +208,7 @@ fn verdicts() -> Vec<CommandCase> {
 }
 
 /// A's match with SET 1, OUTPUT 2.
-fn setting_a() -> Record {
+pub fn setting_a() -> Record {
     rule(0, 10, [1, 3], [0, 1], &[set(1, 1), output(2, 3)])
 }
 
@@ -259,7 +259,7 @@ fn largest() -> Vec<CommandCase> {
 }
 
 /// A rule that none of the records is.
-fn new_to(records: &[Record]) -> Record {
+pub fn new_to(records: &[Record]) -> Record {
     let mut candidates =
         (0..=u16::MAX).map(|priority| rule(0, priority, ANY, ANY, &[output(0, 0)]));
     let absent = |rule: &Record| !records.iter().any(|other| other[1..8] == rule[1..8]);

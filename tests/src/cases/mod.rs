@@ -16,6 +16,7 @@ pub mod rules;
 pub mod starred;
 pub mod steps;
 pub mod truths;
+pub mod versions;
 pub mod widths;
 pub mod work;
 
@@ -194,28 +195,31 @@ fn zeroed(work: &[u8], length: usize) -> Vec<u8> {
 
 /// Every check case.
 pub fn all_checks() -> Vec<CheckCase> {
+    [checks_of_rows(), steps::cases(), group_steps::cases(), truths::cases()].concat()
+}
+
+/// The starred check cases and those of the rows.
+pub fn checks_of_rows() -> Vec<CheckCase> {
     [
         starred::checks(),
         arguments::cases(),
         kinds::cases(),
         widths::cases(),
+        versions::cases(),
         fields::cases(),
         links::cases(),
         misses::cases(),
         rules::cases(),
         policies::cases(),
         work::cases(),
-        steps::cases(),
         groups::cases(),
-        group_steps::cases(),
-        truths::cases(),
     ]
     .concat()
 }
 
 /// Every command case.
 pub fn all_commands() -> Vec<CommandCase> {
-    [starred::commands(), commands::cases(), groups::commands()].concat()
+    [starred::commands(), commands::cases(), versions::commands(), groups::commands()].concat()
 }
 
 /// K's records before its policy: nothing is forbidden, so it holds.
