@@ -91,6 +91,19 @@ pub fn random_command(random: &mut Random, records: &[Record]) -> Vec<u8> {
     command(random, records, wish)
 }
 
+/// A random command against a table that is almost full: mostly one that wants room for a rule, as a
+/// modify in version 1 does.
+pub fn filling_command(random: &mut Random, records: &[Record]) -> Vec<u8> {
+    let wish = match random.below(12) {
+        0 => Wish::Malformed(random.pick(&FAULTS)),
+        1 => Wish::RunsAbsentGroup,
+        2..6 => Wish::ModifyAbsent,
+        6 | 7 => Wish::AddNew,
+        _ => random.pick(&SOUND),
+    };
+    command(random, records, wish)
+}
+
 /// The bytes of a command as wished; without a rule in the records, none is present.
 pub fn command(random: &mut Random, records: &[Record], wish: Wish) -> Vec<u8> {
     let of = Widths::of(&records[0]);

@@ -7,7 +7,7 @@ use crate::records::Record;
 
 /// Damages the records in one way, and tells the first record that is another one now.
 pub fn damage(random: &mut Random, records: &mut Vec<Record>) -> usize {
-    match random.below(11) {
+    match random.below(12) {
         0 => set_byte(random, records),
         1 => flip_bit(random, records),
         2 => put_action(random, records),
@@ -18,6 +18,7 @@ pub fn damage(random: &mut Random, records: &mut Vec<Record>) -> usize {
         7 => remove_group(random, records),
         8 => add_group(random, records),
         9 => redirect_bucket(random, records),
+        10 => set_version(random, records),
         _ => duplicate(random, records),
     }
 }
@@ -36,6 +37,16 @@ fn flip_bit(random: &mut Random, records: &mut [Record]) -> usize {
     let place = random.below(records.len());
     records[place][random.below(RECORD)] ^= 1 << random.below(8);
     place
+}
+
+/// Sets the version, which is no damage if there is such a one, and now and then a width too.
+fn set_version(random: &mut Random, records: &mut [Record]) -> usize {
+    let any = random.byte();
+    records[0][4] = random.pick(&[0, 1, 4, 2, 3, 5, 255, any]);
+    if random.one_in(4) {
+        records[0][1 + random.below(3)] = random.bits(3);
+    }
+    0
 }
 
 /// Puts an action of a kind from 0 to 5 into a miss or a rule, if there is one. Of its value and its

@@ -1,4 +1,4 @@
-//! Random sound networks of every width, and the largest one.
+//! Random sound networks of every width and version, and the largest one.
 
 use crate::formulas::{
     policy, random_formula, random_guard, random_probe, random_sentence, Node, GUARD,
@@ -71,11 +71,19 @@ pub struct Sizes {
     pub groups: usize,
 }
 
+/// The most rules of a network.
+pub const MOST_RULES: usize = 256;
 /// The most groups of a network.
 pub const MOST_GROUPS: usize = 16;
 
 /// Sizes for networks that are judged quickly.
 pub const MODEST: Sizes = Sizes { links: 6, rules: 12, policies: 3, nodes: 20, groups: 6 };
+
+/// Gives a network one of the versions, every other time 1.0.
+fn put_random_version(random: &mut Random, records: &mut [Record]) {
+    let new = random.pick(&[0, 4]);
+    records[0][4] = random.pick(&[1, new]);
+}
 
 /// A random network that no row refuses.
 pub fn random_network(random: &mut Random, of: Widths, most: Sizes) -> Vec<Record> {
@@ -89,6 +97,7 @@ pub fn random_network(random: &mut Random, of: Widths, most: Sizes) -> Vec<Recor
         records.extend(policy(number as u8, &formula));
     }
     records.extend(groups);
+    put_random_version(random, &mut records);
     records
 }
 
@@ -111,6 +120,25 @@ pub fn guarded_network(random: &mut Random, of: Widths) -> Vec<Record> {
         records.extend(policy(number, &random_guard(random, of.bits())));
     }
     records.extend(groups);
+    put_random_version(random, &mut records);
+    records
+}
+
+/// A guarded network whose table is full, or has room for one or two rules. It is filled with rules for
+/// what arrives at port 0, which never act.
+pub fn full_network(random: &mut Random, of: Widths) -> Vec<Record> {
+    let mut records = guarded_network(random, of);
+    let behind = records.iter().filter(|record| record[0] <= 4).count();
+    let rules = records.iter().filter(|record| record[0] == 4).count();
+    let mut missing = MOST_RULES - rules - random.below(3);
+    while missing > 0 {
+        let mut idle = random_rule(random, of, &records);
+        idle[4..6].copy_from_slice(&[0, (1 << of.p) - 1]);
+        if is_new(&idle, &records) {
+            records.insert(behind, idle);
+            missing -= 1;
+        }
+    }
     records
 }
 
@@ -118,18 +146,20 @@ pub fn guarded_network(random: &mut Random, of: Widths) -> Vec<Record> {
 pub fn largest(random: &mut Random) -> Vec<Record> {
     let policies = most_policies(random, 10);
     let groups = random_groups(random, LARGEST, MOST_GROUPS);
-    largest_with(random, &policies, &groups)
+    let mut records = largest_with(random, &policies, &groups);
+    put_random_version(random, &mut records);
+    records
 }
 
 /// The 657 records of a largest network with these policies and groups.
 pub fn largest_with(random: &mut Random, policies: &[Record], groups: &[Record]) -> Vec<Record> {
-    let records = before_policies(random, LARGEST, 112, 256, groups);
+    let records = before_policies(random, LARGEST, 112, MOST_RULES, groups);
     [&records, policies, groups].concat()
 }
 
 /// The 385 records of a largest network before its policies, if it has no group.
 pub fn largest_without_policies(random: &mut Random) -> Vec<Record> {
-    before_policies(random, LARGEST, 112, 256, &[])
+    before_policies(random, LARGEST, 112, MOST_RULES, &[])
 }
 
 /// The widths of a largest network.
@@ -138,9 +168,10 @@ pub const LARGEST: Widths = Widths { h: 1, p: 4, w: 4 };
 /// A network of any widths with the most rules, policies, nodes and groups.
 pub fn crowded(random: &mut Random, of: Widths) -> Vec<Record> {
     let groups = random_groups(random, of, MOST_GROUPS);
-    let mut records = before_policies(random, of, 0, 256, &groups);
+    let mut records = before_policies(random, of, 0, MOST_RULES, &groups);
     records.extend(most_policies(random, of.bits()));
     records.extend(groups);
+    put_random_version(random, &mut records);
     records
 }
 
@@ -202,10 +233,15 @@ fn random_rules(random: &mut Random, of: Widths, count: usize, groups: &[Record]
 pub fn random_new_rule(random: &mut Random, of: Widths, records: &[Record]) -> Record {
     loop {
         let rule = random_rule(random, of, records);
-        if !records.iter().any(|other| other[0] == 4 && same_rule(&rule, other)) {
+        if is_new(&rule, records) {
             return rule;
         }
     }
+}
+
+/// Whether none of the records is the same rule.
+fn is_new(rule: &Record, records: &[Record]) -> bool {
+    !records.iter().any(|other| other[0] == 4 && same_rule(rule, other))
 }
 
 /// A rule that runs groups of the records only.

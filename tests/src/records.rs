@@ -34,6 +34,9 @@ pub fn widths(h: u8, p: u8, w: u8) -> Record {
     record(&[1, h, p, w])
 }
 
+/// What byte 4 of a widths record may be: no version, which reads as 1.3, or 1.0 or 1.3.
+pub const VERSIONS: [u8; 3] = [0, 1, 4];
+
 /// A network's records with another wire version.
 pub fn in_version(records: &[Record], version: u8) -> Vec<Record> {
     let mut records = records.to_vec();

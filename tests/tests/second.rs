@@ -14,10 +14,13 @@ use wegbaro_tests::gate::{Checked, Commanded, Gate, Lent, Routed, MOST_RECORDS, 
 use wegbaro_tests::inputs::random_input;
 use wegbaro_tests::k;
 use wegbaro_tests::networks::{
-    all_widths, largest, random_network, work_needed, Sizes, Widths, MODEST,
+    all_widths, crowded, full_network, guarded_network, largest, random_network, work_needed,
+    Sizes, Widths, MODEST,
 };
 use wegbaro_tests::random::Random;
-use wegbaro_tests::records::{add, delete, link, miss, output, rule, set, widths, Record, ANY};
+use wegbaro_tests::records::{
+    add, delete, in_version, link, miss, output, rule, set, widths, Record, ANY, VERSIONS,
+};
 use wegbaro_tests::second::{program, Second};
 use wegbaro_tests::winding::{longest, looping, winding};
 use worthless::buckets::{BucketVice, Spilling, BUCKET_VICES};
@@ -356,7 +359,7 @@ fn play(lent: &mut Lent, given: &[u8]) -> bool {
 /// Networks of at most two links, since all paths are tried.
 #[test]
 fn routes_are_the_best_of_all_paths() {
-    let mut random = Random::new(18);
+    let mut random = Random::new(49);
     let few = Sizes { links: 2, rules: 8, policies: 1, nodes: 3, groups: 4 };
     let (mut found, mut longest, mut none) = (0, 0, 0);
     for of in compare::widths_up_to(5).into_iter().cycle().take(80) {
@@ -463,7 +466,7 @@ fn every_width_is_generated_and_sound() {
     assert_eq!(all_widths().len(), 59);
     for of in all_widths() {
         let records = random_network(&mut random, of, MODEST);
-        assert_eq!(records[0], widths(of.h, of.p, of.w));
+        assert_eq!(in_version(&records, 0)[0], widths(of.h, of.p, of.w));
         for node in records.iter().filter(|record| record[0] == 5) {
             kinds[usize::from(node[2])] = true;
         }
@@ -472,6 +475,32 @@ fn every_width_is_generated_and_sound() {
         assert!(!matches!(answer, Checked::Refused { .. }), "{answer:?}");
     }
     assert_eq!(kinds, [true; 9]);
+}
+
+/// By every generator; and tables that are full, or lack one or two rules.
+#[test]
+fn every_version_is_generated() {
+    let mut random = Random::new(40);
+    let of = Widths { h: 1, p: 2, w: 1 };
+    let mut versions = vec![BTreeSet::new(); 4];
+    let mut rules = BTreeSet::new();
+    for _ in 0..30 {
+        let full = full_network(&mut random, of);
+        let lent = lend(&mut random, &full);
+        let answer = Second.check(&lent.store, lent.n, &mut lent.work.clone());
+        assert!(!matches!(answer, Checked::Refused { .. }), "{answer:?}");
+        rules.insert(full.iter().filter(|record| record[0] == 4).count());
+        let others = [
+            random_network(&mut random, of, MODEST),
+            guarded_network(&mut random, of),
+            crowded(&mut random, of),
+        ];
+        for (versions, records) in versions.iter_mut().zip(others.iter().chain([&full])) {
+            versions.insert(records[0][4]);
+        }
+    }
+    assert_eq!(versions, vec![BTreeSet::from(VERSIONS); 4]);
+    assert_eq!(rules, BTreeSet::from([254, 255, 256]));
 }
 
 /// Kinds of actions, each with whether it is the last of its record.
@@ -498,7 +527,7 @@ fn every_bucket_is_generated() {
     let mut targets = BTreeSet::new();
     let mut switches = BTreeSet::new();
     let mut counts = BTreeSet::new();
-    for _ in 0..200 {
+    for _ in 0..400 {
         let records = random_network(&mut random, of, MODEST);
         let groups: Vec<Record> = records.into_iter().filter(|record| record[0] == 9).collect();
         counts.insert(groups.len());
@@ -557,6 +586,30 @@ fn damage_is_refused_where_it_is() {
         }
     }
     assert!(refused > 500, "{refused}");
+}
+
+/// Damage puts in versions that there are and others, and the others alone are refused by row 5.
+#[test]
+fn damage_meets_every_version() {
+    let mut random = Random::new(42);
+    let mut met = BTreeSet::new();
+    for of in compare::widths_up_to(5).into_iter().cycle().take(1_500) {
+        let mut records = random_network(&mut random, of, MODEST);
+        let mut before = records.clone();
+        let room = work_needed(&records);
+        damage(&mut random, &mut records);
+        let version = records[0][4];
+        before[0][4] = version;
+        // Nothing else was damaged.
+        if records == before {
+            let mut lent = compare::lend(&mut random, &records, room);
+            let answer = Second.check(&lent.store, lent.n, &mut lent.work);
+            let is_refused = answer == Checked::Refused { number: 5, place: 0 };
+            assert_eq!(is_refused, !VERSIONS.contains(&version), "{version}: {answer:?}");
+            met.insert(version);
+        }
+    }
+    assert!([0, 1, 2, 3, 4, 5, 255].iter().all(|version| met.contains(version)), "{met:?}");
 }
 
 #[test]
@@ -693,6 +746,7 @@ fn comparisons_notice_every_vice_of_routes() {
 fn steps_against(gate: &dyn Gate) -> Result<(), String> {
     compare::damaged_networks(&Second, gate, 33, 4_000, 5)?;
     routes::of_every_width(&Second, gate, 34, 1, 2, SMALL)?;
+    routes::of_every_width(&Second, gate, 45, 1, 2, Sizes { groups: 12, ..SMALL })?;
     Ok(())
 }
 
@@ -731,6 +785,12 @@ fn comparisons_meet_every_answer() {
     let of_series: Tally = compare::series(&Second, &Second, 24, 60, 5, 16).unwrap();
     assert!(of_series.forwarded > 100 && of_series.blocked > 50, "{of_series:?}");
     assert!(of_series.refused[12] > 50 && of_series.refused[16] > 20, "{of_series:?}");
+    assert!(of_series.added_by_modify > 20, "{of_series:?}");
+    let of_full = compare::full_tables(&Second, &Second, 41, 40, 5, 16).unwrap();
+    assert!(of_full.forwarded > 50 && of_full.added_by_modify > 10, "{of_full:?}");
+    assert!(of_full.blocked > 5 && of_full.full_to_modify > 10, "{of_full:?}");
+    let full_to_add = of_full.refused[13] - of_full.full_to_modify;
+    assert!(full_to_add > 10 && of_full.refused[16] > 5, "{of_full:?}");
     let of_damage = compare::damaged_networks(&Second, &Second, 25, 1_500, 6).unwrap();
     assert!(of_damage.holds > 50 && of_damage.violated > 50, "{of_damage:?}");
     assert!(of_damage.forwarded > 50 && of_damage.blocked > 50, "{of_damage:?}");
@@ -767,6 +827,23 @@ fn random_inputs_meet_every_line() {
     ] {
         assert!(printed.contains(words), "{words}");
     }
+}
+
+/// Inputs in version 1 to which something else would be answered in version 4.
+#[test]
+fn random_inputs_depend_on_the_version() {
+    let mut random = Random::new(44);
+    let (mut old, mut other) = (0, 0);
+    for _ in 0..400 {
+        let mut input = random_input(&mut random);
+        if input.get(4) == Some(&1) {
+            let printed = program(&input);
+            input[4] = 4;
+            old += 1;
+            other += usize::from(program(&input) != printed);
+        }
+    }
+    assert!(other > 10, "{other} of {old}");
 }
 
 #[test]

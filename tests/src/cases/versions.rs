@@ -14,11 +14,8 @@ use crate::gate::{Commanded, Lent, RECORD, STORE};
 use crate::k::{dropping_add, first_add, k, k_set, k_with_d, rule_d, second_add, setting_add};
 use crate::records::{
     add, delete, group, in_version, modify, output, rule, run, set, to_port, with, Record, ANY,
-    IN_PORT,
+    IN_PORT, VERSIONS,
 };
-
-/// What byte 4 may be.
-const VERSIONS: [u8; 3] = [0, 1, 4];
 
 pub fn cases() -> Vec<CheckCase> {
     [bytes(), rows_before(), rows_after(), verdicts()].concat()

@@ -2,14 +2,14 @@
 
 pub mod routes;
 
-use crate::commands::random_command;
+use crate::commands::{filling_command, random_command};
 use crate::damage::damage;
 use crate::formulas::{policy, random_formula};
 use crate::gate::{Checked, Commanded, Gate, Lent, Program, Routed, MOST_RECORDS, RECORD, STORE};
 use crate::inputs::random_input;
 use crate::networks::{
-    all_widths, crowded, guarded_network, largest, random_group, random_network, random_rule,
-    work_needed, Sizes, Widths, MODEST, MOST_GROUPS,
+    all_widths, crowded, full_network, guarded_network, largest, random_group, random_network,
+    random_rule, work_needed, Sizes, Widths, MODEST, MOST_GROUPS,
 };
 use crate::random::Random;
 use crate::records::Record;
@@ -27,6 +27,10 @@ pub struct Tally {
     pub longest: usize,
     /// By number, from 1.
     pub refused: [usize; 17],
+    /// Of the forwarded, modifies that added a rule.
+    pub added_by_modify: usize,
+    /// Of the refused, modifies that found the table full.
+    pub full_to_modify: usize,
 }
 
 impl Tally {
@@ -38,11 +42,19 @@ impl Tally {
         }
     }
 
-    fn commanded(&mut self, answer: Commanded) {
+    /// The answer to a command on n records.
+    fn commanded(&mut self, n: usize, given: &[u8], answer: Commanded) {
+        let is_modify = given.first() == Some(&7);
         match answer {
-            Commanded::Forwarded { .. } => self.forwarded += 1,
+            Commanded::Forwarded { count } => {
+                self.forwarded += 1;
+                self.added_by_modify += usize::from(is_modify && count > n);
+            }
             Commanded::Blocked { .. } => self.blocked += 1,
-            Commanded::Refused { number, .. } => self.refused[number] += 1,
+            Commanded::Refused { number, .. } => {
+                self.refused[number] += 1;
+                self.full_to_modify += usize::from(is_modify && number == 13);
+            }
         }
     }
 
@@ -178,7 +190,7 @@ pub fn damaged_networks(
         let lent = lend(&mut random, &records, 4 * work_needed(&sound));
         tally.checked(same_check(one, other, &lent)?);
         let given = random_command(&mut random, &sound);
-        tally.commanded(same_command(one, other, &lent, &given)?.0);
+        tally.commanded(lent.n, &given, same_command(one, other, &lent, &given)?.0);
         let ends = routes::random_ends(&mut random, &sound, 1)[0];
         let entries = routes::random_entries(&mut random, 1 << of.bits());
         let list = routes::random_list(&mut random, entries);
@@ -205,7 +217,7 @@ pub fn crowded_networks(
         let work = work_needed(&records);
         let lent = lend(&mut random, &records, work);
         let given = random_command(&mut random, &records);
-        tally.commanded(same_command(one, other, &lent, &given)?.0);
+        tally.commanded(lent.n, &given, same_command(one, other, &lent, &given)?.0);
         insert_one_more(&mut random, of, &mut records);
         let lent = lend(&mut random, &records, work);
         tally.checked(same_check(one, other, &lent)?);
@@ -252,17 +264,52 @@ pub fn series(
         let mut lent = holding_network(&mut random, one, of);
         for _ in 0..length {
             let given = random_command(&mut random, &records_of(&lent));
-            let (answer, left) = same_command(one, other, &lent, &given)?;
-            tally.commanded(answer);
-            lent.store = left.store;
-            if let Commanded::Forwarded { count } = answer {
-                lent.n = count;
-            }
-            let length = lent.work.len();
-            lent.work = random.bytes(length);
+            one_more(one, other, &mut random, &mut lent, &given, &mut tally)?;
         }
     }
     Ok(tally)
+}
+
+/// Series on networks whose table is full or almost.
+pub fn full_tables(
+    one: &dyn Gate,
+    other: &dyn Gate,
+    seed: u64,
+    rounds: usize,
+    bits: u8,
+    length: usize,
+) -> Result<Tally, String> {
+    let mut random = Random::new(seed);
+    let mut tally = Tally::default();
+    let widths = widths_up_to(bits);
+    for _ in 0..rounds {
+        let of = random.pick(&widths);
+        let mut lent = holding(&mut random, one, |random| full_network(random, of));
+        for _ in 0..length {
+            let given = filling_command(&mut random, &records_of(&lent));
+            one_more(one, other, &mut random, &mut lent, &given, &mut tally)?;
+        }
+    }
+    Ok(tally)
+}
+
+/// The next command of a series.
+fn one_more(
+    one: &dyn Gate,
+    other: &dyn Gate,
+    random: &mut Random,
+    lent: &mut Lent,
+    given: &[u8],
+    tally: &mut Tally,
+) -> Result<(), String> {
+    let (answer, left) = same_command(one, other, lent, given)?;
+    tally.commanded(lent.n, given, answer);
+    lent.store = left.store;
+    if let Commanded::Forwarded { count } = answer {
+        lent.n = count;
+    }
+    lent.work = random.bytes(lent.work.len());
+    Ok(())
 }
 
 /// Whole inputs through both programs.
@@ -288,11 +335,20 @@ pub fn widths_up_to(bits: u8) -> Vec<Widths> {
 
 /// A random network of which the gate says that it holds, mostly one that commands may break.
 pub fn holding_network(random: &mut Random, gate: &dyn Gate, of: Widths) -> Lent {
+    holding(random, gate, |random| match random.one_in(4) {
+        true => random_network(random, of, MODEST),
+        false => guarded_network(random, of),
+    })
+}
+
+/// The first network made of which the gate says that it holds.
+fn holding(
+    random: &mut Random,
+    gate: &dyn Gate,
+    network: impl Fn(&mut Random) -> Vec<Record>,
+) -> Lent {
     for _ in 0..1_000 {
-        let records = match random.one_in(4) {
-            true => random_network(random, of, MODEST),
-            false => guarded_network(random, of),
-        };
+        let records = network(random);
         let lent = lend(random, &records, work_needed(&records));
         let answer = gate.check(&lent.store, lent.n, &mut lent.work.clone());
         if answer == Checked::Holds {
