@@ -1,18 +1,30 @@
 //! The program on whole inputs.
 
 use super::arguments::largest_holding;
+use super::starred::k_with_rules;
 use super::ProgramCase;
 use crate::formulas::{policy, r, X};
 use crate::k::{
     delete_d, dropping_add, first_add, k, k_set, k_with_d, rule_d, second_add, setting_add,
 };
 use crate::records::{
-    add, delete, group, miss, modify, output, record, rule, run, to_port, widths, with, Record,
-    ANY, IN_PORT,
+    add, delete, group, in_version, miss, modify, output, record, rule, run, to_port, widths, with,
+    Record, ANY, IN_PORT,
 };
 
 pub fn cases() -> Vec<ProgramCase> {
-    [starts(), series(), groups(), strange_commands(), cuts(), counts(), work()].concat()
+    [
+        starts(),
+        series(),
+        versions(),
+        full_tables(),
+        groups(),
+        strange_commands(),
+        cuts(),
+        counts(),
+        work(),
+    ]
+    .concat()
 }
 
 fn case(name: &str, input: &[u8], lines: &[&str]) -> ProgramCase {
@@ -115,6 +127,83 @@ fn series() -> Vec<ProgramCase> {
             &["start holds", "1 forwarded 21", "2 blocked 0 13", "3 refused 12 0"],
         ),
     ]
+}
+
+/// The version stands in the first record and is that of every command.
+fn versions() -> Vec<ProgramCase> {
+    let commands = [
+        modify(first_add()),
+        modify(second_add()),
+        modify(second_add()),
+        delete(second_add()),
+        delete(second_add()),
+        modify(rule_d()),
+        modify(first_add()),
+        delete_d(),
+    ];
+    let old = [
+        "start holds",
+        "1 blocked 0 3",
+        "2 forwarded 21",
+        "3 forwarded 21",
+        "4 forwarded 20",
+        "5 forwarded 20",
+        "6 forwarded 21",
+        "7 forwarded 22",
+        "8 blocked 0 3",
+    ];
+    let new = [
+        "start holds",
+        "1 forwarded 20",
+        "2 forwarded 20",
+        "3 forwarded 20",
+        "4 forwarded 20",
+        "5 forwarded 20",
+        "6 forwarded 20",
+        "7 forwarded 20",
+        "8 forwarded 20",
+    ];
+    let mut cases = vec![];
+    for (version, lines) in [(0, new), (1, old), (4, new)] {
+        let name = format!("K in version {version}, modifies");
+        cases.push(case(&name, &input(&in_version(&k(), version), &commands), &lines));
+    }
+    for version in [2, 3, 5, 255] {
+        let name = format!("K in version {version}");
+        let lines = ["start refused 5 0"];
+        cases.push(case(&name, &input(&in_version(&k(), version), &commands), &lines));
+    }
+    cases
+}
+
+/// K with 256 rules, of which A is modified and B deleted.
+fn full_tables() -> Vec<ProgramCase> {
+    let absent = |priority| modify(rule(1, priority, ANY, ANY, &[output(0, 3)]));
+    let commands =
+        [absent(7), modify(dropping_add()), delete(k()[5]), absent(7), absent(7), absent(8)];
+    let old = [
+        "start holds",
+        "1 refused 13 0",
+        "2 forwarded 274",
+        "3 forwarded 273",
+        "4 forwarded 274",
+        "5 forwarded 274",
+        "6 refused 13 0",
+    ];
+    let new = [
+        "start holds",
+        "1 forwarded 274",
+        "2 forwarded 274",
+        "3 forwarded 273",
+        "4 forwarded 273",
+        "5 forwarded 273",
+        "6 forwarded 273",
+    ];
+    let full = |(version, lines): (u8, [&str; 7])| {
+        let name = format!("256 rules in version {version}, modifies");
+        case(&name, &input(&in_version(&k_with_rules(256), version), &commands), &lines)
+    };
+    [(0, new), (1, old), (4, new)].map(full).to_vec()
 }
 
 /// Behind the first command every record is one, whatever its kind.
