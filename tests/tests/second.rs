@@ -27,6 +27,7 @@ use worthless::buckets::{BucketVice, Spilling, BUCKET_VICES};
 use worthless::groups::{GroupVice, Lax, GROUP_VICES};
 use worthless::routes::{Astray, ROUTE_VICES};
 use worthless::steps::{Misled, StepVice, STEP_VICES};
+use worthless::versions::{Outdated, VERSION_VICES};
 use worthless::{Vice, Worthless, VICES};
 
 /// Fails with every error, one per line.
@@ -657,6 +658,21 @@ fn cases_notice_every_vice_of_groups() {
     }
 }
 
+#[test]
+fn cases_notice_every_vice_of_versions() {
+    let checks = cases::versions::cases();
+    let mut commands = cases::versions::commands();
+    commands.retain(|case| case.lent.n < MOST_RECORDS - 1);
+    let wrong = |gate: Outdated| {
+        checks.iter().any(|case| case.run(&gate).is_err())
+            || commands.iter().any(|case| case.run(&gate).is_err())
+    };
+    assert!(!wrong(Outdated(None)));
+    for vice in VERSION_VICES {
+        assert!(wrong(Outdated(Some(vice))), "{vice:?}");
+    }
+}
+
 /// A gate that runs groups bucket by bucket, and has no vice, passes.
 #[test]
 fn cases_notice_every_vice_of_buckets() {
@@ -777,6 +793,23 @@ fn groups_against(gate: &dyn Gate) -> Result<(), String> {
 fn comparisons_notice_every_vice_of_groups_but_a_full_table() {
     for vice in GROUP_VICES.into_iter().filter(|vice| *vice != GroupVice::LooksForRoomFirst) {
         assert!(groups_against(&Lax(vice)).is_err(), "{vice:?}");
+    }
+}
+
+/// The first error of a gate in series, with room in the table and without, and in damaged networks.
+fn versions_against(gate: &dyn Gate) -> Result<(), String> {
+    compare::series(&Second, gate, 37, 20, 5, 16)?;
+    compare::full_tables(&Second, gate, 38, 40, 5, 16)?;
+    compare::damaged_networks(&Second, gate, 39, 1_000, 5)?;
+    Ok(())
+}
+
+#[test]
+fn comparisons_notice_every_vice_of_versions() {
+    assert_eq!(versions_against(&Outdated(None)), Ok(()));
+    for vice in VERSION_VICES {
+        let found = versions_against(&Outdated(Some(vice)));
+        assert!(found.is_err(), "{vice:?}");
     }
 }
 

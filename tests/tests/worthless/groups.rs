@@ -1,5 +1,6 @@
 //! Gates that read groups wrong in one way each.
 
+use super::records_of;
 use wegbaro_tests::gate::{Checked, Commanded, Gate, Routed, RECORD};
 use wegbaro_tests::records::{groups_at, same_rule, Record, IN_PORT};
 use wegbaro_tests::second::Second;
@@ -128,12 +129,6 @@ impl Lax {
             _ => {}
         }
     }
-}
-
-/// The records up to the count, as far as the store has them.
-fn records_of(store: &[u8], n: usize) -> Vec<Record> {
-    let (records, _) = store.as_chunks::<RECORD>();
-    records[..n.min(records.len())].to_vec()
 }
 
 /// Drops what the buckets of a group would send on to such groups.

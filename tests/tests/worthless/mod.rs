@@ -4,10 +4,11 @@ pub mod buckets;
 pub mod groups;
 pub mod routes;
 pub mod steps;
+pub mod versions;
 
 use std::cell::Cell;
 use wegbaro_tests::gate::{Checked, Commanded, Gate, Routed, RECORD, STORE};
-use wegbaro_tests::records::IN_PORT;
+use wegbaro_tests::records::{Record, IN_PORT};
 use wegbaro_tests::second::Second;
 
 #[derive(Clone, Copy, Debug, PartialEq, Eq)]
@@ -100,6 +101,12 @@ impl Worthless {
             _ => answer,
         }
     }
+}
+
+/// The records up to the count, as far as the store has them.
+fn records_of(store: &[u8], n: usize) -> Vec<Record> {
+    let (records, _) = store.as_chunks::<RECORD>();
+    records[..n.min(records.len())].to_vec()
 }
 
 /// Records with value and care of every IN_PORT zero.
