@@ -20,4 +20,5 @@ pub mod random;
 pub mod reading;
 pub mod records;
 pub mod second;
+pub mod unversioned;
 pub mod winding;

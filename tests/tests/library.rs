@@ -6,6 +6,7 @@ use wegbaro_tests::compare::{self, routes};
 use wegbaro_tests::library::{program, Library};
 use wegbaro_tests::networks::{Sizes, MODEST};
 use wegbaro_tests::second::{self, Second};
+use wegbaro_tests::unversioned::Unversioned;
 
 /// Fails with every error, one per line.
 fn expect_all(results: impl IntoIterator<Item = Result<(), String>>) {
@@ -28,6 +29,15 @@ fn every_check_case() {
 #[test]
 fn every_command_case() {
     expect_all(cases::all_commands().iter().map(|case| case.run(&Library)));
+}
+
+/// The cases of all rows in the versions that their networks do not name.
+#[test]
+fn every_case_in_every_version() {
+    let checks = cases::versions::checks_in_each();
+    let commands = cases::versions::commands_in_each();
+    expect_all(checks.iter().map(|case| case.run(&Library)));
+    expect_all(commands.iter().map(|case| case.run(&Library)));
 }
 
 #[test]
@@ -121,6 +131,25 @@ fn long_series() {
     let tally = compare::series(&Second, &Library, 46, 12, 6, 400).unwrap();
     assert!(tally.forwarded > 500 && tally.blocked > 200, "{tally:?}");
     assert!(tally.refused[12] > 200 && tally.refused[16] > 100, "{tally:?}");
+    assert!(tally.added_by_modify > 100, "{tally:?}");
+}
+
+#[test]
+fn full_tables() {
+    let tally = compare::full_tables(&Second, &Library, 54, 200, 6, 16).unwrap();
+    assert!(tally.added_by_modify > 50 && tally.full_to_modify > 200, "{tally:?}");
+    assert!(tally.forwarded > 500 && tally.blocked > 50, "{tally:?}");
+}
+
+/// What the library does in each version, told by what it does without one.
+#[test]
+fn versions_as_without_one() {
+    let unversioned = Unversioned(&Library);
+    let of_series = compare::series(&Library, &unversioned, 55, 100, 8, 40).unwrap();
+    assert!(of_series.added_by_modify > 100, "{of_series:?}");
+    let of_full = compare::full_tables(&Library, &unversioned, 56, 200, 6, 16).unwrap();
+    assert!(of_full.full_to_modify > 200, "{of_full:?}");
+    compare::damaged_networks(&Library, &unversioned, 57, 2_000, 6).unwrap();
 }
 
 #[test]

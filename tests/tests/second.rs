@@ -22,6 +22,7 @@ use wegbaro_tests::records::{
     add, delete, in_version, link, miss, output, rule, set, widths, Record, ANY, VERSIONS,
 };
 use wegbaro_tests::second::{program, Second};
+use wegbaro_tests::unversioned::Unversioned;
 use wegbaro_tests::winding::{longest, looping, winding};
 use worthless::buckets::{BucketVice, Spilling, BUCKET_VICES};
 use worthless::groups::{GroupVice, Lax, GROUP_VICES};
@@ -811,6 +812,15 @@ fn comparisons_notice_every_vice_of_versions() {
         let found = versions_against(&Outdated(Some(vice)));
         assert!(found.is_err(), "{vice:?}");
     }
+}
+
+/// What the gate does in each version, told by what it does without one.
+#[test]
+fn versions_as_without_one() {
+    let unversioned = Unversioned(&Second);
+    assert_eq!(versions_against(&unversioned), Ok(()));
+    let tally = compare::crowded_networks(&Second, &unversioned, 43, 20, 5).unwrap();
+    assert!(tally.refused[13] > 0, "{tally:?}");
 }
 
 #[test]
