@@ -9,7 +9,7 @@ use wegbaro_tests::gate::{Checked, Gate, MOST_RECORDS, RECORD, STORE};
 use wegbaro_tests::library::Library;
 use wegbaro_tests::networks::{largest, largest_with, nested_groups, work_needed, LARGEST};
 use wegbaro_tests::random::Random;
-use wegbaro_tests::records::{add, delete, modify, run as run_group, Record};
+use wegbaro_tests::records::{add, delete, in_version, modify, run as run_group, Record};
 use wegbaro_tests::winding::winding;
 
 /// Starts and ends of routes at N = 10: loops, any two states, and the ends of the winding route.
@@ -68,12 +68,20 @@ fn longest() -> Vec<Record> {
     long.records.into_iter().chain(policies).collect()
 }
 
-/// A network's records, then commands of every kind on its first and its last rule.
-fn input(network: &[Record]) -> Vec<u8> {
+/// A network, and commands of every kind on its first and its last rule.
+fn with_commands(network: Vec<Record>) -> (Vec<Record>, Vec<Record>) {
     let rules: Vec<Record> = network.iter().copied().filter(|record| record[0] == 4).collect();
     let commands =
         [rules[0], rules[rules.len() - 1]].map(|rule| [add(rule), modify(rule), delete(rule)]);
-    [network.concat(), commands.concat().concat()].concat()
+    (network, commands.concat())
+}
+
+/// The network in version 1 without its last rule, and the modify that adds it.
+fn with_adding_modify(network: &[Record]) -> (Vec<Record>, Vec<Record>) {
+    let mut fewer = in_version(network, 1);
+    let last = fewer.iter().rposition(|record| record[0] == 4).unwrap();
+    let rule = fewer.remove(last);
+    (fewer, vec![modify(rule)])
 }
 
 /// Whether no row refuses a network.
@@ -106,9 +114,10 @@ fn within_the_bound() {
     let networks = (0..8).map(chained).chain((0..4).map(|_| largest(&mut random)));
     let mut most = [0, 0, 0];
     let networks = networks.inspect(|network| assert_eq!(network.len(), MOST_RECORDS));
-    for network in networks.chain([longest()]) {
+    let inputs = networks.chain([longest()]).map(with_commands);
+    for (network, commands) in inputs.chain([with_adding_modify(&chained(0))]) {
         assert!(is_judged(&network));
-        fs::write(&file, input(&network)).unwrap();
+        fs::write(&file, [network, commands].concat().concat()).unwrap();
         let lines = printed(meter.stdin(File::open(&file).unwrap()));
         for line in lines.lines() {
             let (what, bytes) = line.split_once(' ').unwrap();

@@ -6,11 +6,12 @@ use wegbaro_tests::gate::{Checked, Commanded, Gate, Routed, STORE};
 use wegbaro_tests::library::Library;
 use wegbaro_tests::networks::{all_widths, guarded_network, random_new_rule, work_needed, Widths};
 use wegbaro_tests::random::Random;
-use wegbaro_tests::records::{add, Record};
+use wegbaro_tests::records::{add, modify, Record};
 
 const THREADS: u64 = 8;
 
-/// The answers to a check, to a few adds and to a route, with the store and the list that they leave.
+/// The answers to a check, to a few commands and to a route, with the store and the list that they
+/// leave.
 #[derive(Debug, PartialEq)]
 struct Answers {
     start: Checked,
@@ -20,14 +21,14 @@ struct Answers {
     list: Vec<u16>,
 }
 
-fn answers(network: &[Record], adds: &[Record], [from, to]: [usize; 2]) -> Answers {
+fn answers(network: &[Record], commands: &[Record], [from, to]: [usize; 2]) -> Answers {
     let mut store = network.concat();
     store.resize(STORE, 0);
     let mut work = vec![0xA5; work_needed(network)];
     let mut n = network.len();
     let start = Library.check(&store, n, &mut work);
     let mut given = vec![];
-    for command in adds {
+    for command in commands {
         let answer = Library.command(&mut store, n, &mut work, command);
         if let Commanded::Forwarded { count } = answer {
             n = count;
@@ -45,10 +46,10 @@ fn all_answers(seed: u64) -> Vec<Answers> {
     let quick = |widths: &Widths| widths.bits() <= 8;
     let judged = |widths: Widths| {
         let network = guarded_network(&mut random, widths);
-        let mut adds = || add(random_new_rule(&mut random, widths, &network));
-        let adds = [adds(), adds(), adds()];
+        let mut absent = || random_new_rule(&mut random, widths, &network);
+        let commands = [add(absent()), modify(absent()), add(absent())];
         let ends = random_ends(&mut random, &network, 1)[0];
-        answers(&network, &adds, ends)
+        answers(&network, &commands, ends)
     };
     all_widths().into_iter().filter(quick).map(judged).collect()
 }
