@@ -91,8 +91,8 @@ pub fn random_command(random: &mut Random, records: &[Record]) -> Vec<u8> {
     command(random, records, wish)
 }
 
-/// A random command against a table that is almost full: mostly one that wants room for a rule, as a
-/// modify in version 1 does.
+/// A random command against a table that is almost full: mostly one that wants room for a rule, as
+/// a modify in version 1 does.
 pub fn filling_command(random: &mut Random, records: &[Record]) -> Vec<u8> {
     let wish = match random.below(12) {
         0 => Wish::Malformed(random.pick(&FAULTS)),

@@ -124,8 +124,8 @@ pub fn guarded_network(random: &mut Random, of: Widths) -> Vec<Record> {
     records
 }
 
-/// A guarded network whose table is full, or has room for one or two rules. It is filled with rules for
-/// what arrives at port 0, which never act.
+/// A guarded network whose table is full, or has room for one or two rules. It is filled with rules
+/// for what arrives at port 0, which never act.
 pub fn full_network(random: &mut Random, of: Widths) -> Vec<Record> {
     let mut records = guarded_network(random, of);
     let behind = records.iter().filter(|record| record[0] <= 4).count();

@@ -2,8 +2,8 @@
 
 use crate::gate::{Checked, Commanded, Gate, Routed};
 
-/// A gate that is never shown a version. Version 4 is as none, and in version 1 a modify is an add:
-/// where its rule is there, an add leaves what the modify would, and elsewhere it is what is asked for.
+/// A gate that is never shown a version: 4 reads as none, and in version 1 a modify is given as an
+/// add. That leaves the same records, whether or not the rule is there.
 pub struct Unversioned<'a>(pub &'a dyn Gate);
 
 /// Takes version 1 or 4 out of a store, and tells it. Other bytes stay, to be refused.

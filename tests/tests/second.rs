@@ -797,7 +797,7 @@ fn comparisons_notice_every_vice_of_groups_but_a_full_table() {
     }
 }
 
-/// The first error of a gate in series, with room in the table and without, and in damaged networks.
+/// The first error of a gate in series, with room in the table or not, and in damaged networks.
 fn versions_against(gate: &dyn Gate) -> Result<(), String> {
     compare::series(&Second, gate, 37, 20, 5, 16)?;
     compare::full_tables(&Second, gate, 38, 40, 5, 16)?;

@@ -372,9 +372,9 @@ pub fn checks_in_each() -> Vec<CheckCase> {
     unnamed.flat_map(in_each).collect()
 }
 
-/// Every command case without a version, in version 4 and in version 1: the answer is the same, but for
-/// a modify without its rule in version 1. There each add is given as a modify too, which must do what
-/// the add does, whether or not its rule is there.
+/// Every command case without a version, in versions 4 and 1: the answer is the same, but for a
+/// modify without its rule in version 1. There each add is given as a modify too, which must do
+/// what the add does, whether or not its rule is there.
 pub fn commands_in_each() -> Vec<CommandCase> {
     let mut cases = vec![];
     for case in all_commands().iter().filter(|case| is_unnamed(&case.lent)) {
