@@ -208,7 +208,7 @@ fn names_absent(store: &[u8], n: usize, given: &[u8]) -> bool
     !rows::groups::actions_there(&there, given)
 }
 
-// A modify of a new rule acts as an add.
+// In this version a modify of a new rule acts as an add.
 fn modify_adds(version: Version) -> bool
     ensures { λ r. ⌜ r ≡ isAdd (modifyAs version false) ⌝ }
 {
@@ -218,7 +218,7 @@ fn modify_adds(version: Version) -> bool
     }
 }
 
-// A command of this kind, of a new rule, acts as an add.
+// A command of this kind acts as an add if its rule is new.
 fn adds_new(version: Version, kind: u8) -> bool
     ensures { λ r. ⌜ r ≡ isAdd (actsAs version false (commandKind kind)) ⌝ }
 {
@@ -229,7 +229,7 @@ fn adds_new(version: Version, kind: u8) -> bool
     }
 }
 
-// Admission 13: add of a new rule with 256 present.
+// Admission 13: add of a new rule with 256 present, or what acts as one.
 fn is_full(version: Version, store: &[u8], n: usize, rules: usize, given: &[u8]) -> bool
     requires { ⌜ (n * 24 ≤ length (now store)) × (length (now given) ≡ 24) × (rules ≡ length (ofKind 4 (records n (now store)))) ⌝ }
     requires { ⌜ version ≡ versionOf (records n (now store)) ⌝ }
