@@ -4,8 +4,7 @@ use mathlib.Core.List.{List}
 use Prim.Native.Nat.{ℕ}
 use lib.ListN.{length}
 use Rattle.records.specs.Record.{Net}
-use Rattle.records.specs.Version.{versionOf}
-use Rattle.commands.specs.Apply.{applied}
+use Rattle.commands.specs.Apply.{wouldLeave}
 use Rattle.calls.specs.Answer.{CommandAnswer}
 use Rattle.calls.specs.Reference.{Installed, network, outcomeOf, commandWork}
 
@@ -36,7 +35,7 @@ pub record Promised (c : Call) : Type 0 where
 
 -- the network that a call's command would leave
 abbrev pub left : Call → Net
-left c = let net = network (startOf c) in applied (versionOf net) (c .given) net
+left c = wouldLeave (c .given) (network (startOf c))
 
 -- the call was refused by no row
 abbrev pub NotRefused : Call → Type 0

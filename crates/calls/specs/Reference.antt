@@ -3,14 +3,13 @@ use mathlib.Core.List.{List, [], _∷_, _++_}
 use Prim.Native.Nat.{ℕ, _-_}
 use lib.ListN.{length, drop, replicate}
 use Rattle.records.specs.Record.{Rec, Net, storeBytes, records, flat}
-use Rattle.records.specs.Version.{versionOf}
 use Rattle.records.specs.NetK.{inStore}
 use Rattle.rows.specs.Rows.{workNeeded}
 use Rattle.rows.specs.Refusal.{commandRefusal}
 use Rattle.verdict.specs.Verdict.{Verdict, holds, violated}
 use Rattle.verdict.specs.Judgement.{verdict}
 use Rattle.calls.specs.Answer.{CommandAnswer, forwarded, blocked}
-use Rattle.commands.specs.Apply.{applied}
+use Rattle.commands.specs.Apply.{wouldLeave}
 use Rattle.calls.specs.Check.{unless, cleared}
 
 -- a count and the store's bytes
@@ -44,10 +43,10 @@ unfoldable pub judged : Installed → Net → Verdict → Outcome
 judged i net holds = let bytes = stored net (i .bytes) in record { answer = forwarded (length net); after = record { count = length net; bytes = bytes } }
 judged i net (violated p x) = unchanged i (blocked p x)
 
--- one command: refused by the first row, or else judged by the whole network that it would leave, in the version that the first record gives
+-- one command: refused by the first row, or else judged by the whole network that it would leave
 unfoldable pub outcomeOf : Installed → Rec → ℕ → Outcome
 outcomeOf i c work =
-    let net = applied (versionOf (network i)) c (network i) in
+    let net = wouldLeave c (network i) in
     let outcome = judged i net (verdict net) in
     unless (commandRefusal (i .bytes) (i .count) work c) (λ number place. unchanged i (CommandAnswer.refused number place)) outcome
 

@@ -10,7 +10,7 @@ use Rattle.records.specs.Widths.{widthsOf}
 use Rattle.rows.specs.Rows.{row12, row13, row16Command}
 use Rattle.records.specs.Fields.{commandGood}
 use Rattle.rows.specs.Refusal.{commandRow}
-use Rattle.rows.specs.FullTable.{addsNew, by-new}
+use Rattle.rows.specs.FullTable.{addsNew, row-13}
 
 module _ (net : Net) (c : Rec) where
   pub wrong-length : (length c ≡ 24 → ⊥) → row12 net c ≡ true
@@ -30,13 +30,13 @@ module _ (net : Net) (c : Rec) where
   by-fields l h k = rw (eq-eqb _ _ l, le-ltb _ _ h, le-ltb _ _ k)
 
   pub no-add : addsNew net c ≡ false → row13 net c ≡ false
-  no-add h = by-new net c ∙ rw h
+  no-add h = row-13 net c ∙ rw h
 
   pub not-full : length (ofKind 4 net) < 256 → row13 net c ≡ false
-  not-full h = by-new net c ∙ rw (lt-leb _ _ h, and-false, and-false)
+  not-full h = row-13 net c ∙ rw (lt-leb _ _ h, and-false, and-false)
 
   pub when-full : addsNew net c ≡ true → 256 ≤ length (ofKind 4 net) → row13 net c ≡ not (present c net)
-  when-full e h = by-new net c ∙ rw (e, le-leb _ _ h, and-true)
+  when-full e h = row-13 net c ∙ rw (e, le-leb _ _ h, and-true)
 
   pub refused-12 : row12 net c ≡ true → some (12, 0) ≡ commandRow net c
   unfolding commandRow

@@ -4,7 +4,7 @@ use mathlib.Core.List.{[], _∷_, _++_}
 use lib.Dec.{ltb}
 use lib.ListN.{take, drop}
 use Rattle.records.specs.Record.{Rec, Net, kind, CommandKind, kAdd, kModify, kDelete, kNoCommand, sameRule, present}
-use Rattle.records.specs.Version.{acting}
+use Rattle.records.specs.Version.{versionOf, acting}
 use Rattle.records.specs.declared.Version.{Version}
 
 -- the rule of a command, stored as kind 4
@@ -41,6 +41,10 @@ appliedAs kModify c net = changed (withActions c) c net
 appliedAs kDelete c net = removed c net
 appliedAs kNoCommand c net = net
 
--- the network that a command would leave, in the version of the switches
+-- a command applied, in a version
 unfoldable pub applied : Version → Rec → Net → Net
 applied v c net = appliedAs (acting v c net) c net
+
+-- the network that a command would leave, in the version that the first record gives
+abbrev pub wouldLeave : Rec → Net → Net
+wouldLeave c net = applied (versionOf net) c net

@@ -13,4 +13,5 @@ pub mod Search
 pub mod NetK
 pub mod RuleA
 pub mod PatternTable
+pub mod VersionTable
 pub mod Laws

@@ -1,9 +1,9 @@
 -- The wire version of a network's switches, and what a command acts as in each.
 use mathlib.Core.Bool.{Bool, true, false, cond, _||_}
-use mathlib.Core.List.{[]}
+use mathlib.Core.List.{[], _∷_}
 use Prim.Native.Nat.{ℕ}
 use lib.Dec.{eqb}
-use lib.ListN.{getD}
+use lib.ListN.{getD, drop}
 use Rattle.records.specs.Record.{Rec, Net, at, kind, CommandKind, kAdd, kModify, kDelete, kNoCommand, commandKind, present}
 use Rattle.records.specs.declared.Version.{Version}
 use Rattle.records.specs.declared.Version.the-variants.{OpenFlow10, OpenFlow13}
@@ -12,7 +12,7 @@ use Rattle.records.specs.declared.Version.the-variants.{OpenFlow10, Open
 unfoldable pub versionGood : ℕ → Bool
 versionGood b = eqb b 0 || eqb b 1 || eqb b 4
 
--- the version that it names: 1 is OpenFlow 1.0, 4 is OpenFlow 1.3, and 0 reads as 4
+-- the version that it names: 1 is OpenFlow 1.0, 4 is OpenFlow 1.3, and 0 reads as 4; so would any other byte, which is a field fault
 unfoldable pub versionNamed : ℕ → Version
 versionNamed b = cond (eqb b 1) OpenFlow10 OpenFlow13
 
@@ -42,3 +42,7 @@ isAdd kAdd = true
 isAdd kModify = false
 isAdd kDelete = false
 isAdd kNoCommand = false
+
+-- the add with a command's bytes
+unfoldable pub asAdd : Rec → Rec
+asAdd c = 6 ∷ drop 1 c

@@ -13,8 +13,7 @@ use Rattle.records.specs.NetK.{record24, K, inStore}
 use Rattle.steps.specs.Step.{next, Step}
 use Rattle.truth.specs.Computed.{truth}
 use Rattle.verdict.specs.Computed.{tableOf}
-use Rattle.records.specs.declared.Version.the-variants.{OpenFlow13}
-use Rattle.commands.specs.Apply.{applied}
+use Rattle.commands.specs.Apply.{wouldLeave}
 use Rattle.calls.specs.Answer.{CheckAnswer, forwarded, refused}
 use Rattle.calls.specs.Check.{checkAnswer}
 use Rattle.calls.specs.Reference.{installedAtStart, outcomeOf}
@@ -36,21 +35,21 @@ returning = modifyB (1 ∷ 3 ∷ 0 ∷ 0 ∷ [])
 -- with IN_PORT it does, and over the link to state 4; then IN_PORT with a value, with a care, twice, and with a SET behind it as the last action: in a command, and in a file, where rule B is record 5
 bounce :
     commanded (outcomeOf (installedAtStart K) flooding 2048 .answer)
-    ∷ listed (next (applied OpenFlow13 flooding K) 10)
-    ∷ listed (next (applied OpenFlow13 flooding K) 11)
-    ∷ listed (let reaches = truth (tableOf (applied OpenFlow13 flooding K)) (TC (R X Y) X Y) in those 32 0 (λ t. reaches 2 t))
+    ∷ listed (next (wouldLeave flooding K) 10)
+    ∷ listed (next (wouldLeave flooding K) 11)
+    ∷ listed (let reaches = truth (tableOf (wouldLeave flooding K)) (TC (R X Y) X Y) in those 32 0 (λ t. reaches 2 t))
     ∷ commanded (outcomeOf (installedAtStart K) returning 2048 .answer)
-    ∷ listed (next (applied OpenFlow13 returning K) 10)
-    ∷ listed (next (applied OpenFlow13 returning K) 11)
-    ∷ listed (let reaches = truth (tableOf (applied OpenFlow13 returning K)) (TC (R X Y) X Y) in those 32 0 (λ t. reaches 2 t))
+    ∷ listed (next (wouldLeave returning K) 10)
+    ∷ listed (next (wouldLeave returning K) 11)
+    ∷ listed (let reaches = truth (tableOf (wouldLeave returning K)) (TC (R X Y) X Y) in those 32 0 (λ t. reaches 2 t))
     ∷ commanded (outcomeOf (installedAtStart K) (modifyB (1 ∷ 3 ∷ 1 ∷ 0 ∷ [])) 2048 .answer)
     ∷ commanded (outcomeOf (installedAtStart K) (modifyB (1 ∷ 3 ∷ 0 ∷ 1 ∷ [])) 2048 .answer)
     ∷ commanded (outcomeOf (installedAtStart K) (modifyB (2 ∷ 3 ∷ 0 ∷ 0 ∷ 3 ∷ 0 ∷ 0 ∷ [])) 2048 .answer)
     ∷ commanded (outcomeOf (installedAtStart K) (modifyB (2 ∷ 3 ∷ 0 ∷ 0 ∷ 2 ∷ 0 ∷ 1 ∷ [])) 2048 .answer)
-    ∷ checked (checkAnswer (inStore (applied OpenFlow13 (modifyB (1 ∷ 3 ∷ 1 ∷ 0 ∷ [])) K)) 20 2048)
-    ∷ checked (checkAnswer (inStore (applied OpenFlow13 (modifyB (1 ∷ 3 ∷ 0 ∷ 1 ∷ [])) K)) 20 2048)
-    ∷ checked (checkAnswer (inStore (applied OpenFlow13 (modifyB (2 ∷ 3 ∷ 0 ∷ 0 ∷ 3 ∷ 0 ∷ 0 ∷ [])) K)) 20 2048)
-    ∷ checked (checkAnswer (inStore (applied OpenFlow13 (modifyB (2 ∷ 3 ∷ 0 ∷ 0 ∷ 2 ∷ 0 ∷ 1 ∷ [])) K)) 20 2048)
+    ∷ checked (checkAnswer (inStore (wouldLeave (modifyB (1 ∷ 3 ∷ 1 ∷ 0 ∷ [])) K)) 20 2048)
+    ∷ checked (checkAnswer (inStore (wouldLeave (modifyB (1 ∷ 3 ∷ 0 ∷ 1 ∷ [])) K)) 20 2048)
+    ∷ checked (checkAnswer (inStore (wouldLeave (modifyB (2 ∷ 3 ∷ 0 ∷ 0 ∷ 3 ∷ 0 ∷ 0 ∷ [])) K)) 20 2048)
+    ∷ checked (checkAnswer (inStore (wouldLeave (modifyB (2 ∷ 3 ∷ 0 ∷ 0 ∷ 2 ∷ 0 ∷ 1 ∷ [])) K)) 20 2048)
     ∷ []
     ≡ commanded (forwarded 20)
     ∷ listed (28 ∷ [])
@@ -78,11 +77,11 @@ unfolding member any
 only t n = (λ m. eqb-true t n (sym (or-false (eqb t n)) ∙ m), λ e. or-false (eqb t n) ∙ eq-eqb t n e)
 
 -- with stars state 10, which arrives at (switch 1, port 1), steps to 28 alone, which departs at port 2
-flooded-steps : (t : ℕ) → Step (applied OpenFlow13 flooding K) 10 t ↔ t ≡ 28
+flooded-steps : (t : ℕ) → Step (wouldLeave flooding K) 10 t ↔ t ≡ 28
 unfolding Step computing modifyB flooding
 flooded-steps t = only t 28
 
 -- with IN_PORT it steps to 26 alone, which departs at port 1
-returned-steps : (t : ℕ) → Step (applied OpenFlow13 returning K) 10 t ↔ t ≡ 26
+returned-steps : (t : ℕ) → Step (wouldLeave returning K) 10 t ↔ t ≡ 26
 unfolding Step computing modifyB returning
 returned-steps t = only t 26

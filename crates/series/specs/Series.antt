@@ -4,10 +4,9 @@ use mathlib.Core.List.{List, [], _∷_, map}
 use Prim.Native.Nat.{ℕ}
 use lib.ListN.{length}
 use Rattle.records.specs.Record.{Rec, Net}
-use Rattle.records.specs.Version.{versionOf}
 use Rattle.verdict.specs.Verdict.{Holds, Lowest}
 use Rattle.calls.specs.Answer.{CheckAnswer, CommandAnswer, forwarded, blocked}
-use Rattle.commands.specs.Apply.{applied}
+use Rattle.commands.specs.Apply.{wouldLeave}
 use Rattle.calls.specs.Check.{checkAnswer}
 use Rattle.calls.specs.Reference.{Installed, network, answers, installed}
 use Rattle.calls.specs.Command.{left, NotRefused, Call, startOf, Promised}
@@ -35,7 +34,7 @@ fed c = (c .given, length (c .work))
 
 -- a command applied if it was forwarded
 abbrev pub ifForwarded : CommandAnswer → Rec → Net → Net
-ifForwarded (CommandAnswer.forwarded m) c net = applied (versionOf net) c net
+ifForwarded (CommandAnswer.forwarded m) c net = wouldLeave c net
 ifForwarded (CommandAnswer.blocked p x) c net = net
 ifForwarded (CommandAnswer.refused k p) c net = net
 

@@ -26,8 +26,7 @@ use Rattle.verdict.specs.Computed.{firstFrom, lowestState, verdictFrom, tableOf
 use Rattle.verdict.specs.Judgement.{judgement, verdict, verdict-meant}
 use Rattle.truth.specs.Laws.Tables.{all-iff}
 use Rattle.calls.specs.Answer.{CheckAnswer, CommandAnswer, forwarded, blocked}
-use Rattle.records.specs.declared.Version.the-variants.{OpenFlow13}
-use Rattle.commands.specs.Apply.{asRule, withActions, changed, inserted, removed, added, applied}
+use Rattle.commands.specs.Apply.{asRule, withActions, changed, inserted, removed, added, applied, wouldLeave}
 use Rattle.calls.specs.Check.{checkAnswer}
 use Rattle.calls.specs.Reference.{installedAtStart, outcomeOf, judged, stored}
 use Rattle.records.specs.NetK.{record24, node, A, B, policy0, K, inStore, addAny, addZero, addSet, addDrop, deleteAbsent, addD, deleteD}
@@ -40,7 +39,7 @@ computing = tt
 
 -- the network with the first add's rule and D in the file
 unfoldable pub KD : Net
-KD = applied OpenFlow13 addD (applied OpenFlow13 addAny K)
+KD = wouldLeave addD (wouldLeave addAny K)
 
 -- the states below 32 that pass a test
 unfoldable pub those : ℕ → ℕ → (ℕ → Bool) → List ℕ
@@ -83,14 +82,14 @@ starred = refl
 -- the verdicts behind the first eight cases
 verdicts :
     map verdict
-    (K ∷ applied OpenFlow13 addAny K ∷ applied OpenFlow13 addZero K ∷ applied OpenFlow13 addSet K ∷ applied OpenFlow13 addDrop K ∷ applied OpenFlow13 deleteAbsent K ∷ KD ∷ applied OpenFlow13 deleteD KD ∷ [])
+    (K ∷ wouldLeave addAny K ∷ wouldLeave addZero K ∷ wouldLeave addSet K ∷ wouldLeave addDrop K ∷ wouldLeave deleteAbsent K ∷ KD ∷ wouldLeave deleteD KD ∷ [])
     ≡ holds ∷ violated 0 3 ∷ holds ∷ violated 0 2 ∷ holds ∷ holds ∷ holds ∷ violated 0 3 ∷ []
 unfolding computing KD
 verdicts = refl
 
 -- the verdict at a place of that table is the one that is meant
 at-place : (i : ℕ) (net : Net) (v : Verdict)
-    → verdict net ≡ getD (map verdict (K ∷ applied OpenFlow13 addAny K ∷ applied OpenFlow13 addZero K ∷ applied OpenFlow13 addSet K ∷ applied OpenFlow13 addDrop K ∷ applied OpenFlow13 deleteAbsent K ∷ KD ∷ applied OpenFlow13 deleteD KD ∷ [])) i holds
+    → verdict net ≡ getD (map verdict (K ∷ wouldLeave addAny K ∷ wouldLeave addZero K ∷ wouldLeave addSet K ∷ wouldLeave addDrop K ∷ wouldLeave deleteAbsent K ∷ KD ∷ wouldLeave deleteD KD ∷ [])) i holds
     → getD (holds ∷ violated 0 3 ∷ holds ∷ violated 0 2 ∷ holds ∷ holds ∷ holds ∷ violated 0 3 ∷ []) i holds ≡ v
     → Is net v
 at-place i net v e f = subst (Is net) (e ∙ ap (λ (l : List Verdict). getD l i holds) verdicts ∙ f) (verdict-meant net)
@@ -98,26 +97,26 @@ at-place i net v e f = subst (Is net) (e ∙ ap (λ (l : List Verdict). getD l i
 K-holds : Holds K
 K-holds = at-place 0 K holds refl refl
 
-first-add : Lowest (applied OpenFlow13 addAny K) 0 3
-first-add = at-place 1 (applied OpenFlow13 addAny K) (violated 0 3) refl refl
+first-add : Lowest (wouldLeave addAny K) 0 3
+first-add = at-place 1 (wouldLeave addAny K) (violated 0 3) refl refl
 
-second-add : Holds (applied OpenFlow13 addZero K)
-second-add = at-place 2 (applied OpenFlow13 addZero K) holds refl refl
+second-add : Holds (wouldLeave addZero K)
+second-add = at-place 2 (wouldLeave addZero K) holds refl refl
 
-add-with-set : Lowest (applied OpenFlow13 addSet K) 0 2
-add-with-set = at-place 3 (applied OpenFlow13 addSet K) (violated 0 2) refl refl
+add-with-set : Lowest (wouldLeave addSet K) 0 2
+add-with-set = at-place 3 (wouldLeave addSet K) (violated 0 2) refl refl
 
-add-with-A's-match : Holds (applied OpenFlow13 addDrop K)
-add-with-A's-match = at-place 4 (applied OpenFlow13 addDrop K) holds refl refl
+add-with-A's-match : Holds (wouldLeave addDrop K)
+add-with-A's-match = at-place 4 (wouldLeave addDrop K) holds refl refl
 
-delete-of-absent : Holds (applied OpenFlow13 deleteAbsent K)
-delete-of-absent = at-place 5 (applied OpenFlow13 deleteAbsent K) holds refl refl
+delete-of-absent : Holds (wouldLeave deleteAbsent K)
+delete-of-absent = at-place 5 (wouldLeave deleteAbsent K) holds refl refl
 
 with-D : Holds KD
 with-D = at-place 6 KD holds refl refl
 
-delete-D : Lowest (applied OpenFlow13 deleteD KD) 0 3
-delete-D = at-place 7 (applied OpenFlow13 deleteD KD) (violated 0 3) refl refl
+delete-D : Lowest (wouldLeave deleteD KD) 0 3
+delete-D = at-place 7 (wouldLeave deleteD KD) (violated 0 3) refl refl
 
 count-K : states (widthsOf K) ≡ 32
 unfolding computing

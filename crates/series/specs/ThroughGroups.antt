@@ -8,8 +8,7 @@ use Rattle.records.specs.NetK.{record24, K, inStore}
 use Rattle.steps.specs.Step.{next}
 use Rattle.truth.specs.Computed.{truth}
 use Rattle.verdict.specs.Computed.{tableOf}
-use Rattle.records.specs.declared.Version.the-variants.{OpenFlow13}
-use Rattle.commands.specs.Apply.{applied}
+use Rattle.commands.specs.Apply.{wouldLeave}
 use Rattle.calls.specs.Answer.{CheckAnswer, CommandAnswer, forwarded, blocked, refused}
 use Rattle.calls.specs.Check.{checkAnswer}
 use Rattle.calls.specs.Reference.{installedAtStart, outcomeOf}
@@ -57,13 +56,13 @@ answered c = outcomeOf (installedAtStart KG) c 2048 .answer
 through-groups :
     checked (checkAnswer (inStore KG) 23 2048)
     ∷ commanded (answered byTwoWays)
-    ∷ listed (next (applied OpenFlow13 byTwoWays KG) 2)
-    ∷ listed (let reaches = truth (tableOf (applied OpenFlow13 byTwoWays KG)) (TC (R X Y) X Y) in those 32 0 (λ t. reaches 2 t))
+    ∷ listed (next (wouldLeave byTwoWays KG) 2)
+    ∷ listed (let reaches = truth (tableOf (wouldLeave byTwoWays KG)) (TC (R X Y) X Y) in those 32 0 (λ t. reaches 2 t))
     ∷ commanded (answered byOnward)
-    ∷ checked (checkAnswer (inStore (applied OpenFlow13 byOnward KG)) 23 2048)
-    ∷ listed (next (applied OpenFlow13 (modifyA (2 ∷ 4 ∷ 2 ∷ 0 ∷ 1 ∷ 0 ∷ 3 ∷ [])) KG) 2)
+    ∷ checked (checkAnswer (inStore (wouldLeave byOnward KG)) 23 2048)
+    ∷ listed (next (wouldLeave (modifyA (2 ∷ 4 ∷ 2 ∷ 0 ∷ 1 ∷ 0 ∷ 3 ∷ [])) KG) 2)
     ∷ commanded (answered byAbsent)
-    ∷ checked (checkAnswer (inStore (applied OpenFlow13 byAbsent KG)) 23 2048)
+    ∷ checked (checkAnswer (inStore (wouldLeave byAbsent KG)) 23 2048)
     ∷ commanded (answered (modifyA (1 ∷ 4 ∷ 16 ∷ 0 ∷ [])))
     ∷ commanded (answered (record24 (6 ∷ 1 ∷ 5 ∷ 0 ∷ 0 ∷ 0 ∷ 0 ∷ 0 ∷ 1 ∷ 4 ∷ 1 ∷ 0 ∷ [])))
     ∷ []

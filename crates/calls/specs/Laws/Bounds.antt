@@ -11,14 +11,13 @@ use lib.Pow.{pow-mono}
 use Rattle.records.specs.Widths.{states, widthsOf}
 use Rattle.rows.specs.Count.{policies-bound, widths-bound}
 use Rattle.records.specs.Record.{Rec, Net, records, mostRecords}
-use Rattle.records.specs.Version.{versionOf}
 use Rattle.rows.specs.Rows.{row1, row2, row3, row4, row5, row6, row7, row8, row9, row10, row11, row12, row13, row16, row16Command, missesIncomplete}
 use Rattle.rows.specs.Refusal.{Refusal, orElse, row, recordRow, fileRow, argumentsRow, networkRow, checkRefusal, commandRow, commandRefusal}
 use Rattle.records.specs.Laws.Records.{length-records}
 use Rattle.verdict.specs.Verdict.{Verdict, holds, violated, Lowest, Is}
 use Rattle.verdict.specs.Judgement.{verdict, verdict-meant}
 use Rattle.calls.specs.Answer.{CheckAnswer, CommandAnswer}
-use Rattle.commands.specs.Apply.{applied}
+use Rattle.commands.specs.Apply.{wouldLeave}
 use Rattle.calls.specs.Check.{unless, ofVerdict, checkAnswer}
 use Rattle.calls.specs.Reference.{Installed, network, unchanged, judged, outcomeOf}
 use Rattle.calls.specs.Laws.Store.{arguments}
@@ -124,10 +123,10 @@ check-small store n work = go (checkRefusal store n work) refl (verdict (records
 pub command-small : (i : Installed) (c : Rec) (work : ℕ) → CommandSmall (outcomeOf i c work .answer)
 unfolding outcomeOf judged
 command-small i c work =
-    go (commandRefusal (i .bytes) (i .count) work c) refl (verdict (applied (versionOf (network i)) c (network i))) (verdict-meant (applied (versionOf (network i)) c (network i)))
+    go (commandRefusal (i .bytes) (i .count) work c) refl (verdict (wouldLeave c (network i))) (verdict-meant (wouldLeave c (network i)))
   where
-    go : (r : Refusal) → commandRefusal (i .bytes) (i .count) work c ≡ r → (v : Verdict) → Is (applied (versionOf (network i)) c (network i)) v
-        → CommandSmall (unless r (λ number place. unchanged i (CommandAnswer.refused number place)) (judged i (applied (versionOf (network i)) c (network i)) v) .answer)
+    go : (r : Refusal) → commandRefusal (i .bytes) (i .count) work c ≡ r → (v : Verdict) → Is (wouldLeave c (network i)) v
+        → CommandSmall (unless r (λ number place. unchanged i (CommandAnswer.refused number place)) (judged i (wouldLeave c (network i)) v) .answer)
     go (some f) e v m = let b = command-within (i .bytes) (i .count) work c .bounds f e in (omega (arith, b .0), omega (arith, b .1))
     go none e holds m = omega (arith, goes-on (i .bytes) (i .count) work c e .few)
-    go none e (violated p x) m = lowest-small (applied (versionOf (network i)) c (network i)) p x (goes-on (i .bytes) (i .count) work c e .passes) m
+    go none e (violated p x) m = lowest-small (wouldLeave c (network i)) p x (goes-on (i .bytes) (i .count) work c e .passes) m

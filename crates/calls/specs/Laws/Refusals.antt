@@ -7,11 +7,10 @@ use mathlib.Core.Option.{none}
 use Prim.Native.Nat.{ℕ, _≤_}
 use native.Mathlib.Omega.{arith}
 use Rattle.records.specs.Record.{Rec, records}
-use Rattle.records.specs.Version.{versionOf}
 use Rattle.rows.specs.Rows.{row11, workNeeded}
 use Rattle.rows.specs.Refusal.{row, fileRow, argumentsRow, networkRow, checkRefusal, commandRow, commandRefusal}
 use Rattle.rows.specs.Laws.Passing.{neither, not-empty}
-use Rattle.commands.specs.Apply.{applied}
+use Rattle.commands.specs.Apply.{wouldLeave}
 use Rattle.commands.specs.NeverStuck.{GoesOn, never-stuck}
 use Rattle.calls.specs.Laws.Store.{Arguments, arguments, installed-whole}
 
@@ -46,7 +45,7 @@ passed store n work c e =
 
 -- so the series goes on with the network that the command would leave
 pub goes-on : (store : List ℕ) (n work : ℕ) (c : Rec) → commandRefusal store n work c ≡ none
-    → GoesOn (records n store) (applied (versionOf (records n store)) c (records n store))
+    → GoesOn (records n store) (wouldLeave c (records n store))
 goes-on store n work c e =
     let p = passed store n work c e in
     never-stuck (records n store) c (installed-whole store n (p .check .arguments)) (not-empty (records n store) (p .check .file)) (p .check .file) (p .command)

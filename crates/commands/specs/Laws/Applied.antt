@@ -1,13 +1,13 @@
--- The effect of a command by its kind: only that of a modify without its rule is another in each version.
-use mathlib.Core.Path.{_≡_, refl}
+-- The effect of a command by its kind: only that of a modify without its rule differs between the versions.
+use mathlib.Core.Path.{_≡_, refl, sym, _∙_}
 use mathlib.Core.Bool.{true, false}
 use Prim.Native.Nat.{ℕ, zero, suc}
-use Rattle.records.specs.Record.{Rec, Net, kind, kModify, kNoCommand, commandKind, present}
-use Rattle.records.specs.Version.{modifyAs, acting}
+use Rattle.records.specs.Record.{Rec, Net, kind, kModify, kNoCommand, commandKind, sameRule, present}
+use Rattle.records.specs.Version.{modifyAs, acting, asAdd}
 use Rattle.records.specs.declared.Version.{Version}
 use Rattle.records.specs.declared.Version.the-variants.{OpenFlow10, OpenFlow13}
-use Rattle.commands.specs.Apply.{withActions, changed, inserted, removed, added, applied}
-use Rattle.commands.specs.Laws.RulePlace.{changed-none, added-new}
+use Rattle.commands.specs.Apply.{asRule, withActions, changed, inserted, removed, added, applied}
+use Rattle.commands.specs.Laws.RulePlace.{changed-none, added-new, inserted-by}
 
 module _ (v : Version) (c : Rec) (net : Net) where
   pub applied-add : kind c ≡ 6 → applied v c net ≡ added c net
@@ -31,6 +31,12 @@ module _ (v : Version) (c : Rec) (net : Net) where
 pub modify-adds : (c : Rec) (net : Net) → kind c ≡ 7 → present c net ≡ false → applied OpenFlow10 c net ≡ inserted c net
 unfolding applied acting commandKind
 modify-adds c net e t = rw (e, t) (added-new c net t)
+
+-- as the add with its bytes does
+pub acts-as-add : (c : Rec) (net : Net) → kind c ≡ 7 → present c net ≡ false → applied OpenFlow10 c net ≡ applied OpenFlow10 (asAdd c) net
+unfolding asAdd asRule present sameRule
+acts-as-add c net e t =
+    modify-adds c net e t ∙ inserted-by c (asAdd c) refl net ∙ sym (applied-add OpenFlow10 (asAdd c) net refl ∙ added-new (asAdd c) net t)
 
 -- and changes nothing in 1.3
 pub modify-nothing : (c : Rec) (net : Net) → kind c ≡ 7 → present c net ≡ false → applied OpenFlow13 c net ≡ net

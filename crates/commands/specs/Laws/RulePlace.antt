@@ -63,6 +63,17 @@ pub added-new : (c : Rec) (net : Net) → present c net ≡ false → added c ne
 unfolding added
 added-new c net e = rw (e, added)
 
+-- and what it inserts is the rule alone
+pub inserted-by : (c d : Rec) → asRule c ≡ asRule d → (net : Net) → inserted c net ≡ inserted d net
+unfolding inserted
+inserted-by c d e [] = ap (λ (r : Rec). r ∷ []) e
+inserted-by c d e (r ∷ rest) = go (ltb 4 (kind r)) (inserted-by c d e rest)
+  where
+    go : (b : Bool) → inserted c rest ≡ inserted d rest
+        → _≡_ {A = Net} (elim b [ true ↦ asRule c ∷ r ∷ rest | false ↦ r ∷ inserted c rest ]) (elim b [ true ↦ asRule d ∷ r ∷ rest | false ↦ r ∷ inserted d rest ])
+    go true ih = ap (λ (q : Rec). q ∷ r ∷ rest) e
+    go false ih = ap (λ (l : Net). r ∷ l) ih
+
 -- the place of a new rule: before the first record of a higher kind
 pub record Place (c : Rec) (net : Net) : Type 0 where
   pub front : Net

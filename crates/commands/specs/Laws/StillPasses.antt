@@ -2,9 +2,8 @@
 use mathlib.Core.Path.{_≡_, refl, sym, ap, subst, subst₂, _∙_}
 use mathlib.Core.Bool.{Bool, true, false}
 use mathlib.Core.List.{[], _∷_, _++_}
-use mathlib.Core.Logic.{_⊎_}
 use mathlib.Core.Option.{none}
-use Prim.Native.Nat.{ℕ, _-_, _<_}
+use Prim.Native.Nat.{_-_, _<_}
 use native.Mathlib.Omega.{arith}
 use lib.ListN.{length, length-append}
 use Rattle.planes.specs.Laws.Tests.{or-none}
@@ -19,9 +18,9 @@ use Rattle.records.specs.Laws.Records.{Whole, whole-parts}
 use Rattle.records.specs.Laws.Kinds.{kinds-append, widths-append, present-append}
 use Rattle.rows.specs.Laws.Passing.{not-empty}
 use Rattle.rows.specs.Laws.Edits.{matchOf, present-match, PassesStill, stands, rule-replaced, rule-removed, some-front, rule-inserted}
-use Rattle.commands.specs.Apply.{asRule, withActions, changed, inserted, removed, added, appliedAs, applied}
+use Rattle.commands.specs.Apply.{asRule, withActions, changed, inserted, removed, added, appliedAs, applied, wouldLeave}
 use Rattle.commands.specs.Laws.RulePlace.{RuleIn, rule-in, changed-none, removed-none, Place, place}
-use Rattle.commands.specs.Laws.StoredRule.{Command, add-or-modify, same-rule, as-rule-kind, as-rule-match, as-rule-bytes, as-rule-good, as-rule-there, with-actions-bytes, with-actions-kind, with-actions-match, with-actions-good, with-actions-there}
+use Rattle.commands.specs.Laws.StoredRule.{Command, AddOrModify, isDelete, add-or-modify, same-rule, as-rule-kind, as-rule-match, as-rule-bytes, as-rule-good, as-rule-there, with-actions-bytes, with-actions-kind, with-actions-match, with-actions-good, with-actions-there}
 
 module _ (net : Net) (c : Rec) (whole : Whole net) (e : fileRow [] net ≡ none) (cmd : Command net c) where
   -- nothing changed
@@ -53,12 +52,12 @@ module _ (net : Net) (c : Rec) (whole : Whole net) (e : fileRow [] net ≡ none)
         (subst (λ (w : Widths). fieldsGood w (g (f .rule)) ≡ true) widths-there good)
         (subst (λ (n : Net). groupsThere n (g (f .rule)) ≡ true) (f .parts) there))
 
-    replaced-kept : (kind c ≡ 6) ⊎ (kind c ≡ 7) → PassesStill net (changed (λ r. asRule c) c net)
+    replaced-kept : AddOrModify c → PassesStill net (changed (λ r. asRule c) c net)
     replaced-kept q =
         changed-kept (λ r. asRule c) (as-rule-kind c) (as-rule-bytes c (cmd .bytes)) (as-rule-match c ∙ same-rule c (f .rule) (f .same) .1)
         (as-rule-good (widthsOf net) c (cmd .bytes) q (cmd .good)) (as-rule-there net c (cmd .there))
 
-    modified-kept : (kind c ≡ 6) ⊎ (kind c ≡ 7) → PassesStill net (changed (withActions c) c net)
+    modified-kept : AddOrModify c → PassesStill net (changed (withActions c) c net)
     modified-kept q =
         let l = whole-parts (f .front) (f .rule ∷ f .back) whole-there .1 .0 in
         let b = cmd .bytes in
@@ -71,7 +70,7 @@ module _ (net : Net) (c : Rec) (whole : Whole net) (e : fileRow [] net ≡ none)
     removed-kept = subst₂ PassesStill (sym (f .parts)) (sym (f .removed-is)) (rule-removed (f .front) (f .rule) (f .back) rule-kind whole-there passes-there)
 
   -- a new rule inserted
-  inserted-kept : (kind c ≡ 6) ⊎ (kind c ≡ 7) → length (ofKind 4 net) < mostRules → present c net ≡ false → Place c net → PassesStill net (inserted c net)
+  inserted-kept : AddOrModify c → length (ofKind 4 net) < mostRules → present c net ≡ false → Place c net → PassesStill net (inserted c net)
   inserted-kept q room absent p =
       let w : Whole (p .front ++ p .back) = subst Whole (p .parts) whole in
       let passes : fileRow [] (p .front ++ p .back) ≡ none = subst (λ (n : Net). fileRow [] n ≡ none) (p .parts) e in
@@ -86,7 +85,7 @@ module _ (net : Net) (c : Rec) (whole : Whole net) (e : fileRow [] net ≡ none)
       (present-match (asRule c) c (p .front) (as-rule-match c) ∙ none-there) (omega (arith, count, room))
       (subst (λ (n : Net). groupsThere n (asRule c) ≡ true) (p .parts) (as-rule-there net c (cmd .there))))
 
-  added-kept : (kind c ≡ 6) ⊎ (kind c ≡ 7) → (present c net ≡ false → length (ofKind 4 net) < mostRules) → PassesStill net (added c net)
+  added-kept : AddOrModify c → (present c net ≡ false → length (ofKind 4 net) < mostRules) → PassesStill net (added c net)
   unfolding added
   added-kept q room = go (present c net) refl
     where
@@ -94,7 +93,7 @@ module _ (net : Net) (c : Rec) (whole : Whole net) (e : fileRow [] net ≡ none)
       go true t = replaced-kept (rule-in c net t) q
       go false t = inserted-kept q (room t) t (place c net)
 
-  modify-kept : (kind c ≡ 6) ⊎ (kind c ≡ 7) → PassesStill net (changed (withActions c) c net)
+  modify-kept : AddOrModify c → PassesStill net (changed (withActions c) c net)
   modify-kept q = go (present c net) refl
     where
       go : (b : Bool) → present c net ≡ b → PassesStill net (changed (withActions c) c net)
@@ -110,13 +109,11 @@ module _ (net : Net) (c : Rec) (whole : Whole net) (e : fileRow [] net ≡ none)
 
   -- by what it acts as
   kept-as : (k : CommandKind) → acting (versionOf net) c net ≡ k → PassesStill net (appliedAs k c net)
-  kept-as kAdd e =
-      added-kept (add-or-modify (versionOf net) c net kAdd e (λ q. let z : _≡_ {A = ℕ} 0 1 = cc in omega arith) (cmd .least) (cmd .most)) (cmd .room (ap isAdd e))
-  kept-as kModify e =
-      modify-kept (add-or-modify (versionOf net) c net kModify e (λ q. let z : _≡_ {A = ℕ} 0 1 = cc in omega arith) (cmd .least) (cmd .most))
-  kept-as kDelete e = delete-kept
-  kept-as kNoCommand e = unchanged net refl
+  kept-as kAdd q = added-kept (add-or-modify (versionOf net) c net (ap isDelete q) (cmd .least) (cmd .most)) (cmd .room (ap isAdd q))
+  kept-as kModify q = modify-kept (add-or-modify (versionOf net) c net (ap isDelete q) (cmd .least) (cmd .most))
+  kept-as kDelete q = delete-kept
+  kept-as kNoCommand q = unchanged net refl
 
-  pub applied-kept : PassesStill net (applied (versionOf net) c net)
+  pub applied-kept : PassesStill net (wouldLeave c net)
   unfolding applied
   applied-kept = kept-as (acting (versionOf net) c net) refl

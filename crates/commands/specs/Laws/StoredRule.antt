@@ -1,6 +1,6 @@
 -- The record that a command stores: a rule with its match, good fields and groups that are there, where rows 12, 16 and 13 passed the command.
 use mathlib.Core.Path.{_≡_, refl, sym, ap, _∙_}
-use mathlib.Core.Bool.{true, false, not, _&&_}
+use mathlib.Core.Bool.{Bool, true, false, not, _&&_, false≢true}
 use mathlib.Core.List.{List, [], _∷_, _++_}
 use mathlib.Core.Logic.{_⊎_, inl, inr}
 use mathlib.Core.Option.{none}
@@ -13,7 +13,7 @@ use lib.ListN.{length, getD, take, drop, length-append, length-drop}
 use lib.Seq.{length-take-le, take-all, take-at, drop-at, drop-drop, getD-take, getD-drop}
 use Rattle.planes.specs.Laws.Tests.{both, and-both, or-none}
 use Rattle.records.specs.Lists.{all, from}
-use Rattle.records.specs.Record.{Rec, Net, mostRules, at, kind, CommandKind, kDelete, commandKind, ofKind, sameRule, present}
+use Rattle.records.specs.Record.{Rec, Net, mostRules, at, kind, CommandKind, kAdd, kModify, kDelete, kNoCommand, commandKind, ofKind, sameRule, present}
 use Rattle.records.specs.Group.{runsThere, actionsThere, groupsThere}
 use Rattle.records.specs.Widths.{widthsOf}
 use Rattle.records.specs.Version.{versionOf, acting, isAdd}
@@ -71,8 +71,12 @@ command net c e =
       room = λ q absent. leb-false _ _ (and-test _ _ (not-met (row13 net c) 13 0 (u .1)) (and-both (isAdd (acting (versionOf net) c net)) (not (present c net)) q (rw absent)));
     }
 
--- a command's fields, where it is no delete
-change-good : (w : Widths) (c : Rec) → (kind c ≡ 6) ⊎ (kind c ≡ 7) → commandGood w c ≡ true → (matchGood w c ≡ true) × (actionsGood w c ≡ true) × (zeros 21 23 c ≡ true)
+-- a command that brings actions: an add or a modify
+abbrev pub AddOrModify : Rec → Type 0
+AddOrModify c = (kind c ≡ 6) ⊎ (kind c ≡ 7)
+
+-- and its fields
+change-good : (w : Widths) (c : Rec) → AddOrModify c → commandGood w c ≡ true → (matchGood w c ≡ true) × (actionsGood w c ≡ true) × (zeros 21 23 c ≡ true)
 change-good w c q e =
     let t = both (matchGood w c) (actionsGood w c && zeros 21 23 c) (sym (change-fields w c q) ∙ e) in
     let u = both (actionsGood w c) (zeros 21 23 c) (t .1) in
@@ -85,10 +89,17 @@ six-or-seven {k} l h n = go (ℕ-discrete k 6)
     go (yes e) = inl e
     go (no e) = inr (omega (arith, e, n))
 
--- what acts on a rule and does not delete it is an add or a modify
-pub add-or-modify : (v : Version) (c : Rec) (net : Net) (k : CommandKind) → acting v c net ≡ k → (k ≡ kDelete → ⊥) → 6 ≤ kind c → kind c ≤ 8 → (kind c ≡ 6) ⊎ (kind c ≡ 7)
+-- a command that deletes
+abbrev pub isDelete : CommandKind → Bool
+isDelete kAdd = false
+isDelete kModify = false
+isDelete kDelete = true
+isDelete kNoCommand = false
+
+-- what acts as no delete is an add or a modify
+pub add-or-modify : (v : Version) (c : Rec) (net : Net) → isDelete (acting v c net) ≡ false → 6 ≤ kind c → kind c ≤ 8 → AddOrModify c
 unfolding acting commandKind
-add-or-modify v c net k e n l h = six-or-seven l h (λ q. n (sym e ∙ rw q))
+add-or-modify v c net e l h = six-or-seven l h (λ q. false≢true (sym e ∙ rw q))
 
 -- a command that row 12 passes names groups that have bits
 pub command-named : (net : Net) (c : Rec) → Limits (widthsOf net) → row12 net c ≡ false → ActionsNamed c
@@ -133,7 +144,7 @@ as-rule-bytes c l = omega (arith, length-drop 1 c)
 all-good : (w : Widths) (r : Rec) → kind r ≡ 4 → matchGood w r ≡ true → actionsGood w r ≡ true → zeros 21 23 r ≡ true → fieldsGood w r ≡ true
 all-good w r q m a z = rule-fields w r q ∙ rw (m, a, z)
 
-pub as-rule-good : (w : Widths) (c : Rec) → length c ≡ 24 → (kind c ≡ 6) ⊎ (kind c ≡ 7) → commandGood w c ≡ true → fieldsGood w (asRule c) ≡ true
+pub as-rule-good : (w : Widths) (c : Rec) → length c ≡ 24 → AddOrModify c → commandGood w c ≡ true → fieldsGood w (asRule c) ≡ true
 unfolding asRule matchGood actionsGood actionGood zeros
 as-rule-good w [] l q e = absurd (omega arith)
 as-rule-good w (x ∷ c) l q e = let t = change-good w (x ∷ c) q e in all-good w (asRule (x ∷ c)) refl (t .0) (t .1) (t .2)
@@ -214,7 +225,7 @@ module _ (c r : Rec) (lc : length c ≡ 24) (lr : length r ≡ 24) where
   zeros-same =
       ap (all (eqb 0)) (ap (drop 21) (take-all 24 (withActions c r) (omega (arith, with-actions-bytes))) ∙ from-21 ∙ ap (drop 21) (sym (take-all 24 r (omega (arith, lr)))))
 
-  pub with-actions-good : (w : Widths) → (kind c ≡ 6) ⊎ (kind c ≡ 7) → kind r ≡ 4 → commandGood w c ≡ true → fieldsGood w r ≡ true → fieldsGood w (withActions c r) ≡ true
+  pub with-actions-good : (w : Widths) → AddOrModify c → kind r ≡ 4 → commandGood w c ≡ true → fieldsGood w r ≡ true → fieldsGood w (withActions c r) ≡ true
   with-actions-good w q k good e =
       let t = both (matchGood w r && actionsGood w r) (zeros 21 23 r) (sym (rule-fields w r k) ∙ e) in
       all-good w (withActions c r) (with-actions-kind ∙ k)

@@ -6,13 +6,12 @@ use Prim.Native.Nat.{ℕ}
 use native.Mathlib.Omega.{arith}
 use lib.ListN.{length}
 use Rattle.records.specs.Record.{Rec, Net}
-use Rattle.records.specs.Version.{versionOf}
 use Rattle.rows.specs.Refusal.{Refusal, checkRefusal, commandRefusal}
 use Rattle.records.specs.Laws.Records.{Whole}
 use Rattle.verdict.specs.Verdict.{Verdict, holds, violated, Holds, Is}
 use Rattle.verdict.specs.Judgement.{verdict, verdict-meant, only}
 use Rattle.calls.specs.Answer.{CheckAnswer, CommandAnswer, forwarded, blocked}
-use Rattle.commands.specs.Apply.{applied}
+use Rattle.commands.specs.Apply.{wouldLeave}
 use Rattle.calls.specs.Check.{unless, ofVerdict, checkAnswer}
 use Rattle.calls.specs.Reference.{Installed, network, Outcome, judged, outcomeOf, answers, installed}
 use Rattle.calls.specs.Command.{Call, startOf, Promised, left, NotRefused}
@@ -36,7 +35,7 @@ said-holds i s =
 
 module _ (i : Installed) (c : Rec) (work : ℕ) where
   abbrev net : Net
-  net = applied (versionOf (network i)) c (network i)
+  net = wouldLeave c (network i)
 
   -- the outcome, by whether it is refused and by its verdict
   abbrev outcome : Refusal → Verdict → Outcome
