@@ -130,7 +130,7 @@ fn modify_absent(version: Version, next: &mut [u8], store: &[u8], n: usize, give
     }
 }
 
-// Modify: replaces the action count and actions of the same rule.
+// Modify: replaces the action count and actions of the same rule, or else goes by the version.
 fn modify(version: Version, next: &mut [u8], store: &[u8], n: usize, given: &[u8]) -> usize
     requires { ⌜ BufferRoom (now next) (now store) n (length (applied version (now given) (records n (now store)))) ⌝ }
     requires { ⌜ (length (now given) ≡ 24) × (kind (now given) ≡ 7) ⌝ }

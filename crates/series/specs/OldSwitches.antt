@@ -28,7 +28,7 @@ unfoldable leavesIn : ℕ × Rec → Installed
 leavesIn c = outcomeOf (installedAtStart (inVersion (c .0) K)) (c .1) 2048 .after
 
 -- a modify with the second add's bytes, in versions 1, 4 and 0, which reads as 4, and in version 2; with the first add's, by which header 1 leaves, in versions 1 and 4;
--- of rule A, which is there, to OUTPUT 0; and of what is absent a delete
+-- of rule A, which is there, to OUTPUT 0, in versions 1 and 4; and a delete of an absent rule in version 1
 old-switches :
     map answeredIn
     ((1, asModify addZero) ∷ (4, asModify addZero) ∷ (0, asModify addZero) ∷ (2, asModify addZero)
