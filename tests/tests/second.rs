@@ -25,7 +25,7 @@ use wegbaro_tests::second::{program, Second};
 use wegbaro_tests::unversioned::Unversioned;
 use wegbaro_tests::winding::{longest, looping, winding};
 use worthless::buckets::{BucketVice, Spilling, BUCKET_VICES};
-use worthless::groups::{GroupVice, Lax, GROUP_VICES};
+use worthless::groups::{Lax, GROUP_VICES};
 use worthless::routes::{Astray, ROUTE_VICES};
 use worthless::steps::{Misled, StepVice, STEP_VICES};
 use worthless::versions::{Outdated, VERSION_VICES};
@@ -783,16 +783,17 @@ fn comparisons_notice_every_vice_of_buckets() {
     }
 }
 
-/// The first error of a gate in damaged and in crowded networks.
+/// The first error of a gate in damaged and in crowded networks, and in series on full tables.
 fn groups_against(gate: &dyn Gate) -> Result<(), String> {
     compare::damaged_networks(&Second, gate, 35, 6_000, 5)?;
     compare::crowded_networks(&Second, gate, 36, 40, 5)?;
+    compare::full_tables(&Second, gate, 46, 40, 5, 16)?;
     Ok(())
 }
 
 #[test]
-fn comparisons_notice_every_vice_of_groups_but_a_full_table() {
-    for vice in GROUP_VICES.into_iter().filter(|vice| *vice != GroupVice::LooksForRoomFirst) {
+fn comparisons_notice_every_vice_of_groups() {
+    for vice in GROUP_VICES {
         assert!(groups_against(&Lax(vice)).is_err(), "{vice:?}");
     }
 }
