@@ -29,7 +29,7 @@ use worthless::groups::{Lax, GROUP_VICES};
 use worthless::routes::{Astray, ROUTE_VICES};
 use worthless::steps::{Misled, StepVice, STEP_VICES};
 use worthless::versions::{Outdated, VERSION_VICES};
-use worthless::{Vice, Worthless, VICES};
+use worthless::{Worthless, VICES};
 
 /// Fails with every error, one per line.
 fn expect_all(results: impl IntoIterator<Item = Result<(), String>>) {
@@ -732,14 +732,15 @@ fn comparisons_against(gate: &dyn Gate) -> Result<(), String> {
     compare::series(&Second, gate, 21, 40, 5, 16)?;
     compare::damaged_networks(&Second, gate, 22, 60, 5)?;
     compare::sound_networks(&Second, gate, 23, 1, SMALL)?;
+    compare::full_tables(&Second, gate, 47, 4, 5, 16)?;
     Ok(())
 }
 
 const SMALL: Sizes = Sizes { links: 4, rules: 4, policies: 1, nodes: 4, groups: 4 };
 
 #[test]
-fn comparisons_notice_every_vice_but_a_full_table() {
-    for vice in VICES.into_iter().filter(|vice| *vice != Vice::SaysFullEarly) {
+fn comparisons_notice_every_vice() {
+    for vice in VICES {
         let found = comparisons_against(&Worthless::new(vice));
         assert!(found.is_err(), "{vice:?}");
     }
