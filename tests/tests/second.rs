@@ -361,10 +361,10 @@ fn play(lent: &mut Lent, given: &[u8]) -> bool {
 /// Networks of at most two links, since all paths are tried.
 #[test]
 fn routes_are_the_best_of_all_paths() {
-    let mut random = Random::new(49);
+    let mut random = Random::new(18);
     let few = Sizes { links: 2, rules: 8, policies: 1, nodes: 3, groups: 4 };
     let (mut found, mut longest, mut none) = (0, 0, 0);
-    for of in compare::widths_up_to(5).into_iter().cycle().take(80) {
+    for of in compare::widths_up_to(5).into_iter().cycle().take(400) {
         let records = random_network(&mut random, of, few);
         let mut lent = lend(&mut random, &records);
         for start in 0..1 << of.bits() {
