@@ -5,7 +5,7 @@ use std::path::Path;
 use std::process::Command;
 use wegbaro_tests::build::{printed, root, run, Folder, STRICT};
 use wegbaro_tests::formulas::{all, and, bit, not, or, policy, r, some, tc, Node, X, Y};
-use wegbaro_tests::gate::{Checked, Gate, MOST_RECORDS, RECORD, STORE};
+use wegbaro_tests::gate::{Checked, Commanded, Gate, MOST_RECORDS, RECORD, STORE};
 use wegbaro_tests::library::Library;
 use wegbaro_tests::networks::{largest, largest_with, nested_groups, work_needed, LARGEST};
 use wegbaro_tests::random::Random;
@@ -80,8 +80,20 @@ fn with_commands(network: Vec<Record>) -> (Vec<Record>, Vec<Record>) {
 fn with_adding_modify(network: &[Record]) -> (Vec<Record>, Vec<Record>) {
     let mut fewer = in_version(network, 1);
     let last = fewer.iter().rposition(|record| record[0] == 4).unwrap();
-    let rule = fewer.remove(last);
-    (fewer, vec![modify(rule)])
+    let given = modify(fewer.remove(last));
+    assert!(adds(&fewer, &given));
+    (fewer, vec![given])
+}
+
+/// Whether a command adds a rule. The policies are left out: some of the chains are broken whatever
+/// the rules are, and a blocked command does not show what it would leave.
+fn adds(network: &[Record], given: &Record) -> bool {
+    let mut free = network.to_vec();
+    free.retain(|record| record[0] != 5);
+    let mut store = free.concat();
+    store.resize(STORE, 0);
+    let answer = Library.command(&mut store, free.len(), &mut vec![0; work_needed(&free)], given);
+    answer == Commanded::Forwarded { count: free.len() + 1 }
 }
 
 /// Whether no row refuses a network.
