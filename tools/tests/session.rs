@@ -9,7 +9,7 @@ use std::sync::mpsc::{channel, Receiver};
 use std::thread;
 use std::time::Duration;
 use wegbaro_tests::k::{first_add, k, k_with_d, second_add};
-use wegbaro_tests::records::Record;
+use wegbaro_tests::records::in_version;
 
 /// How long an answer may take.
 const PATIENCE: Duration = Duration::from_secs(20);
@@ -97,17 +97,10 @@ fn a_line_and_its_answer() {
     assert_eq!(session.end(), (Some(1), String::new()));
 }
 
-/// K with a version.
-fn versioned_k(version: u8) -> Vec<Record> {
-    let mut records = k();
-    records[0][4] = version;
-    records
-}
-
 /// In OpenFlow 1.0 a modify without its rule adds it, and is judged as an add.
 #[test]
 fn a_modify_that_adds() {
-    let mut session = Session::new(&[&file("adds", &versioned_k(1).concat())]);
+    let mut session = Session::new(&[&file("adds", &in_version(&k(), 1).concat())]);
     assert_eq!(session.line(), "start: the network holds, no policy is broken");
     let first = session.ask(b"modify 0 priority 5: output 2\n");
     let blocked =
@@ -143,7 +136,7 @@ fn a_modify_that_adds() {
 #[test]
 fn a_modify_that_changes_nothing() {
     for version in [0, 4] {
-        let file = file("changes-nothing", &versioned_k(version).concat());
+        let file = file("changes-nothing", &in_version(&k(), version).concat());
         let mut session = Session::new(&["--gate", &file]);
         assert_eq!(session.line(), "start holds");
         assert_eq!(session.ask(b"modify 0 priority 5: output 2\n"), "1 forwarded 20");
