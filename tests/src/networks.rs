@@ -5,8 +5,8 @@ use crate::formulas::{
 };
 use crate::random::Random;
 use crate::records::{
-    group, groups_at, link, miss, output, rule, run, same_rule, set, to_group, to_port, widths,
-    Action, Bucket, Pattern, Record, ANY, IN_PORT,
+    group, groups_at, in_version, link, miss, output, rule, run, same_rule, set, to_group, to_port,
+    widths, Action, Bucket, Pattern, Record, ANY, IN_PORT,
 };
 use std::collections::BTreeSet;
 
@@ -139,6 +139,14 @@ pub fn full_network(random: &mut Random, of: Widths) -> Vec<Record> {
             missing -= 1;
         }
     }
+    records
+}
+
+/// One switch of a version that drops everything, with the most rules, of priorities 0 to 255.
+pub fn full_switch(version: u8) -> Vec<Record> {
+    let drop = [output(0, 3)];
+    let mut records = in_version(&[widths(1, 2, 0), miss(0, &drop)], version);
+    records.extend((0..256).map(|priority| rule(0, priority, ANY, ANY, &drop)));
     records
 }
 

@@ -10,6 +10,7 @@ use wegbaro_tests::formulas::{external, policy, r, tc, X, Y};
 use wegbaro_tests::inputs::random_input;
 use wegbaro_tests::k::{first_add, k, k_set, k_with_d, second_add};
 use wegbaro_tests::library;
+use wegbaro_tests::networks::full_switch;
 use wegbaro_tests::random::Random;
 use wegbaro_tests::records::{add, link, miss, output, rule, widths, with, Record, ANY, IN_PORT};
 
@@ -572,8 +573,7 @@ fn answers_about_another_file() {
 /// A command with a rule that is there, and one to a full table.
 #[test]
 fn a_full_table() {
-    let mut full = vec![widths(1, 2, 0), miss(0, &[output(0, 3)])];
-    full.extend((0..256).map(|priority| rule(0, priority, ANY, ANY, &[output(0, 3)])));
+    let mut full = full_switch(0);
     full.push(add(rule(0, 0, ANY, ANY, &[output(1, 3)])));
     full.push(add(rule(0, 256, ANY, ANY, &[output(0, 3)])));
     let ran = wegbaro(&["run", "-"], &full.concat());

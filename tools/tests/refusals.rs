@@ -8,6 +8,7 @@ use running::{expect, wegbaro};
 use wegbaro::Refusal;
 use wegbaro_tests::formulas::{and, bit, external, not, policy, r, some, tc, Node, X, Y};
 use wegbaro_tests::k::{k, k_set};
+use wegbaro_tests::networks::full_switch;
 use wegbaro_tests::records::{add, link, miss, modify, output, record, rule, set, widths, with};
 use wegbaro_tests::records::{Action, Record, ANY, IN_PORT};
 use wegbaro_tools::book::Book;
@@ -441,14 +442,6 @@ fn row_12() {
     refused_command(12, with(with(add, 0, 7), 23, 5), "byte 23 is 5, and must be zero");
 }
 
-/// One switch with 256 rules, of priorities 0 to 255.
-fn full(version: u8) -> Vec<Record> {
-    let mut full = one();
-    full[0] = with(full[0], 4, version);
-    full.extend((0..256).map(|priority| rule(0, priority, ANY, ANY, &[output(0, 3)])));
-    full
-}
-
 /// The line of a command to a network in words.
 fn told(network: &[Record], command: Record) -> String {
     let ran = wegbaro(&["run", "-"], &[network, &[command]].concat().concat());
@@ -464,7 +457,7 @@ fn row_13() {
     let modify_words = format!("{add_words}: in OpenFlow 1.0 a modify without its rule adds it");
     let judged = ": forwarded, the network then has 258 records";
     for version in [0, 1, 4] {
-        let full = full(version);
+        let full = full_switch(version);
         let ends = |command: Record, words: &str| {
             let line = told(&full, command);
             assert!(line.ends_with(words), "version {version}: {line}");

@@ -5,7 +5,9 @@ use wegbaro::{Checked, Commanded, Gate, Record, Refusal, Routed};
 use wegbaro::{MOST_LIST_ENTRIES, MOST_WORK_BYTES, STORE_BYTES};
 use wegbaro_tests::formulas::{external, policy, tc, X};
 use wegbaro_tests::k::{delete_d, first_add, k, k_set, k_with_d, second_add};
-use wegbaro_tests::networks::{all_widths, crowded, random_network, work_needed, MODEST};
+use wegbaro_tests::networks::{
+    all_widths, crowded, full_switch, random_network, work_needed, MODEST,
+};
 use wegbaro_tests::random::Random;
 use wegbaro_tests::records::{add, miss, modify, output, record, rule, widths, with, ANY};
 
@@ -63,13 +65,6 @@ fn routes_of_a_gate() {
     assert_eq!(violated.route(3, 29), Ok(Some(vec![3, 21, 11, 29])));
 }
 
-/// A network of a version that has as many rules as there may be, of priorities 0 to 255.
-fn full(version: u8) -> Vec<Record> {
-    let mut full = vec![with(widths(1, 2, 0), 4, version), miss(0, &[output(0, 3)])];
-    full.extend((0..256).map(|priority| rule(0, priority, ANY, ANY, &[output(0, 3)])));
-    full
-}
-
 /// Each row that can refuse a gate's network or command.
 #[test]
 fn refusals() {
@@ -89,7 +84,7 @@ fn refusals() {
 
     assert_eq!(refused(&k_set(&[(4, 9, 4), (4, 11, 0)])), Some((16, 4)));
 
-    let full = full(0);
+    let full = full_switch(0);
     let new = add(rule(0, 256, ANY, ANY, &[output(0, 3)]));
     let answer = Gate::new(&full).unwrap().command(&new);
     assert_eq!(answer, Err(Refusal { row: 13, place: 0 }));
@@ -119,7 +114,7 @@ fn versions() {
     assert_eq!(gate.command(&dropping), Ok(Commanded::Forwarded { count: 21 }));
     assert_eq!(gate.records(), [&old[..6], &[with(added, 10, 0)], &old[6..]].concat());
 
-    let mut gate = Gate::new(&full(1)).unwrap();
+    let mut gate = Gate::new(&full_switch(1)).unwrap();
     let sent = |priority| modify(rule(0, priority, ANY, ANY, &[output(1, 3)]));
     assert_eq!(gate.command(&sent(256)), Err(Refusal { row: 13, place: 0 }));
     assert_eq!(gate.command(&sent(255)), Ok(Commanded::Forwarded { count: 258 }));
