@@ -12,7 +12,8 @@ use wegbaro_tests::gate::{Checked, Gate as _};
 use wegbaro_tests::networks::{all_widths, crowded, guarded_network, random_network};
 use wegbaro_tests::networks::{work_needed, Sizes, Widths, MODEST};
 use wegbaro_tests::random::Random;
-use wegbaro_tests::records::{delete, miss, modify, output, record, rule, widths, with, ANY};
+use wegbaro_tests::records::{delete, miss, modify, output, record, rule, widths, with};
+use wegbaro_tests::records::{ANY, VERSIONS};
 use wegbaro_tests::second::{self, Second};
 use wegbaro_tools::book::Book;
 use wegbaro_tools::causes::{command_cause, network_cause};
@@ -324,7 +325,7 @@ fn the_book_goes_with_the_gate() {
     let [mut forwarded, mut blocked, mut added] = [0, 0, 0];
     for round in 0..60 {
         let mut records = guarded_network(&mut random, SMALL);
-        records[0][4] = [0, 1, 4][round % 3];
+        records[0][4] = VERSIONS[round % VERSIONS.len()];
         let mut gate = Gate::new(&records).unwrap();
         let mut book = Book::new(&records, &[]);
         for number in 1..60 {

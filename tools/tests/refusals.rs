@@ -10,7 +10,7 @@ use wegbaro_tests::formulas::{and, bit, external, not, policy, r, some, tc, Node
 use wegbaro_tests::k::{k, k_set};
 use wegbaro_tests::networks::full_switch;
 use wegbaro_tests::records::{add, link, miss, modify, output, record, rule, set, widths, with};
-use wegbaro_tests::records::{Action, Record, ANY, IN_PORT};
+use wegbaro_tests::records::{Action, Record, ANY, IN_PORT, VERSIONS};
 use wegbaro_tools::book::Book;
 use wegbaro_tools::source::Source;
 use wegbaro_tools::words::{Answer, Form, Teller};
@@ -86,20 +86,20 @@ fn row_4() {
 }
 
 /// What a version must be.
-const VERSIONS: &str = "must be 1 (OpenFlow 1.0) or 4 (OpenFlow 1.3; 0 reads as 4)";
+const VERSION_MUST_BE: &str = "must be 1 (OpenFlow 1.0) or 4 (OpenFlow 1.3; 0 reads as 4)";
 
 /// A faulty version of a text can only be given by bytes.
 #[test]
 fn row_5_of_a_version() {
     let text = format!("# an old ward\nbytes 01 01 02 00 02{}\n", " 00".repeat(19));
-    let cause = format!("the version is 2, and {VERSIONS}");
+    let cause = format!("the version is 2, and {VERSION_MUST_BE}");
     refused_text(&text, &format!("5, {cause}, at record 0 (widths), line 2"));
     let object = format!(
         r#"{{"subject":"start","answer":"refused","row":5,"place":0,"cause":"{cause}","line":2}}"#
     );
     expect(&["check", "--json", "-"], text.as_bytes(), 1, &format!("{object}\n"));
     let sound = |version| [with(widths(1, 2, 0), 4, version), miss(0, &[output(0, 3)])].concat();
-    for version in [0, 1, 4] {
+    for version in VERSIONS {
         expect(&["check", "--gate", "-"], &sound(version), 0, "start holds\n");
     }
 }
@@ -110,7 +110,7 @@ fn row_5_in_widths_links_and_matches() {
         k_refused(&[(0, byte, value)], &format!("5, {words}, at record 0 (widths)"));
     };
     for version in [2, 3, 5, 255] {
-        widths(4, version, &format!("the version is {version}, and {VERSIONS}"));
+        widths(4, version, &format!("the version is {version}, and {VERSION_MUST_BE}"));
     }
     widths(5, 1, "byte 5 is 1, and must be zero");
     widths(23, 1, "byte 23 is 1, and must be zero");
@@ -456,7 +456,7 @@ fn row_13() {
     let add_words = ": refused: row 13, 256 rules are there, and this one is new";
     let modify_words = format!("{add_words}: in OpenFlow 1.0 a modify without its rule adds it");
     let judged = ": forwarded, the network then has 258 records";
-    for version in [0, 1, 4] {
+    for version in VERSIONS {
         let full = full_switch(version);
         let ends = |command: Record, words: &str| {
             let line = told(&full, command);

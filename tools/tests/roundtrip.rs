@@ -12,7 +12,7 @@ use wegbaro_tests::networks::{
 };
 use wegbaro_tests::random::Random;
 use wegbaro_tests::records::{add, miss, modify, output, rule, set, widths, with};
-use wegbaro_tests::records::{Action, ANY, IN_PORT};
+use wegbaro_tests::records::{Action, ANY, IN_PORT, VERSIONS};
 use wegbaro_tools::parse::parse;
 use wegbaro_tools::print::print;
 
@@ -41,7 +41,7 @@ fn well_formed_networks_and_commands_of_every_width() {
                 _ => random_network(&mut random, of, MODEST),
             };
             let mut bytes = records.concat();
-            bytes[4] = random.pick(&[0, 1, 4]);
+            bytes[4] = random.pick(&VERSIONS);
             for wish in SOUND {
                 bytes.extend(command(&mut random, &records, wish));
             }
