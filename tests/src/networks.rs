@@ -79,7 +79,7 @@ pub const MOST_GROUPS: usize = 16;
 /// Sizes for networks that are judged quickly.
 pub const MODEST: Sizes = Sizes { links: 6, rules: 12, policies: 3, nodes: 20, groups: 6 };
 
-/// Gives a network one of the versions, every other time 1.0.
+/// Gives a network one of the versions, one time in two 1.0.
 fn put_random_version(random: &mut Random, records: &mut [Record]) {
     let new = random.pick(&[0, 4]);
     records[0][4] = random.pick(&[1, new]);
