@@ -99,7 +99,8 @@ pub fn check(store: &[u8], n: usize, work: &mut [u8]) -> Result<Checked, Refusal
 ///
 /// An add of a rule that is there replaces it. A delete of a rule that is not there changes nothing.
 /// A modify of one adds it in version 1 (OpenFlow 1.0), and changes nothing in version 4 (1.3); the
-/// version is byte 4 of the widths record, and 0 reads as 4.
+/// version is byte 4 of the widths record, and 0 reads as 4. A command that changes nothing is judged
+/// like any other.
 ///
 /// A forwarded command leaves the new records in the store, then zeros to byte 15,768. Otherwise the
 /// store is untouched. Start with records that [`check`] said hold, and from then on give the count
