@@ -4,9 +4,9 @@ use std::fs;
 use std::path::{Path, PathBuf};
 use wegbaro_tests::build::root;
 
-/// Every document of the project: those at the root, in docs/ and in tools/.
+/// Every document of the project: those at the root, in docs/, in docs/landings/ and in tools/.
 fn documents() -> Vec<PathBuf> {
-    let folders = [root(), root().join("docs"), root().join("tools")];
+    let folders = ["", "docs", "docs/landings", "tools"].map(|folder| root().join(folder));
     let files = folders.iter().flat_map(|folder| fs::read_dir(folder).unwrap());
     let paths = files.map(|file| file.unwrap().path());
     paths.filter(|path| path.extension().is_some_and(|end| end == "md")).collect()
@@ -61,9 +61,14 @@ fn is_prose(line: &str) -> bool {
 
 #[test]
 fn prose_is_under_100_characters() {
-    for name in ["README.md", "CHANGELOG.md", "docs/FORMAT.md"] {
-        let text = fs::read_to_string(root().join(name)).unwrap();
-        let wide = |line: &&str| is_prose(line) && line.chars().count() >= 100;
-        assert_eq!(text.lines().find(wide), None, "{name}");
+    let mut wide = vec![];
+    for document in documents() {
+        let text = fs::read_to_string(&document).unwrap();
+        for (number, line) in (1..).zip(text.lines()) {
+            if is_prose(line) && line.chars().count() >= 100 {
+                wide.push(format!("{}:{number}: {line}", document.display()));
+            }
+        }
     }
+    assert!(wide.is_empty(), "{}", wide.join("\n"));
 }
