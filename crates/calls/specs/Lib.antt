@@ -3,5 +3,6 @@ pub mod Answer
 pub mod Check
 pub mod Reference
 pub mod Command
+pub mod AsAdd
 pub mod Bytes
 pub mod Laws
