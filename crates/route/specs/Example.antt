@@ -17,7 +17,7 @@ use Rattle.records.specs.NetK.{record24, node, A, B, policy0, K}
 use Rattle.rows.specs.Rows.{row1}
 use Rattle.rows.specs.Refusal.{argumentsRow, checkRefusal}
 use Rattle.actions.specs.Computing.{sending}
-use Rattle.steps.specs.Step.{across, next, Step, external}
+use Rattle.steps.specs.Step.{across, nextBy, next, Step, external}
 use Rattle.truth.specs.Computed.{anyBelow}
 use Rattle.verdict.specs.Computed.{tableOf, firstFrom}
 use Rattle.route.specs.Computed.{isAway, isOnward, fartherAt, distances, nextState, onward, routeBy, routeOf, tabledRoute}
@@ -26,7 +26,7 @@ use Rattle.route.specs.InNet.{RouteIn, IsIn, routedFrom, routed, route, 
 
 -- all that the examples compute with
 unfoldable computing : Unit {0}
-unfolding flatMap gridTest tab member endsAt linked states headerOf portOf switchOf directionOf record24 node A B policy0 K sending across next external tableOf anyBelow firstFrom isAway isOnward fartherAt distances nextState onward routeBy routeOf tabledRoute routedFrom routed route decLt
+unfolding flatMap gridTest tab member endsAt linked states headerOf portOf switchOf directionOf record24 node A B policy0 K sending across nextBy next external tableOf anyBelow firstFrom isAway isOnward fartherAt distances nextState onward routeBy routeOf tabledRoute routedFrom routed route decLt
 computing = tt
 
 -- from 2 to 28 by way of 20 and 10; from 28 to 2 there is none

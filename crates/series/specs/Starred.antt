@@ -18,7 +18,7 @@ use Rattle.records.specs.State.{headerOf, portOf, switchOf, directionOf}
 use Rattle.records.specs.Policy.{X, Y, R, TC, formula, forbidden}
 use Rattle.rows.specs.Computing.{refusing}
 use Rattle.actions.specs.Computing.{sending}
-use Rattle.steps.specs.Step.{across, next, Step, external}
+use Rattle.steps.specs.Step.{across, nextBy, next, Step, external}
 use Rattle.truth.specs.Truth.{Truth}
 use Rattle.verdict.specs.Verdict.{Verdict, holds, violated, Holds, Lowest, Is}
 use Rattle.truth.specs.Computed.{anyBelow, allBelow, truth}
@@ -34,7 +34,7 @@ use Rattle.verdict.specs.Laws.Tabled.{truth-iff}
 
 -- all that a starred case computes with
 unfoldable pub computing : Unit {0}
-unfolding flatMap gridTest orLine addLine round rounds tab grid closed member flat headerOf portOf switchOf directionOf forbidden refusing sending across next external tableOf anyBelow allBelow truth firstFrom lowestState verdictFrom judgement verdict asRule withActions changed inserted removed added applied checkAnswer outcomeOf judged stored record24 node A B policy0 K inStore addAny addZero addSet addDrop deleteAbsent addD deleteD
+unfolding flatMap gridTest orLine addLine round rounds tab grid closed member flat headerOf portOf switchOf directionOf forbidden refusing sending across nextBy next external tableOf anyBelow allBelow truth firstFrom lowestState verdictFrom judgement verdict asRule withActions changed inserted removed added applied checkAnswer outcomeOf judged stored record24 node A B policy0 K inStore addAny addZero addSet addDrop deleteAbsent addD deleteD
 computing = tt
 
 -- the network with the first add's rule and D in the file

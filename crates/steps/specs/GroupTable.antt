@@ -9,7 +9,7 @@ use Rattle.rows.specs.Refusal.{fileRow}
 use Rattle.rows.specs.Computing.{refusing}
 use Rattle.actions.specs.Computing.{sending}
 use Rattle.actions.specs.GroupWards.{missPair, missUplink, fanOut, lowered, raised, echoed, pair, fan, otherPair, uplink, groupWards}
-use Rattle.steps.specs.Step.{across, next}
+use Rattle.steps.specs.Step.{across, nextBy, next}
 
 -- no row refuses the network
 passes : fileRow [] groupWards ≡ none
@@ -40,5 +40,5 @@ table :
     ∷ [] ∷ [] ∷ [] ∷ []
     ∷ [] ∷ [] ∷ [] ∷ []
     ∷ []
-unfolding flatMap headerOf portOf switchOf directionOf sending across next record24 missPair missUplink fanOut lowered raised echoed pair fan otherPair uplink groupWards
+unfolding flatMap headerOf portOf switchOf directionOf sending across nextBy next record24 missPair missUplink fanOut lowered raised echoed pair fan otherPair uplink groupWards
 table = refl

@@ -18,18 +18,24 @@ across sw p (l ∷ links) =
     cond (eqb (at l 1) sw && eqb (at l 2) p) ((at l 3, at l 4) ∷ []) []
     ++ (cond (eqb (at l 3) sw && eqb (at l 4) p) ((at l 1, at l 2) ∷ []) [] ++ across sw p links)
 
--- the states that a state steps to
-unfoldable pub next : Net → ℕ → List ℕ
-next net s =
+-- the arrival that a state is, where its direction is 0
+abbrev pub arrivalOf : Net → ℕ → Arrival
+arrivalOf net s = let w = widthsOf net in record { switch = switchOf w s; port = portOf w s; header = headerOf w s }
+
+-- the states that a state steps to, where these records act on it if it arrives
+unfoldable pub nextBy : Net → Net → ℕ → List ℕ
+nextBy net acts s =
     let w = widthsOf net in
     let sw = switchOf w s in
     let p = portOf w s in
-    let h = headerOf w s in
-    let a : Arrival = record { switch = sw; port = p; header = h } in
     elim (eqb (directionOf w s) 0) [
-      | true ↦ elim (eqb p 0) [ true ↦ [] | false ↦ flatMap (sent net w a) (chosen net a) ]
-      | false ↦ map (λ e. state w 0 (e .0) (e .1) h) (across sw p (ofKind 2 net))
+      | true ↦ elim (eqb p 0) [ true ↦ [] | false ↦ flatMap (sent net w (arrivalOf net s)) acts ]
+      | false ↦ map (λ e. state w 0 (e .0) (e .1) (headerOf w s)) (across sw p (ofKind 2 net))
     ]
+
+-- the states that a state steps to: wherever any of the records that act on it sends it, or a link takes it
+unfoldable pub next : Net → ℕ → List ℕ
+next net s = nextBy net (chosen net (arrivalOf net s)) s
 
 -- s steps to t
 unfoldable pub Step : Net → ℕ → ℕ → Type 0

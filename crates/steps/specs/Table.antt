@@ -9,11 +9,11 @@ use Rattle.rows.specs.Refusal.{fileRow}
 use Rattle.rows.specs.Computing.{refusing}
 use Rattle.actions.specs.Computing.{sending}
 use Rattle.actions.specs.Wards.{flood, shadowed, mirror, equal, rewrite, back, answer, wards}
-use Rattle.steps.specs.Step.{across, next, external}
+use Rattle.steps.specs.Step.{across, nextBy, next, external}
 
 -- all that its steps compute with
 unfoldable stepping : Unit {0}
-unfolding flatMap member headerOf portOf switchOf directionOf refusing sending across next external record24 flood shadowed mirror equal rewrite back answer wards
+unfolding flatMap member headerOf portOf switchOf directionOf refusing sending across nextBy next external record24 flood shadowed mirror equal rewrite back answer wards
 stepping = tt
 
 -- no row refuses the network

@@ -12,7 +12,7 @@ use Rattle.records.specs.declared.Widths.{Widths}
 use Rattle.actions.specs.Chosen.{chosen}
 use Rattle.actions.specs.Actions.{sent}
 use Rattle.actions.specs.ByPlace.{arrival}
-use Rattle.steps.specs.Step.{across, next}
+use Rattle.steps.specs.Step.{across, nextBy, next}
 use Rattle.steps.specs.Relayed.{relayed}
 use Rattle.steps.specs.Carried.{arriving}
 
@@ -25,7 +25,7 @@ module _ (net : Net) (w : Widths) (widths : w ≡ widthsOf net) (s : ℕ) where
   departs v = map (λ (e : ℕ × ℕ). state v 0 (e .0) (e .1) (headerOf v s)) (across (switchOf v s) (portOf v s) (ofKind 2 net))
 
   by-widths : next net s ≡ (elim (eqb (directionOf w s) 0) as (λ x. List ℕ) [ true ↦ arrives w | false ↦ departs w ])
-  unfolding next
+  unfolding nextBy next
   by-widths = ap (λ (v : Widths). elim (eqb (directionOf v s) 0) as (λ x. List ℕ) [ true ↦ arrives v | false ↦ departs v ]) (sym widths)
 
   pub next-arriving : directionOf w s ≡ 0 → next net s ≡ relayed net w (arrival (switchOf w s) (portOf w s) (headerOf w s))
