@@ -1,17 +1,20 @@
--- One pass over the rules, in which a strictly higher rank takes the lead, ends at the record that acts.
-use borrow.Author.Tests.{lt-ltb, le-ltb, ltb-true, ltb-false}
+-- The matching rules that none of them outranks are the rules of the highest rank.
+use borrow.Author.Tests.{lt-ltb, le-ltb, ltb-true, eq-eqb, ne-eqb, eqb-true}
 use mathlib.Core.Path.{_≡_, refl, sym, ap, ap₂, _∙_}
-use mathlib.Core.Bool.{Bool, true, false, cond, _||_}
+use mathlib.Core.Bool.{Bool, true, false, cond, not, _&&_, _||_}
 use mathlib.Core.List.{[], _∷_}
 use mathlib.Core.Logic.{⊎-elim}
 use Prim.Native.Nat.{ℕ, suc, _<_, _≤_}
+use native.Mathlib.Decide.{ℕ-discrete}
 use native.Mathlib.Omega.{arith}
-use lib.Dec.{ltb, leb·suc-suc}
-use Rattle.planes.specs.Laws.Tests.{not-both, or-left, or-right, or-cases, or-none}
+use lib.Dec.{eqb, ltb, leb·suc-suc}
+use Rattle.planes.specs.Laws.Tests.{not-both, or-left, or-right, or-cases}
 use Rattle.records.specs.Lists.{keep, any}
 use Rattle.records.specs.Record.{Rec, Net, priority}
+use Rattle.records.specs.Laws.Lists.{keep-keep}
+use Rattle.records.specs.Laws.Every.{Every, every-more, keep-same, any-fails}
 use Rattle.records.specs.declared.Widths.{Widths}
-use Rattle.actions.specs.Chosen.{Arrival, ruleMatches, outranked, best, orMiss}
+use Rattle.actions.specs.Chosen.{Arrival, ruleMatches, outranked, best}
 use Rattle.actions.specs.ByPlace.{rankOf}
 
 module _ (w : Widths) (a : Arrival) where
@@ -21,38 +24,17 @@ module _ (w : Widths) (a : Arrival) where
   abbrev passes : Rec → Bool
   passes r = ruleMatches w a r
 
-  -- who leads in the end, where b leads with rank k
-  unfoldable pub leader : ℕ → Rec → Net → Rec
-  leader k b [] = b
-  leader k b (r ∷ rs) = cond (ltb k (rankOf w a r)) (leader (rankOf w a r) r rs) (leader k b rs)
+  pub rank-true : (r : Rec) → ruleMatches w a r ≡ true → rankOf w a r ≡ suc (priority r)
+  unfolding rankOf
+  rank-true r e = ap (λ (t : Bool). cond t (suc (priority r)) 0) e
 
-  pub leader-takes : (k : ℕ) (b r : Rec) (rs : Net) → k < rankOf w a r → leader k b (r ∷ rs) ≡ leader (rankOf w a r) r rs
-  unfolding leader
-  leader-takes k b r rs h = ap (λ (t : Bool). cond t (leader (rank r) r rs) (leader k b rs)) (lt-ltb k (rank r) h)
-
-  pub leader-stays : (k : ℕ) (b r : Rec) (rs : Net) → rankOf w a r ≤ k → leader k b (r ∷ rs) ≡ leader k b rs
-  unfolding leader
-  leader-stays k b r rs h = ap (λ (t : Bool). cond t (leader (rank r) r rs) (leader k b rs)) (le-ltb k (rank r) h)
+  pub rank-false : (r : Rec) → ruleMatches w a r ≡ false → rankOf w a r ≡ 0
+  unfolding rankOf
+  rank-false r e = ap (λ (t : Bool). cond t (suc (priority r)) 0) e
 
   -- some rule has a higher rank than k
   abbrev above : ℕ → Net → Bool
   above k rs = any (λ s. ltb k (rank s)) rs
-
-  rank-true : (r : Rec) → passes r ≡ true → rank r ≡ suc (priority r)
-  unfolding rankOf
-  rank-true r e = ap (λ (t : Bool). cond t (suc (priority r)) 0) e
-
-  rank-false : (r : Rec) → passes r ≡ false → rank r ≡ 0
-  unfolding rankOf
-  rank-false r e = ap (λ (t : Bool). cond t (suc (priority r)) 0) e
-
-  keep-true : (r : Rec) (rs : Net) → passes r ≡ true → keep passes (r ∷ rs) ≡ r ∷ keep passes rs
-  unfolding keep
-  keep-true r rs e = ap (λ (t : Bool). cond t (r ∷ keep passes rs) (keep passes rs)) e
-
-  keep-false : (r : Rec) (rs : Net) → passes r ≡ false → keep passes (r ∷ rs) ≡ keep passes rs
-  unfolding keep
-  keep-false r rs e = ap (λ (t : Bool). cond t (r ∷ keep passes rs) (keep passes rs)) e
 
   -- a matching rule is outranked exactly by a higher rank
   outranked-by : (r : Rec) → passes r ≡ true → (rs : Net) → outranked r (keep passes rs) ≡ above (rank r) rs
@@ -60,86 +42,46 @@ module _ (w : Widths) (a : Arrival) where
   outranked-by r e [] = refl
   outranked-by r e (s ∷ rs) = go (passes s) refl (outranked-by r e rs)
     where
-      go : (t : Bool) → passes s ≡ t → outranked r (keep passes rs) ≡ above (rank r) rs → outranked r (keep passes (s ∷ rs)) ≡ (ltb (rank r) (rank s) || above (rank r) rs)
-      go true q ih =
-          ap (outranked r) (keep-true s rs q)
-          ∙ ap₂ _||_ (sym (leb·suc-suc (suc (priority r)) (priority s)) ∙ ap₂ ltb (sym (rank-true r e)) (sym (rank-true s q))) ih
-      go false q ih =
-          ap (outranked r) (keep-false s rs q) ∙ ih
-          ∙ ap (λ (t : Bool). t || above (rank r) rs) (sym (le-ltb (rank r) (rank s) (omega (arith, rank-false s q))))
+      go : (t : Bool) → passes s ≡ t → outranked r (keep passes rs) ≡ above (rank r) rs
+          → outranked r (cond t (s ∷ keep passes rs) (keep passes rs)) ≡ (ltb (rank r) (rank s) || above (rank r) rs)
+      go true q ih = ap₂ _||_ (sym (leb·suc-suc (suc (priority r)) (priority s)) ∙ ap₂ ltb (sym (rank-true r e)) (sym (rank-true s q))) ih
+      go false q ih = ih ∙ ap (λ (t : Bool). t || above (rank r) rs) (sym (le-ltb (rank r) (rank s) (omega (arith, rank-false s q))))
 
-  above-mono : (j k : ℕ) → j ≤ k → (rs : Net) → above k rs ≡ true → above j rs ≡ true
+  some-above : (k top : ℕ) → k < top → (rs : Net) → any (λ r. eqb (rank r) top) rs ≡ true → above k rs ≡ true
   unfolding any
-  above-mono j k h [] e = e
-  above-mono j k h (r ∷ rs) e =
+  some-above k top h [] e = e
+  some-above k top h (r ∷ rs) e =
       ⊎-elim
-      (λ q. let l : k < rank r = ltb-true k (rank r) q in or-left (ltb j (rank r)) (above j rs) (lt-ltb j (rank r) (omega arith)))
-      (λ q. or-right (ltb j (rank r)) (above j rs) (above-mono j k h rs q))
-      (or-cases (ltb k (rank r)) (above k rs) e)
+      (λ q. or-left (ltb k (rank r)) (above k rs) (lt-ltb k (rank r) (omega (arith, eqb-true (rank r) top q))))
+      (λ q. or-right (ltb k (rank r)) (above k rs) (some-above k top h rs q))
+      (or-cases (eqb (rank r) top) (any (λ r. eqb (rank r) top) rs) e)
 
-  -- with no higher rank the lead stays
-  stays : (k : ℕ) (b : Rec) (rs : Net) → above k rs ≡ false → leader k b rs ≡ b
-  unfolding any leader
-  stays k b [] e = refl
-  stays k b (r ∷ rs) e =
-      let q = or-none (ltb k (rank r)) (above k rs) e in
-      leader-stays k b r rs (ltb-false k (rank r) (q .0)) ∙ stays k b rs (q .1)
+  module _ (top : ℕ) (some : 0 < top) (rs : Net) (highest : Every (λ r. rankOf w a r ≤ top) rs) (attained : any (λ r. eqb (rankOf w a r) top) rs ≡ true) where
+    -- a rule matches and is not outranked exactly if it has the highest rank
+    by-rank : (r : Rec) → rank r ≤ top → (passes r && not (outranked r (keep passes rs))) ≡ eqb (rank r) top
+    by-rank r h = go (passes r) refl (ℕ-discrete (rank r) top)
+      where
+        go : (t : Bool) → passes r ≡ t → Dec (rank r ≡ top) → (t && not (outranked r (keep passes rs))) ≡ eqb (rank r) top
+        go false q d = sym (ne-eqb (rank r) top (λ e. omega (arith, rank-false r q)))
+        go true q (yes e) =
+            ap not (outranked-by r q rs ∙ any-fails (λ s. ltb (rank r) (rank s)) rs (every-more (λ s. rank s ≤ top) (λ s. ltb (rank r) (rank s) ≡ false) rs (λ s l. le-ltb (rank r) (rank s) (omega arith)) highest))
+            ∙ sym (eq-eqb (rank r) top e)
+        go true q (no n) =
+            ap not (outranked-by r q rs ∙ some-above (rank r) top (omega (arith, n)) rs attained) ∙ sym (ne-eqb (rank r) top n)
 
-  none-passes : (rs : Net) → above 0 rs ≡ false → keep passes rs ≡ []
-  unfolding any keep
-  none-passes [] e = refl
-  none-passes (r ∷ rs) e =
-      let n = or-none (ltb 0 (rank r)) (above 0 rs) e in
-      go (passes r) refl (ltb-false 0 (rank r) (n .0)) (none-passes rs (n .1))
+    pub best-by-rank : best (keep (ruleMatches w a) rs) ≡ keep (λ r. eqb (rankOf w a r) top) rs
+    unfolding best
+    best-by-rank =
+        keep-keep (λ r. not (outranked r (keep passes rs))) passes rs
+        ∙ keep-same (λ r. passes r && not (outranked r (keep passes rs))) (λ r. eqb (rank r) top) rs
+        (every-more (λ r. rank r ≤ top) (λ r. (passes r && not (outranked r (keep passes rs))) ≡ eqb (rank r) top) rs by-rank highest)
+
+  -- where no rank is above 0, no rule matches
+  pub none-match : (rs : Net) → Every (λ r. rankOf w a r ≤ 0) rs → keep (ruleMatches w a) rs ≡ []
+  unfolding keep
+  none-match [] e = refl
+  none-match (r ∷ rs) e = go (passes r) refl (none-match rs (e .1))
     where
-      go : (t : Bool) → passes r ≡ t → rank r ≤ 0 → keep passes rs ≡ [] → keep passes (r ∷ rs) ≡ []
-      go true q n ih = absurd (omega (arith, rank-true r q))
-      go false q n ih = keep-false r rs q ∙ ih
-
-  best-later : (r : Rec) (rs : Net) → outranked r rs ≡ true → best (r ∷ rs) ≡ best rs
-  unfolding best
-  best-later r rs e = ap (λ (t : Bool). elim t as (λ x. Net) [ true ↦ best rs | false ↦ r ∷ [] ]) e
-
-  best-here : (r : Rec) (rs : Net) → outranked r rs ≡ false → best (r ∷ rs) ≡ r ∷ []
-  unfolding best
-  best-here r rs e = ap (λ (t : Bool). elim t as (λ x. Net) [ true ↦ best rs | false ↦ r ∷ [] ]) e
-
-  -- with a higher rank the best rule leads
-  wins : (k : ℕ) (b : Rec) (rs : Net) → above k rs ≡ true → leader k b rs ∷ [] ≡ best (keep passes rs)
-  unfolding any
-  wins k b [] e = not-both e refl
-  wins k b (r ∷ rs) e = go (ltb k (rank r)) refl (passes r) refl (above (rank r) rs) refl
-      (λ q. wins (rank r) r rs q) (λ q. wins k b rs q)
-    where
-      go : (t : Bool) → ltb k (rank r) ≡ t → (m : Bool) → passes r ≡ m → (u : Bool) → above (rank r) rs ≡ u
-          → (above (rank r) rs ≡ true → leader (rank r) r rs ∷ [] ≡ best (keep passes rs))
-          → (above k rs ≡ true → leader k b rs ∷ [] ≡ best (keep passes rs))
-          → leader k b (r ∷ rs) ∷ [] ≡ best (keep passes (r ∷ rs))
-      go true t false m u q taken stayed = absurd (omega (arith, ltb-true k (rank r) t, rank-false r m))
-      go true t true m true q taken stayed =
-          ap (λ (x : Rec). x ∷ []) (leader-takes k b r rs (ltb-true k (rank r) t)) ∙ taken q
-          ∙ sym (ap best (keep-true r rs m) ∙ best-later r (keep passes rs) (outranked-by r m rs ∙ q))
-      go true t true m false q taken stayed =
-          ap (λ (x : Rec). x ∷ []) (leader-takes k b r rs (ltb-true k (rank r) t) ∙ stays (rank r) r rs q)
-          ∙ sym (ap best (keep-true r rs m) ∙ best-here r (keep passes rs) (outranked-by r m rs ∙ q))
-      go false t m n u q taken stayed =
-          ap (λ (x : Rec). x ∷ []) (leader-stays k b r rs l) ∙ stayed later ∙ sym (skip m n)
-        where
-          l : rank r ≤ k
-          l = ltb-false k (rank r) t
-
-          later : above k rs ≡ true
-          later = ap (λ (x : Bool). x || above k rs) (sym t) ∙ e
-
-          skip : (m : Bool) → passes r ≡ m → best (keep passes (r ∷ rs)) ≡ best (keep passes rs)
-          skip true n = ap best (keep-true r rs n) ∙ best-later r (keep passes rs) (outranked-by r n rs ∙ above-mono (rank r) k l rs later)
-          skip false n = ap best (keep-false r rs n)
-
-  -- who leads in the end is the record that acts
-  pub leader-acts : (miss : Rec) (rs : Net) → orMiss (best (keep (ruleMatches w a) rs)) miss ≡ leader 0 miss rs ∷ []
-  unfolding orMiss best
-  leader-acts miss rs = go (above 0 rs) refl
-    where
-      go : (t : Bool) → above 0 rs ≡ t → orMiss (best (keep passes rs)) miss ≡ leader 0 miss rs ∷ []
-      go true e = ap (λ (l : Net). orMiss l miss) (sym (wins 0 miss rs e))
-      go false e = ap (λ (l : Net). orMiss (best l) miss) (none-passes rs e) ∙ ap (λ (x : Rec). x ∷ []) (sym (stays 0 miss rs e))
+      go : (t : Bool) → passes r ≡ t → keep passes rs ≡ [] → _≡_ {A = Net} (cond t (r ∷ keep passes rs) (keep passes rs)) []
+      go true q ih = absurd (omega (arith, rank-true r q, e .0))
+      go false q ih = ih

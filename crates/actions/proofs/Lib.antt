@@ -1,4 +1,5 @@
 -- Laws that several proofs of this crate use.
 pub mod HighestRank
+pub mod LedRules
+pub mod PaintedLeads
 pub mod SearchedGroups
-pub mod SearchedRules

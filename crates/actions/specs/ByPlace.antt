@@ -1,4 +1,4 @@
--- Which record acts, and which is that of a group, by its place.
+-- An arrival and its rules by their bytes, and the record of a group by its place.
 use mathlib.Core.Path.{_≡_}
 use mathlib.Core.Bool.{true, cond}
 use mathlib.Core.List.{List, [], _∷_}
@@ -10,7 +10,7 @@ use Rattle.records.specs.declared.Widths.{Widths}
 use Rattle.rows.specs.declared.rules.Found.{Found}
 use Rattle.rows.specs.declared.rules.Found.the-variants.{At, Nothing}
 use Rattle.scan.specs.declared.Layout.{Layout}
-use Rattle.actions.specs.Chosen.{Arrival, ruleMatches, chosen}
+use Rattle.actions.specs.Chosen.{Arrival, ruleMatches}
 use Rattle.actions.specs.Groups.{groupRecord}
 
 -- the arrival at a port of a switch, with a header
@@ -30,12 +30,6 @@ ofBody body = 0 ∷ body
 -- the rank of a rule for an arrival: 0 where it does not match, else one above its priority
 unfoldable pub rankOf : Widths → Arrival → Rec → ℕ
 rankOf w a r = cond (ruleMatches w a r) (suc (priority r)) 0
-
--- the one record that acts stands at place i, among the misses and the rules
-pub record ActsAt (net : Net) (l : Layout) (a : Arrival) (i : ℕ) : Type 0 where
-  pub acts : chosen net a ≡ getD net i [] ∷ []
-  pub low : l .misses ≤ i
-  pub high : i < l .nodes
 
 -- the record of group g of a switch stands at place i, among the groups
 pub record GroupAt (net : Net) (l : Layout) (sw g i : ℕ) : Type 0 where

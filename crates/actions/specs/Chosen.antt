@@ -1,5 +1,5 @@
 -- The rule choice: which records act on a frame that arrives.
-use mathlib.Core.Bool.{Bool, true, false, _&&_}
+use mathlib.Core.Bool.{Bool, not, _&&_}
 use mathlib.Core.List.{[], _∷_}
 use Prim.Native.Nat.{ℕ}
 use lib.Dec.{eqb, ltb}
@@ -25,12 +25,11 @@ ruleMatches w a r =
 unfoldable pub outranked : Rec → Net → Bool
 outranked r rules = any (λ s. ltb (priority r) (priority s)) rules
 
--- of some rules, the one with the highest priority; among equals, the first in the file
+-- of some rules, all that none of them outranks, in the order of the file
 unfoldable pub best : Net → Net
-best [] = []
-best (r ∷ rest) = elim (outranked r rest) [ true ↦ best rest | false ↦ r ∷ [] ]
+best rules = keep (λ r. not (outranked r rules)) rules
 
--- the rule that acts; with no match, the miss record, of which there is one per switch, ascending
+-- the rules that act; with no match, the miss record, of which there is one per switch, ascending
 unfoldable pub orMiss : Net → Rec → Net
 orMiss [] miss = miss ∷ []
 orMiss (r ∷ rules) miss = r ∷ rules

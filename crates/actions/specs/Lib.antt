@@ -6,6 +6,7 @@ pub mod Actions
 pub mod Computing
 pub mod ByPlace
 pub mod RuleSets
+pub mod Leads
 pub mod BucketHeaders
 pub mod Wards
 pub mod GroupWards

@@ -1,4 +1,4 @@
-// Which record acts on an arrival.
+// Which rules match an arrival, and their ranks.
 use records::MOST_RULES;
 use records::Widths;
 use records::pattern::in_set;
@@ -6,13 +6,13 @@ use records::pattern::matched;
 use scan::Layout;
 ghost use mathlib.Core.Path.{_≡_};
 ghost use mathlib.Core.Bool.{true};
-ghost use Prim.Native.Nat.{_^_, _<_};
+ghost use Prim.Native.Nat.{suc};
 ghost use lib.ListN.{length};
-ghost use Rattle.records.specs.Record.{at, mostRules, records};
+ghost use Rattle.records.specs.Record.{at, mostRules, priority, records};
 ghost use Rattle.records.specs.Widths.{withinLimits};
 ghost use Rattle.records.specs.Matched.{MatchedSet};
 ghost use Rattle.actions.specs.Chosen.{ruleMatches};
-ghost use Rattle.actions.specs.ByPlace.{arrival, FrameWithin, ofBody, rankOf, ActsAt};
+ghost use Rattle.actions.specs.ByPlace.{arrival, FrameWithin, ofBody, rankOf};
 ghost use Rattle.actions.specs.RuleSets.{SetsOf, RuleSets};
 ghost use Rattle.scan.specs.Stored.{Stored};
 
@@ -72,49 +72,23 @@ fn rule_matches(w: Widths, body: &[u8], ports: u64, headers: u64, sw: u8, p: u8,
     in_set(headers, h)
 }
 
+// The rank of the rule of that body where it matches: one above its priority.
+pub fn priority_rank(body: &[u8]) -> u32
+    requires { ⌜ length (now body) ≡ 20 ⌝ }
+    ensures { λ r. ⌜ r ≡ suc (priority (ofBody (now (body .entry)))) ⌝ }
+{
+    1 + body[1] as u32 + 256 * body[2] as u32
+}
+
 // The rank of the rule of that body: 0 where it does not match, else one above its priority.
-fn rank(w: Widths, body: &[u8], ports: u64, headers: u64, sw: u8, p: u8, h: u8) -> u32
+pub fn rank(w: Widths, body: &[u8], ports: u64, headers: u64, sw: u8, p: u8, h: u8) -> u32
     requires { ⌜ (length (now body) ≡ 20) × SetsOf w (ofBody (now body)) ports headers ⌝ }
     requires { ⌜ FrameWithin w p h ⌝ }
     ensures { λ r. ⌜ r ≡ rankOf w (arrival sw p h) (ofBody (now (body .entry))) ⌝ }
 {
     if rule_matches(w, body, ports, headers, sw, p, h) {
-        1 + body[1] as u32 + 256 * body[2] as u32
+        priority_rank(body)
     } else {
         0
     }
-}
-
-// The place of the record that acts: of the matching rules the first with the highest priority, else the switch's miss.
-// What the patterns of each rule match is given, as by rule_sets.
-pub fn choose(
-    store: &[u8],
-    n: usize,
-    l: Layout,
-    ports: &[u64; MOST_RULES],
-    headers: &[u64; MOST_RULES],
-    sw: u8,
-    p: u8,
-    h: u8,
-) -> usize
-    requires { ⌜ Stored n l (now store) × RuleSets (records n (now store)) l (now ports) (now headers) ⌝ }
-    requires { ⌜ (sw < 2 ^ l .widths .w) × FrameWithin (l .widths) p h ⌝ }
-    ensures { λ r. ⌜ ActsAt (records n (now (store .entry))) l (arrival sw p h) r ⌝ }
-{
-    let w = l.widths;
-    let mut best = l.misses + sw as usize;
-    let mut highest: u32 = 0;
-    let mut i = l.rules;
-    while i < l.nodes {
-        let a = i * 24 + 1;
-        let e = a + 20;
-        let j = i - l.rules;
-        let r = rank(w, &store[a..e], ports[j], headers[j], sw, p, h);
-        if highest < r {
-            best = i;
-            highest = r;
-        }
-        i += 1;
-    }
-    best
 }

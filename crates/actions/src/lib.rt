@@ -30,6 +30,7 @@ ghost use Rattle.scan.specs.Stored.{Stored};
 pub mod buckets;
 pub mod choice;
 mod groups;
+pub mod leads;
 pub mod state;
 
 // Sends a copy to port q.

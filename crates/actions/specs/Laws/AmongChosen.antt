@@ -1,7 +1,7 @@
 -- The records that act are among the misses and the rules of the network.
 use borrow.Author.Tests.{eqb-true}
 use mathlib.Core.Path.{_≡_}
-use mathlib.Core.Bool.{Bool, true, false}
+use mathlib.Core.Bool.{true, not}
 use mathlib.Core.List.{[], _∷_}
 use mathlib.Core.Logic.{_⊎_, inl, inr}
 use Prim.Native.Nat.{ℕ}
@@ -23,12 +23,7 @@ module _ (P : Rec → Type 0) (absent : P []) (net : Net) (every : Every (λ r. 
 
   of-best : (rules : Net) → Every P rules → Every P (best rules)
   unfolding best
-  of-best [] e = tt
-  of-best (r ∷ rules) e = go (outranked r rules) (of-best rules (e .1))
-    where
-      go : (b : Bool) → Every P (best rules) → Every P (elim b as (λ x. Net) [ true ↦ best rules | false ↦ r ∷ [] ])
-      go true rest = rest
-      go false rest = (e .0, tt)
+  of-best rules = every-keep P (λ r. not (outranked r rules)) rules
 
   or-miss : (rules : Net) (miss : Rec) → Every P rules → P miss → Every P (orMiss rules miss)
   unfolding orMiss

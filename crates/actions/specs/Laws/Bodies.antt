@@ -64,6 +64,10 @@ module _ (w : Widths) (r q : Rec) (same : SameTo 20 r q) where
         same 7 (omega arith) (omega arith),
       )
 
+  pub priority-same : priority r ≡ priority q
+  unfolding priority
+  priority-same = rw (same 2 (omega arith) (omega arith), same 3 (omega arith) (omega arith))
+
   module _ (h i : ℕ) (few : i < 4) where
     sent-by-same : (net : Net) (sw p : ℕ) → sentBy net w sw p r h i ≡ sentBy net w sw p q h i
     unfolding sentBy

@@ -1,66 +1,131 @@
--- The rule choice: the highest priority, and among equals the first in the file.
-use borrow.Author.Tests.{ltb-true, ltb-false}
+-- Exactly which records act on an arrival.
+use borrow.Author.Tests.{ltb-false, le-ltb, eqb-true, eq-eqb}
 use mathlib.Core.Path.{_≡_, refl, sym, ap, _∙_}
-use mathlib.Core.Bool.{Bool, true, false}
-use mathlib.Core.List.{[], _∷_, _++_}
-use mathlib.Core.Logic.{_⊎_, ⊎-elim}
-use Prim.Native.Nat.{ℕ, _<_, _≤_}
+use mathlib.Core.Bool.{Bool, true, false, cond, not, _&&_, _||_, false≢true}
+use mathlib.Core.List.{[], _∷_}
+use mathlib.Core.Logic.{_↔_, ⊎-elim}
+use Prim.Native.Nat.{_<_, _≤_}
+use native.Mathlib.Decide.{decLt}
 use native.Mathlib.Omega.{arith}
-use lib.Dec.{ltb}
-use Rattle.planes.specs.Laws.Tests.{or-cases, or-none}
-use Rattle.records.specs.Lists.{any}
-use Rattle.records.specs.Record.{Rec, Net, priority}
-use Rattle.records.specs.Laws.Every.{Every}
-use Rattle.actions.specs.Chosen.{outranked, best}
+use lib.Dec.{eqb, ltb}
+use lib.ListN.{getD}
+use Rattle.planes.specs.Laws.Tests.{and-both, both, or-left, or-right, or-cases, or-none}
+use Rattle.records.specs.Lists.{keep, any}
+use Rattle.records.specs.Record.{Rec, Net, priority, ofKind}
+use Rattle.records.specs.Widths.{widthsOf}
+use Rattle.records.specs.Laws.Lists.{any-keep, keep-keep}
+use Rattle.records.specs.Laws.Every.{Every, every-more, every-fails, any-fails}
+use Rattle.actions.specs.Chosen.{Arrival, ruleMatches, outranked, best, orMiss, chosen}
 
--- every one of the rules has a priority that passes
-abbrev pub Each : (ℕ → Type 0) → Net → Type 0
-Each P rules = Every (λ r. P (priority r)) rules
-
--- r is the first of the rules with the highest priority: those before it have a lower one, those after it no higher one
-pub record First (rules : Net) (r : Rec) : Type 0 where
-  pub before : Net
-  pub after : Net
-  pub stands : rules ≡ before ++ (r ∷ after)
-  pub lower : Each (λ p. p < priority r) before
-  pub no-higher : Each (λ p. p ≤ priority r) after
-
-none-higher : (r : Rec) (rules : Net) → outranked r rules ≡ false → Each (λ p. p ≤ priority r) rules
-unfolding outranked any
-none-higher r [] e = tt
-none-higher r (s ∷ rest) e =
-    let q = or-none (ltb (priority r) (priority s)) (outranked r rest) e in
-    (ltb-false (priority r) (priority s) (q .0), none-higher r rest (q .1))
-
--- the rule that is chosen of some has no lower priority than any of them
-at-most : (r t : Rec) (before after : Net) → Each (λ p. p < priority t) before → Each (λ p. p ≤ priority t) after
-    → outranked r (before ++ (t ∷ after)) ≡ true → priority r < priority t
-unfolding outranked any
-at-most r t [] after l n e = ⊎-elim (λ h. ltb-true (priority r) (priority t) h) (λ h. go after n h) (or-cases _ _ e)
+-- some rule has the highest priority
+top-of : (r : Rec) (rs : Net) → (t : Rec) × Every (λ s. priority s ≤ priority t) (r ∷ rs) × (any (λ s. eqb (priority s) (priority t)) (r ∷ rs) ≡ true)
+unfolding any
+top-of r [] = (r, (omega arith, tt), or-left (eqb (priority r) (priority r)) false (eq-eqb (priority r) (priority r) refl))
+top-of r (s ∷ rs) = go (top-of s rs)
   where
-    go : (rules : Net) → Each (λ p. p ≤ priority t) rules → outranked r rules ≡ true → priority r < priority t
-    go [] n e = let z : _≡_ {A = ℕ} 0 1 = cc in absurd (omega arith)
-    go (s ∷ rest) n e = ⊎-elim (λ h. omega (arith, ltb-true (priority r) (priority s) h, n .0)) (λ h. go rest (n .1) h) (or-cases _ _ e)
-at-most r t (s ∷ before) after l n e =
-    ⊎-elim (λ h. omega (arith, ltb-true (priority r) (priority s) h, l .0)) (λ h. at-most r t before after (l .1) n h) (or-cases _ _ e)
+    go : (t : Rec) × Every (λ u. priority u ≤ priority t) (s ∷ rs) × (any (λ u. eqb (priority u) (priority t)) (s ∷ rs) ≡ true)
+        → (t : Rec) × Every (λ u. priority u ≤ priority t) (r ∷ s ∷ rs) × (any (λ u. eqb (priority u) (priority t)) (r ∷ s ∷ rs) ≡ true)
+    go (t, highest, attained) = higher (decLt (priority t) (priority r))
+      where
+        higher : Dec (priority t < priority r) → (t : Rec) × Every (λ u. priority u ≤ priority t) (r ∷ s ∷ rs) × (any (λ u. eqb (priority u) (priority t)) (r ∷ s ∷ rs) ≡ true)
+        higher (yes h) = (
+          r,
+          (omega arith, every-more (λ u. priority u ≤ priority t) (λ u. priority u ≤ priority r) (s ∷ rs) (λ u l. omega arith) highest),
+          or-left (eqb (priority r) (priority r)) _ (eq-eqb (priority r) (priority r) refl),
+        )
+        higher (no h) = (t, (omega arith, highest), or-right (eqb (priority r) (priority t)) _ attained)
 
--- some rules have one that is chosen, and it is the first with the highest priority
-pub best-first : (r : Rec) (rules : Net) → (t : Rec) × (best (r ∷ rules) ≡ t ∷ []) × First (r ∷ rules) t
-unfolding best outranked any
-best-first r [] = (r, refl, record { before = []; after = []; stands = refl; lower = tt; no-higher = tt })
-best-first r (s ∷ rest) = go (outranked r (s ∷ rest)) refl (best-first s rest)
+any-more : (f g : Rec → Bool) → ((r : Rec) → f r ≡ true → g r ≡ true) → (rs : Net) → any f rs ≡ true → any g rs ≡ true
+unfolding any
+any-more f g h [] e = e
+any-more f g h (r ∷ rs) e = ⊎-elim (λ q. or-left (g r) (any g rs) (h r q)) (λ q. or-right (g r) (any g rs) (any-more f g h rs q)) (or-cases (f r) (any f rs) e)
+
+-- so of some rules there is one that none outranks
+not-all-outranked : (r : Rec) (rs : Net) → any (λ s. not (outranked s (r ∷ rs))) (r ∷ rs) ≡ true
+unfolding outranked
+not-all-outranked r rs =
+    let t = top-of r rs in
+    any-more (λ s. eqb (priority s) (priority (t .0))) (λ s. not (outranked s (r ∷ rs)))
+    (λ s e. ap not (any-fails (λ u. ltb (priority s) (priority u)) (r ∷ rs)
+    (every-more (λ u. priority u ≤ priority (t .0)) (λ u. ltb (priority s) (priority u) ≡ false) (r ∷ rs) (λ u l. le-ltb (priority s) (priority u) (omega (arith, eqb-true (priority s) (priority (t .0)) e))) (t .1))))
+    (r ∷ rs) (t .2)
+
+-- where a rule is kept, the miss does not act
+no-miss : (f : Rec → Bool) (rs : Net) (miss : Rec) → any f rs ≡ true → orMiss (keep f rs) miss ≡ keep f rs
+unfolding any keep orMiss
+no-miss f [] miss e = absurd (false≢true e)
+no-miss f (r ∷ rs) miss e = go (f r) e (no-miss f rs miss)
   where
-    go : (b : Bool) → outranked r (s ∷ rest) ≡ b → (t : Rec) × (best (s ∷ rest) ≡ t ∷ []) × First (s ∷ rest) t
-        → (t : Rec) × (_≡_ {A = Net} (elim b [ true ↦ best (s ∷ rest) | false ↦ r ∷ [] ]) (t ∷ [])) × First (r ∷ s ∷ rest) t
-    go true e (t, q, f) = (
-      t,
-      q,
-      record {
-        before = r ∷ f .before;
-        after = f .after;
-        stands = ap (λ (l : Net). r ∷ l) (f .stands);
-        lower = (at-most r t (f .before) (f .after) (f .lower) (f .no-higher) (ap (outranked r) (sym (f .stands)) ∙ e), f .lower);
-        no-higher = f .no-higher;
-      },
-    )
-    go false e ih = (r, refl, record { before = []; after = s ∷ rest; stands = refl; lower = tt; no-higher = none-higher r (s ∷ rest) e })
+    go : (b : Bool) → (b || any f rs) ≡ true → (any f rs ≡ true → orMiss (keep f rs) miss ≡ keep f rs)
+        → orMiss (cond b (r ∷ keep f rs) (keep f rs)) miss ≡ cond b (r ∷ keep f rs) (keep f rs)
+    go true e ih = refl
+    go false e ih = ih e
+
+best-acts : (f : Rec → Bool) (rs : Net) (miss : Rec) → any f rs ≡ true → orMiss (best (keep f rs)) miss ≡ best (keep f rs)
+unfolding any keep best
+best-acts f [] miss e = absurd (false≢true e)
+best-acts f (r ∷ rs) miss e = go (f r) e (best-acts f rs miss)
+  where
+    go : (b : Bool) → (b || any f rs) ≡ true → (any f rs ≡ true → orMiss (best (keep f rs)) miss ≡ best (keep f rs))
+        → orMiss (best (cond b (r ∷ keep f rs) (keep f rs))) miss ≡ best (cond b (r ∷ keep f rs) (keep f rs))
+    go true e ih = no-miss (λ s. not (outranked s (r ∷ keep f rs))) (r ∷ keep f rs) miss (not-all-outranked r (keep f rs))
+    go false e ih = ih e
+
+none-kept : (f : Rec → Bool) (rs : Net) → any f rs ≡ false → keep f rs ≡ []
+unfolding any keep
+none-kept f [] e = refl
+none-kept f (r ∷ rs) e = let q = or-none (f r) (any f rs) e in ap (λ (b : Bool). cond b (r ∷ keep f rs) (keep f rs)) (q .0) ∙ none-kept f rs (q .1)
+
+module _ (net : Net) (a : Arrival) where
+  abbrev matching : Rec → Bool
+  matching r = ruleMatches (widthsOf net) a r
+
+  abbrev rules : Net
+  rules = ofKind 4 net
+
+  -- no rule of the network that matches the arrival has a higher priority than r
+  abbrev pub NoneOutranks : Rec → Type 0
+  NoneOutranks r = Every (λ s. ruleMatches (widthsOf net) a s ≡ true → priority s ≤ priority r) (ofKind 4 net)
+
+  abbrev test : Rec → Bool
+  test r = matching r && not (outranked r (keep matching rules))
+
+  none-outranks : (r : Rec) → outranked r (keep matching rules) ≡ false → NoneOutranks r
+  unfolding outranked
+  none-outranks r e =
+      every-more (λ s. (matching s && ltb (priority r) (priority s)) ≡ false) (λ s. matching s ≡ true → priority s ≤ priority r) rules
+      (λ s q m. ltb-false (priority r) (priority s) (sym (ap (λ (b : Bool). b && ltb (priority r) (priority s)) m) ∙ q))
+      (every-fails _ rules (sym (any-keep (λ s. ltb (priority r) (priority s)) matching rules) ∙ e))
+
+  not-outranked : (r : Rec) → NoneOutranks r → outranked r (keep matching rules) ≡ false
+  unfolding outranked
+  not-outranked r n =
+      any-keep (λ s. ltb (priority r) (priority s)) matching rules
+      ∙ any-fails _ rules
+      (every-more (λ s. matching s ≡ true → priority s ≤ priority r) (λ s. (matching s && ltb (priority r) (priority s)) ≡ false) rules (λ s q. go s (matching s) refl q) n)
+    where
+      go : (s : Rec) (b : Bool) → matching s ≡ b → (matching s ≡ true → priority s ≤ priority r) → (b && ltb (priority r) (priority s)) ≡ false
+      go s true e q = le-ltb (priority r) (priority s) (q e)
+      go s false e q = refl
+
+  -- where some rule matches, those rules act that match and that no matching rule outranks: exactly these, in the order of the file
+  pub chosen-exactly : any (ruleMatches (widthsOf net) a) (ofKind 4 net) ≡ true
+      → (f : Rec → Bool) × (chosen net a ≡ keep f (ofKind 4 net)) × ((r : Rec) → (f r ≡ true) ↔ ((ruleMatches (widthsOf net) a r ≡ true) × NoneOutranks r))
+  unfolding chosen best
+  chosen-exactly e = (
+    test,
+    best-acts matching rules (getD (ofKind 3 net) (a .switch) []) e ∙ keep-keep (λ r. not (outranked r (keep matching rules))) matching rules,
+    λ r. (
+      λ t. let q = both (matching r) (not (outranked r (keep matching rules))) t in (q .0, none-outranks r (unnot (outranked r (keep matching rules)) (q .1))),
+      λ t. and-both (matching r) (not (outranked r (keep matching rules))) (t .0) (ap not (not-outranked r (t .1))),
+    ),
+  )
+    where
+      unnot : (b : Bool) → not b ≡ true → b ≡ false
+      unnot true q = sym q
+      unnot false q = refl
+
+  -- where no rule matches, the miss record of the switch alone acts
+  pub chosen-miss : any (ruleMatches (widthsOf net) a) (ofKind 4 net) ≡ false → chosen net a ≡ getD (ofKind 3 net) (a .switch) [] ∷ []
+  unfolding chosen best keep orMiss
+  chosen-miss e = ap (λ (l : Net). orMiss (best l) (getD (ofKind 3 net) (a .switch) [])) (none-kept matching rules e)

@@ -1,18 +1,20 @@
 -- The links, the misses, the rules and the groups of a store, by their places.
-use mathlib.Core.Path.{_≡_, sym, _∙_}
+use mathlib.Core.Path.{_≡_, sym, ap, _∙_}
 use mathlib.Core.Bool.{true, _&&_}
 use mathlib.Core.List.{List, []}
-use Prim.Native.Nat.{ℕ, _+_, _-_, _*_, _<_, _≤_}
+use Prim.Native.Nat.{ℕ, _+_, _-_, _*_, _^_, _<_, _≤_}
 use native.Mathlib.Decide.{decLt}
 use native.Mathlib.Omega.{arith}
 use lib.ListN.{length, getD, drop, length-drop}
-use lib.Seq.{take-all}
+use lib.Seq.{take-all, length-take-le}
 use Rattle.planes.specs.Laws.Tests.{and-left, both}
 use Rattle.records.specs.Record.{Net, at, mostRules, records, ofKind}
-use Rattle.records.specs.Fields.{zeros, pointGood, actionsGood, bucketsGood, fieldsGood}
-use Rattle.records.specs.Laws.Fields.{link-fields, miss-actions, rule-actions, group-parts}
+use Rattle.records.specs.Fields.{zeros, pointGood, matchGood, actionsGood, bucketsGood, fieldsGood}
+use Rattle.records.specs.Laws.Fields.{link-fields, rule-fields, miss-actions, rule-actions, group-parts}
+use Rattle.records.specs.Laws.Limits.{limits}
 use Rattle.records.specs.Laws.Records.{length-records}
-use Rattle.records.specs.Laws.Parts.{kind-at}
+use Rattle.records.specs.Laws.Parts.{part-at, kind-at}
+use Rattle.rows.specs.Laws.Groups.{match-switch}
 use Rattle.scan.specs.declared.Layout.{Layout}
 use Rattle.scan.specs.Layout.{LayoutOf}
 use Rattle.scan.specs.Stored.{Stored}
@@ -76,3 +78,21 @@ module _ (n : ℕ) (l : Layout) (s : List ℕ) (st : Stored n l s) where
       let all = groups-at ∙ sym (take-all (n - l .groups) (drop (l .groups) net) (omega (arith, length-drop (l .groups) net, length-records n s))) in
       group-parts (l .widths) (getD net i []) (kind-at 9 net (l .groups) n i all (omega (arith, length-records n s)) a b)
       (st .fields i (omega (arith, q .some-widths, q .switches, q .few-rules, groups-in)) b) .2
+
+  -- a rule, by its number among the rules
+  pub rules-count : length (ofKind 4 (records n s)) ≡ l .nodes - l .rules
+  rules-count = ap length (st .laid .rules) ∙ length-take-le (l .nodes - l .rules) (drop (l .rules) net) (omega (arith, length-drop (l .rules) net, in-net))
+
+  pub rule-at : (i : ℕ) → l .rules ≤ i → i < l .nodes → getD (ofKind 4 (records n s)) (i - l .rules) [] ≡ getD (records n s) i []
+  rule-at i a b =
+      let e : l .rules + (i - l .rules) ≡ i = omega arith in
+      ap (λ (rules : Net). getD rules (i - l .rules) []) (st .laid .rules) ∙ part-at net (l .rules) (l .nodes) (i - l .rules) (omega arith) ∙ ap (λ (k : ℕ). getD net k []) e
+
+  pub rule-switch : (i : ℕ) → l .rules ≤ i → i < l .nodes → at (getD (records n s) i []) 1 < 2 ^ l .widths .w
+  rule-switch i a b =
+      let r = getD net i [] in
+      let q = st .laid in
+      let k = kind-at 4 net (l .rules) (l .nodes) i (q .rules) in-net a b in
+      match-switch (l .widths) (limits (l .widths) (q .limits)) r
+      (and-left (matchGood (l .widths) r) (actionsGood (l .widths) r)
+      (and-left _ (zeros 21 23 r) (sym (rule-fields (l .widths) r k) ∙ st .fields i (omega (arith, q .some-widths, q .switches)) (record-in i b))))

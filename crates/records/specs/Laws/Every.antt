@@ -1,14 +1,14 @@
 -- What is so of every element of a list.
 use borrow.Author.Tests.{eqb-true}
-use mathlib.Core.Path.{_≡_, refl, subst⁻¹}
-use mathlib.Core.Bool.{Bool, true, false, cond, false≢true}
+use mathlib.Core.Path.{_≡_, refl, ap, ap₂, subst⁻¹}
+use mathlib.Core.Bool.{Bool, true, false, cond, _||_, false≢true}
 use mathlib.Core.List.{List, [], _∷_, _++_}
 use mathlib.Core.Logic.{⊎-elim}
 use Prim.Native.Nat.{ℕ, zero, suc, _+_, _<_}
 use native.Mathlib.Omega.{arith}
 use lib.Dec.{eqb}
 use lib.ListN.{length, getD}
-use Rattle.planes.specs.Laws.Tests.{or-cases}
+use Rattle.planes.specs.Laws.Tests.{or-cases, or-none}
 use Rattle.records.specs.Lists.{keep, any, member, from}
 
 -- every element is so
@@ -66,3 +66,30 @@ module _ {A : Type 0} (P : A → Type 0) where
   pub at-every : (d : A) (l : List A) → ((i : ℕ) → i < length l → P (getD l i d)) → Every P l
   at-every d [] h = tt
   at-every d (x ∷ l) h = (h 0 (omega arith), at-every d l (λ i t. h (suc i) (omega arith)))
+
+-- two tests that agree on every element keep the same
+pub keep-same : {A : Type 0} (f g : A → Bool) (l : List A) → Every (λ x. f x ≡ g x) l → keep f l ≡ keep g l
+unfolding keep
+keep-same f g [] e = refl
+keep-same {A} f g (x ∷ l) e = ap₂ {C = List A} (λ (b : Bool) (k : List A). cond b (x ∷ k) k) (e .0) (keep-same f g l (e .1))
+
+-- a test that no element passes fails on every one, and the other way round
+pub every-fails : {A : Type 0} (f : A → Bool) (l : List A) → any f l ≡ false → Every (λ x. f x ≡ false) l
+unfolding any
+every-fails f [] e = tt
+every-fails f (x ∷ l) e = let q = or-none (f x) (any f l) e in (q .0, every-fails f l (q .1))
+
+pub any-fails : {A : Type 0} (f : A → Bool) (l : List A) → Every (λ x. f x ≡ false) l → any f l ≡ false
+unfolding any
+any-fails f [] e = refl
+any-fails f (x ∷ l) e = ap₂ _||_ (e .0) (any-fails f l (e .1))
+
+-- where some elements are kept, one passes
+pub any-kept : {A : Type 0} (f : A → Bool) (l : List A) (x : A) (rest : List A) → keep f l ≡ x ∷ rest → any f l ≡ true
+unfolding any keep
+any-kept f [] x rest e = absurd (omega (arith, ap length e))
+any-kept {A} f (y ∷ l) x rest e = go (f y) e (any-kept f l x rest)
+  where
+    go : (b : Bool) → _≡_ {A = List A} (cond b (y ∷ keep f l) (keep f l)) (x ∷ rest) → (keep f l ≡ x ∷ rest → any f l ≡ true) → (b || any f l) ≡ true
+    go true q ih = refl
+    go false q ih = ih q

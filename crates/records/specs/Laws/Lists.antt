@@ -48,6 +48,17 @@ module _ {A : Type 0} where
   unfolding any
   any-snoc f xs x = any-append f xs (x ∷ []) ∙ ap (λ (b : Bool). any f xs || b) (or-false (f x))
 
+  keep-keep-step : (f : A → Bool) (b : Bool) (x : A) (l : List A) → keep f (cond b (x ∷ l) l) ≡ cond (b && f x) (x ∷ keep f l) (keep f l)
+  unfolding keep
+  keep-keep-step f true x l = refl
+  keep-keep-step f false x l = refl
+
+  -- those that pass one test, of those that pass another, pass both
+  pub keep-keep : (f g : A → Bool) (xs : List A) → keep f (keep g xs) ≡ keep (λ x. g x && f x) xs
+  unfolding keep
+  keep-keep f g [] = refl
+  keep-keep f g (x ∷ xs) = keep-keep-step f (g x) x (keep g xs) ∙ ap (λ (l : List A). cond (g x && f x) (x ∷ l) l) (keep-keep f g xs)
+
   any-keep-step : (f : A → Bool) (b : Bool) (x : A) (l : List A) → any f (cond b (x ∷ l) l) ≡ (b && f x || any f l)
   unfolding any
   any-keep-step f true x l = refl
@@ -98,7 +109,7 @@ module _ {A : Type 0} (f : A → Bool) (d : A) where
       ap (λ (b : Bool). cond b (x ∷ keep f xs) (keep f xs)) (h 0 (omega arith))
       ∙ ap {B = List A} (λ r. x ∷ r) (keep-all xs (λ i l. h (suc i) (omega arith)))
 
-  keep-none : (l : List A) → ((i : ℕ) → i < length l → f (getD l i d) ≡ false) → keep f l ≡ []
+  pub keep-none : (l : List A) → ((i : ℕ) → i < length l → f (getD l i d) ≡ false) → keep f l ≡ []
   unfolding keep
   keep-none [] h = refl
   keep-none (x ∷ xs) h =

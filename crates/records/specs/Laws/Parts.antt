@@ -1,16 +1,17 @@
 -- The records from one place up to another, and those of a kind where they stand together.
 use borrow.Author.Tests.{eqb-true}
-use mathlib.Core.Path.{_≡_, refl, sym, ap, subst, _∙_}
+use mathlib.Core.Path.{_≡_, refl, sym, ap, ap₂, subst, _∙_}
 use mathlib.Core.Bool.{Bool, true, false, cond}
-use mathlib.Core.List.{[], _∷_}
+use mathlib.Core.List.{[], _∷_, _++_, append-nil}
 use Prim.Native.Nat.{ℕ, zero, suc, _+_, _-_, _<_, _≤_}
 use native.Mathlib.Numerals.{add-one}
 use native.Mathlib.Omega.{arith}
 use lib.Dec.{eqb}
-use lib.ListN.{length, getD, take, drop, length-drop}
+use lib.ListN.{length, getD, take, drop, take-append-drop, length-take, length-drop}
 use lib.Seq.{drop-cons, getD-take, getD-drop, length-take-le}
 use Rattle.records.specs.Lists.{keep}
 use Rattle.records.specs.Record.{Rec, Net, kind, ofKind}
+use Rattle.records.specs.Laws.Lists.{keep-append, keep-none}
 
 -- the records from place i up to place e
 abbrev pub part : Net → ℕ → ℕ → Net
@@ -29,6 +30,25 @@ part-none net i e h =
 
 pub part-at : (net : Net) (i e k : ℕ) → i + k < e → getD (part net i e) k [] ≡ getD net (i + k) []
 part-at net i e k h = getD-take (e - i) (drop i net) k [] (omega arith) ∙ getD-drop i net k []
+
+-- where a test fails before place a and from place b on, those that pass it stand between
+pub keep-part : (f : Rec → Bool) (net : Net) (a b : ℕ) → a ≤ b
+    → ((i : ℕ) → i < a → f (getD net i []) ≡ false) → ((i : ℕ) → b ≤ i → i < length net → f (getD net i []) ≡ false)
+    → keep f net ≡ keep f (part net a b)
+keep-part f net a b h under over =
+    ap (keep f) (sym (take-append-drop a net) ∙ ap (λ (x : Net). take a net ++ x) (sym (take-append-drop (b - a) (drop a net))))
+    ∙ keep-append f (take a net) (part net a b ++ drop (b - a) (drop a net))
+    ∙ ap₂ {C = Net} _++_ (keep-none f [] (take a net) front) (keep-append f (part net a b) (drop (b - a) (drop a net)) ∙ ap (λ (x : Net). keep f (part net a b) ++ x) (keep-none f [] (drop (b - a) (drop a net)) back))
+    ∙ append-nil (keep f (part net a b))
+  where
+    front : (i : ℕ) → i < length (take a net) → f (getD (take a net) i []) ≡ false
+    front i t = let l : i < a = omega (arith, length-take a net) in ap f (getD-take a net i [] l) ∙ under i l
+
+    back : (i : ℕ) → i < length (drop (b - a) (drop a net)) → f (getD (drop (b - a) (drop a net)) i []) ≡ false
+    back i t =
+        let e : a + (b - a + i) ≡ b + i = omega arith in
+        ap f (getD-drop (b - a) (drop a net) i [] ∙ getD-drop a net (b - a + i) [] ∙ ap (λ (k : ℕ). getD net k []) e)
+        ∙ over (b + i) (omega arith) (omega (arith, length-drop (b - a) (drop a net), length-drop a net))
 
 -- what was kept passes the test
 kept : (f : Rec → Bool) (net : Net) (i : ℕ) → i < length (keep f net) → f (getD (keep f net) i []) ≡ true
