@@ -156,7 +156,7 @@ module _ (net : Net) (w : Widths) (widths : w ≡ widthsOf net) (a : Arrival) (x
     led-all = record {
       miss = missed;
       rules = λ n. lead (omega (arith, n));
-      within = λ n. f (omega (arith, n)) .1;
+      within = λ n. let q = f (omega (arith, n)) in (q .0, q .1);
     }
 
 -- the tables have who leads each arrival, by the rules before number j

@@ -5,15 +5,13 @@ use mathlib.Core.Bool.{Bool, true, false, cond, _&&_, _||_, and-false, or-false}
 use mathlib.Core.List.{List, []}
 use Prim.Native.Nat.{ℕ, suc, _+_, _*_, _^_, _<_, _≤_}
 use native.Mathlib.Decide.{ℕ-discrete, decLt}
-use native.Mathlib.Nat.{pow-suc}
 use native.Mathlib.Omega.{arith}
 use lib.Dec.{eqb, ltb}
 use lib.ListN.{length, getD, set, length-set}
 use lib.Seq.{getD-set-same, getD-set-other}
 use Rattle.planes.specs.Bit.{bitOf}
 use Rattle.records.specs.State.{state, headerOf, portOf, switchOf}
-use Rattle.records.specs.Widths.{states, withinLimits}
-use Rattle.records.specs.Laws.States.{state-lt, few-states, header-of, port-of, switch-of}
+use Rattle.records.specs.Laws.States.{header-of, port-of, switch-of}
 use Rattle.records.specs.declared.Widths.{Widths}
 use Rattle.actions.specs.declared.leads.Lead.{Lead}
 use Rattle.actions.specs.Chosen.{Arrival}
@@ -114,13 +112,6 @@ module _ (w : Widths) (r j : ℕ) where
             go (no u) d e = rw (ne-eqb sw x (λ q. u (sym q))) (R .others (state w 0 x y z) (λ q. u (sym (switch-of w 0 x y z hx hy hz) ∙ ap (switchOf w) (q ∙ is) ∙ switch-of w 0 sw p h hs hp hh)))
             go (yes u) (no v) e = rw (eq-eqb sw x (sym u), ne-eqb y p v) (R .others (state w 0 x y z) (λ q. v (sym (port-of w 0 x y z hx hy hz) ∙ ap (portOf w) (q ∙ is) ∙ port-of w 0 sw p h hs hp hh)))
             go (yes u) (yes v) (no t) = rw (eq-eqb sw x (sym u), eq-eqb y p v, ne-eqb z h t) (R .others (state w 0 x y z) (λ q. t (sym (header-of w 0 x y z hx hy hz) ∙ ap (headerOf w) (q ∙ is) ∙ header-of w 0 sw p h hs hp hh)))
-
--- an arriving state has a place in the tables
-pub arriving-lt : (w : Widths) → withinLimits w ≡ true → (sw p h : ℕ) → sw < 2 ^ w .w → p < 2 ^ w .p → h < 2 ^ w .h → state w 0 sw p h < mostArriving
-unfolding state states
-arriving-lt w e sw p h hs hp hh =
-    let q : 2 ^ (1 + w .h + w .p + w .w) ≡ 2 ^ (w .h + w .p + w .w) * 2 = (let k : 1 + w .h + w .p + w .w ≡ suc (w .h + w .p + w .w) = omega arith in ap (λ (n : ℕ). 2 ^ n) k) ∙ pow-suc 2 (w .h + w .p + w .w) in
-    omega (arith, state-lt w 1 sw p h (omega arith) hs hp hh, few-states w e, q)
 
 -- the numbers below k that pass
 abbrev pub below : ℕ → (ℕ → Bool) → ℕ → Bool

@@ -1,6 +1,7 @@
 -- Laws that are cited, and need not be read to believe a promise.
 pub mod AddedBits
 pub mod AmongChosen
+pub mod Arriving
 pub mod Bodies
 pub mod Bounce
 pub mod BucketHeaders

@@ -2,7 +2,7 @@
 use mathlib.Core.Path.{_≡_}
 use mathlib.Core.Bool.{Bool, cond}
 use mathlib.Core.List.{List, [], _∷_}
-use Prim.Native.Nat.{ℕ, _+_, _^_, _<_}
+use Prim.Native.Nat.{ℕ, _+_, _^_, _<_, _≤_}
 use lib.Dec.{eqb, ltb}
 use lib.ListN.{length, getD}
 use Rattle.records.specs.Lists.{keep}
@@ -64,7 +64,7 @@ pub record Painted (w : Widths) (passes : Arrival → Bool) (r j : ℕ) (before 
 pub record Leads (net : Net) (w : Widths) (a : Arrival) (x : Lead) : Type 0 where
   pub miss : x .rank ≡ 0 → chosen net a ≡ getD (ofKind 3 net) (a .switch) [] ∷ []
   pub rules : (x .rank ≡ 0 → ⊥) → chosen net a ≡ keep (λ r. eqb (rankOf w a r) (x .rank)) (part (ofKind 4 net) (x .first) (x .last + 1))
-  pub within : (x .rank ≡ 0 → ⊥) → x .last < length (ofKind 4 net)
+  pub within : (x .rank ≡ 0 → ⊥) → (x .first ≤ x .last) × (x .last < length (ofKind 4 net))
 
 -- the tables say so of every arrival
 abbrev pub AllLead : Net → Widths → Tables → Type 0

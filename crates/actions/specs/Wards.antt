@@ -1,4 +1,4 @@
--- A small network made to try every kind of action, and what an arrival at each of its points sends: by computation, written by hand from document 01 and from request 2 of document 02.
+-- A small network made to try every kind of action, and what an arrival at each of its points sends: by computation, written by hand from document 01 and from requests 2 and 6 of document 02.
 use mathlib.Core.Path.{_≡_, refl}
 use mathlib.Core.List.{List, [], _∷_, map, flatMap}
 use Prim.Native.Nat.{ℕ}
@@ -23,9 +23,9 @@ shadowed = record24 (4 ∷ 0 ∷ 2 ∷ 0 ∷ 1 ∷ 3 ∷ 1 ∷ 1 ∷ 1 ∷ 1 ∷
 unfoldable pub mirror : Rec
 mirror = record24 (4 ∷ 0 ∷ 7 ∷ 0 ∷ 2 ∷ 3 ∷ 0 ∷ 2 ∷ 3 ∷ 1 ∷ 1 ∷ 3 ∷ 2 ∷ 1 ∷ 1 ∷ 1 ∷ 3 ∷ 3 ∷ [])
 
--- switch 0, priority 7, any port, header *0: OUTPUT 2, which sends nothing from port 2; the equal of the one before, which decides where both match
+-- switch 0, priority 7, any port, header *0: OUTPUT 2, which sends nothing from port 2, OUTPUT 3; the equal of the one before: where both match, both act, each with the header that arrived
 unfoldable pub equal : Rec
-equal = record24 (4 ∷ 0 ∷ 7 ∷ 0 ∷ 0 ∷ 0 ∷ 0 ∷ 1 ∷ 1 ∷ 1 ∷ 2 ∷ 3 ∷ [])
+equal = record24 (4 ∷ 0 ∷ 7 ∷ 0 ∷ 0 ∷ 0 ∷ 0 ∷ 1 ∷ 2 ∷ 1 ∷ 2 ∷ 3 ∷ 1 ∷ 3 ∷ 3 ∷ [])
 
 -- switch 1, priority 512, port 1, any header: OUTPUT 1*, SET 1*, SET *0, IN_PORT
 unfoldable pub rewrite : Rec
@@ -52,11 +52,11 @@ wards =
 abbrev copiesAt : ℕ → ℕ → ℕ → List ℕ
 copiesAt sw p h = flatMap (sent wards (widthsOf wards) (arrival sw p h)) (chosen wards (arrival sw p h))
 
--- the copies of the headers 0 to 3 at ports 1, 2 and 3 of switch 0, then of switch 1, in the order of the actions, then of the ports
+-- the copies of the headers 0 to 3 at ports 1, 2 and 3 of switch 0, then of switch 1, in the order of the rules, then of the actions, then of the ports
 sends :
     flatMap (λ (sw : ℕ). flatMap (λ (p : ℕ). map (copiesAt sw p) (from 0 4)) (from 1 3)) (from 0 2)
     ≡ (40 ∷ []) ∷ (41 ∷ []) ∷ (42 ∷ []) ∷ (43 ∷ [])
-    ∷ (36 ∷ 45 ∷ []) ∷ (37 ∷ 45 ∷ []) ∷ [] ∷ (35 ∷ [])
+    ∷ (36 ∷ 45 ∷ 44 ∷ []) ∷ (37 ∷ 45 ∷ []) ∷ (46 ∷ []) ∷ (35 ∷ [])
     ∷ (40 ∷ []) ∷ (33 ∷ []) ∷ (42 ∷ []) ∷ (35 ∷ [])
     ∷ (56 ∷ 54 ∷ []) ∷ (57 ∷ 54 ∷ []) ∷ (54 ∷ []) ∷ (55 ∷ [])
     ∷ (60 ∷ []) ∷ (61 ∷ []) ∷ (62 ∷ []) ∷ (63 ∷ [])

@@ -12,8 +12,8 @@ use state::values;
 ghost use mathlib.Core.Path.{_≡_};
 ghost use mathlib.Core.Bool.{true};
 ghost use mathlib.Core.List.{[], _∷_};
-ghost use Prim.Native.Nat.{ℕ, _^_, _<_};
-ghost use lib.ListN.{length};
+ghost use Prim.Native.Nat.{ℕ, _^_, _<_, _≤_};
+ghost use lib.ListN.{length, getD};
 ghost use Rattle.records.specs.Lists.{from};
 ghost use Rattle.records.specs.Record.{records};
 ghost use Rattle.records.specs.Fields.{actionsGood};
@@ -24,7 +24,7 @@ ghost use Rattle.actions.specs.Departing.{except, departing};
 ghost use Rattle.actions.specs.ByPlace.{arrival, ofBody};
 ghost use Rattle.actions.specs.BucketHeaders.{BucketHeaders};
 ghost use Rattle.actions.specs.Adds.{lineBytes, Added};
-ghost use Rattle.actions.specs.Sent.{Sends, flooded, Ready, UsedAction, Acted};
+ghost use Rattle.actions.specs.Sent.{Sends, flooded, Ready, GroupsRan, UsedAction, Acted};
 ghost use Rattle.scan.specs.Stored.{Stored};
 
 pub mod buckets;
@@ -137,7 +137,7 @@ fn act(
 }
 
 // Runs the actions of a record by its body, in order; they share the marks of the groups that have run.
-pub fn run(
+fn run(
     work: &mut [u8],
     line: usize,
     store: &[u8],
@@ -148,13 +148,13 @@ pub fn run(
     p: u8,
     body: &[u8],
     h: u8,
+    marks: &mut [u8],
 )
-    requires { ⌜ Stored n l (now store) × Sends (l .widths) line sw h (now work) × (p < 2 ^ l .widths .p) × BucketHeaders (records n (now store)) l (now buckets) ⌝ }
+    requires { ⌜ Stored n l (now store) × Ready (records n (now store)) (l .widths) line sw p h (now work) (now marks) × (p < 2 ^ l .widths .p) × BucketHeaders (records n (now store)) l (now buckets) ⌝ }
     requires { ⌜ (length (now body) ≡ 20) × (actionsGood (l .widths) (ofBody (now body)) ≡ true) ⌝ }
-    ensures { λ _. ⌜ Added (sent (records n (now (store .entry))) (l .widths) (arrival sw p h) (ofBody (now (body .entry)))) line (lineBytes (l .widths)) (now (work .entry)) (now (work .exit)) ⌝ }
+    ensures { λ _. ⌜ GroupsRan (records n (now (store .entry))) (l .widths) line sw p (sent (records n (now (store .entry))) (l .widths) (arrival sw p h) (ofBody (now (body .entry)))) (now (work .entry)) (now (marks .entry)) (now (work .exit)) (now (marks .exit)) ⌝ }
 {
     let count = body[7] as usize;
-    let mut marks = [0u8; 128];
     let mut left = count;
     let mut header = h;
     while 0 < left {
@@ -171,8 +171,43 @@ pub fn run(
             body,
             header,
             i,
-            &mut marks,
+            marks,
         );
         left -= 1;
     }
+}
+
+// Runs the record at place i, a miss or a rule, on an arrival. All records that run on it share the marks of the groups.
+pub fn run_record(
+    work: &mut [u8],
+    line: usize,
+    store: &[u8],
+    n: usize,
+    l: Layout,
+    buckets: &[u8; BUCKET_HEADERS],
+    sw: u8,
+    p: u8,
+    h: u8,
+    i: usize,
+    marks: &mut [u8],
+)
+    requires { ⌜ Stored n l (now store) × Ready (records n (now store)) (l .widths) line sw p h (now work) (now marks) × (p < 2 ^ l .widths .p) × BucketHeaders (records n (now store)) l (now buckets) ⌝ }
+    requires { ⌜ (l .misses ≤ i) × (i < l .nodes) ⌝ }
+    ensures { λ _. ⌜ GroupsRan (records n (now (store .entry))) (l .widths) line sw p (sent (records n (now (store .entry))) (l .widths) (arrival sw p h) (getD (records n (now (store .entry))) i [])) (now (work .entry)) (now (marks .entry)) (now (work .exit)) (now (marks .exit)) ⌝ }
+{
+    let a = i * 24 + 1;
+    let e = a + 20;
+    run(
+        work,
+        line,
+        store,
+        n,
+        l,
+        buckets,
+        sw,
+        p,
+        &store[a..e],
+        h,
+        marks,
+    );
 }

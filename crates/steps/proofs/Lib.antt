@@ -1,4 +1,5 @@
 -- Laws that several proofs of this crate use.
+pub mod ActingRules
 pub mod EveryHeader
 pub mod HeaderByHeader
 pub mod LinkCrossings

@@ -41,9 +41,10 @@ module _ (net : Net) (w : Widths) (a : Arrival) where
   unfolding relayed
   dropped e = ap (λ (t : Bool). cond t [] (flatMap (sent net w a) (chosen net a))) (eq-eqb (a .port) 0 e)
 
-  pub one-acts : (a .port ≡ 0 → ⊥) → (r : Rec) → chosen net a ≡ r ∷ [] → relayed net w a ≡ sent net w a r
-  unfolding relayed flatMap
-  one-acts n r e =
-      ap (λ (t : Bool). cond t [] (flatMap (sent net w a) (chosen net a))) (ne-eqb (a .port) 0 n)
-      ∙ ap (flatMap (sent net w a)) e
-      ∙ append-nil (sent net w a r)
+  pub all-act : (a .port ≡ 0 → ⊥) → relayed net w a ≡ flatMap (sent net w a) (chosen net a)
+  unfolding relayed
+  all-act n = ap (λ (t : Bool). cond t [] (flatMap (sent net w a) (chosen net a))) (ne-eqb (a .port) 0 n)
+
+  pub one-acts : (r : Rec) → chosen net a ≡ r ∷ [] → flatMap (sent net w a) (chosen net a) ≡ sent net w a r
+  unfolding flatMap
+  one-acts r e = ap (flatMap (sent net w a)) e ∙ append-nil (sent net w a r)

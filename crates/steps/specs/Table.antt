@@ -1,4 +1,4 @@
--- The whole step table of a small network, by computation: what each state steps to, written by hand from document 01, "One step", and from request 2 of document 02.
+-- The whole step table of a small network, by computation: what each state steps to, written by hand from document 01, "One step", and from requests 2 and 6 of document 02.
 use mathlib.Core.Path.{_≡_, refl}
 use mathlib.Core.List.{[], _∷_, map, flatMap}
 use mathlib.Core.Option.{none}
@@ -21,13 +21,13 @@ passes : fileRow [] wards ≡ none
 unfolding stepping
 passes = refl
 
--- what each of the 64 states steps to, with the headers 0 to 3 of a point in one line; copies stand in the order of the actions, then of the ports
+-- what each of the 64 states steps to, with the headers 0 to 3 of a point in one line; copies stand in the order of the rules, then of the actions, then of the ports
 table :
     map (next wards) (from 0 64)
     -- arriving at switch 0: ports 0, 1, 2 and 3
     ≡ [] ∷ [] ∷ [] ∷ []
     ∷ (40 ∷ []) ∷ (41 ∷ []) ∷ (42 ∷ []) ∷ (43 ∷ [])
-    ∷ (36 ∷ 45 ∷ []) ∷ (37 ∷ 45 ∷ []) ∷ [] ∷ (35 ∷ [])
+    ∷ (36 ∷ 45 ∷ 44 ∷ []) ∷ (37 ∷ 45 ∷ []) ∷ (46 ∷ []) ∷ (35 ∷ [])
     ∷ (40 ∷ []) ∷ (33 ∷ []) ∷ (42 ∷ []) ∷ (35 ∷ [])
     -- arriving at switch 1
     ∷ [] ∷ [] ∷ [] ∷ []

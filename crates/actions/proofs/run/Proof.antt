@@ -4,7 +4,7 @@ use mathlib.Core.Path.{_≡_, refl, sym, ap, subst, subst⁻¹, _∙_}
 use mathlib.Core.List.{_++_}
 use Prim.Native.Nat.{ℕ, _-_, _^_, _≤_, _<_}
 use native.Mathlib.Omega.{arith}
-use lib.ListN.{length, getD, length-replicate}
+use lib.ListN.{length, getD}
 use Rattle.records.specs.Record.{records}
 use Rattle.actions.specs.Actions.{sentBy, sent, copies}
 use Rattle.actions.specs.ByPlace.{arrival, ofBody}
@@ -13,25 +13,25 @@ use Rattle.actions.specs.Sent.{Ready}
 use Rattle.actions.specs.Laws.CopiesInOrder.{copies-left, header-after-lt}
 use Rattle.actions.specs.Laws.AddedBits.{TowardList, list-more, added-none}
 use Rattle.actions.specs.Laws.GoodActions.{used-action}
-use Rattle.actions.specs.Laws.Running.{ready-with, ready-on, ready-first}
+use Rattle.actions.specs.Laws.Running.{ready-with, ready-on}
 use Rattle.actions.proofs.run.Statement.{statement}
 use Rattle.actions.proofs.run.Tie as tie
 
 -- the last actions are left
 abbrev Inv-loop : tie.InvT-loop
-Inv-loop work₀ line store n l buckets sw p body h count marks₀ left₀ header₀ work marks left header =
-    (left ≤ count) × (length work ≡ length work₀) × (length marks ≡ 128)
+Inv-loop work₀ line store n l buckets sw p body h marks₀ count left₀ header₀ work marks left header =
+    (left ≤ count) × (length work ≡ length work₀) × (length marks ≡ length marks₀)
     × Ready (records n store) (l .widths) line sw p header work marks
     × TowardList line (lineBytes (l .widths)) (sent (records n store) (l .widths) (arrival sw p h) (ofBody body))
     (copies (records n store) (l .widths) (arrival sw p h) (ofBody body) header (count - left) left) work₀ work
 
 abbrev μ-loop : tie.MeasureT-loop
-μ-loop work₀ line store n l buckets sw p body h count marks₀ left₀ header₀ work marks left header = left
+μ-loop work₀ line store n l buckets sw p body h marks₀ count left₀ header₀ work marks left header = left
 
 loop-holds : tie.Need-loop-holds Inv-loop μ-loop
 unfolding sent
 loop-holds c =
-    let s = c .before .before .before .before in
+    let s = c .before .before .before .before .before in
     let a = s .args in
     let b = now (a .body) in
     let net = records (a .n) (now (a .store)) in
@@ -39,14 +39,14 @@ loop-holds c =
     let e : n - n ≡ 0 = omega arith in (
       omega arith,
       refl,
-      length-replicate {A = ℕ} 128 0,
-      ready-first net (a .l .widths) (a .line) (a .sw) (a .p) (a .h) (now (a .work)) (s .pre .0 .1),
+      refl,
+      s .pre .0 .1,
       λ d R. subst (λ (k : ℕ). Added (copies net (a .l .widths) (arrival (a .sw) (a .p) (a .h)) (ofBody b) (a .h) k n) (a .line) (lineBytes (a .l .widths)) (now (a .work)) d) e R,
     )
 
 act-requires : tie.Need-act-requires Inv-loop μ-loop
 act-requires c κs =
-    let s = c .before .before .before .before .before .before .before .before in
+    let s = c .before .before .before .before .before .before .before .before .before in
     let a = s .args in
     let o = c .before .before .before .loop in (
       (s .pre .0 .0, o .inv .3, s .pre .0 .2, s .pre .0 .3),
@@ -55,12 +55,12 @@ act-requires c κs =
 
 loop-again : tie.Need-loop-again Inv-loop μ-loop
 loop-again c =
-    let a = c .before .before .before .before .before .before .before .before .before .before .before .before .args in
+    let a = c .before .before .before .before .before .before .before .before .before .before .before .before .before .before .args in
     let r = ofBody (now (a .body)) in
     let net = records (a .n) (now (a .store)) in
     let w = a .l .widths in
-    let o = c .before .before .before .before .before .before .before .loop in
-    let A = c .before .before .before .act .ensures in
+    let o = c .before .before .before .before .before .before .before .before .loop in
+    let A = c .before .before .before .before .act .ensures in
     let v = arrival (a .sw) (a .p) (a .h) in
     let n = getD (now (a .body)) 7 0 in
     let i = n - o .left in (
@@ -81,7 +81,7 @@ unfolding copies
 returns c =
     let o = c .before .loop in
     let e : o .left ≡ 0 = omega arith in
-    o .inv .4 (o .work) (rw e (added-none _ _ _))
+    record { copies = o .inv .4 (o .work) (rw e (added-none _ _ _)); marksLen = o .inv .2; done = o .inv .3 .done }
 
 pub run-spec : {M : Type 1} → statement M
 run-spec =
@@ -93,10 +93,10 @@ run-spec =
     (λ c. omega (arith, c .shared-slice-known3 .given 7))
     loop-holds
     (λ c. search needs)
-    (λ c. sym (c .before .before .before .loop .inv .2))
     act-requires
     (λ c. search needs)
     (λ c. search needs)
     loop-again
     (λ c. c .before .loop .inv .1)
+    (λ c. c .before .loop .inv .2)
     returns)

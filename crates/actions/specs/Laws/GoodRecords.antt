@@ -79,6 +79,10 @@ module _ (n : ℕ) (l : Layout) (s : List ℕ) (st : Stored n l s) where
       group-parts (l .widths) (getD net i []) (kind-at 9 net (l .groups) n i all (omega (arith, length-records n s)) a b)
       (st .fields i (omega (arith, q .some-widths, q .switches, q .few-rules, groups-in)) b) .2
 
+  -- a miss, by its switch
+  pub miss-at : (sw : ℕ) → sw < 2 ^ l .widths .w → getD (ofKind 3 (records n s)) sw [] ≡ getD (records n s) (l .misses + sw) []
+  miss-at sw h = ap (λ (misses : Net). getD misses sw []) (st .laid .misses) ∙ part-at net (l .misses) (l .rules) sw (omega (arith, st .laid .switches))
+
   -- a rule, by its number among the rules
   pub rules-count : length (ofKind 4 (records n s)) ≡ l .nodes - l .rules
   rules-count = ap length (st .laid .rules) ∙ length-take-le (l .nodes - l .rules) (drop (l .rules) net) (omega (arith, length-drop (l .rules) net, in-net))

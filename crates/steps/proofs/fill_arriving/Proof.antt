@@ -1,107 +1,38 @@
-use denote.Ref.{now}
-use mathlib.Core.Path.{_≡_, ap, subst, subst⁻¹}
-use Prim.Native.Nat.{ℕ, _+_, _-_, _*_, _/_, _≤_, _<_}
-use native.Mathlib.Omega.{arith}
-use lib.ListN.{length, length-replicate}
-use Rattle.planes.specs.Lines.{Cleared, Made}
-use Rattle.planes.specs.Laws.Places.{line-before}
-use Rattle.planes.specs.Laws.Planes.{made-none}
-use Rattle.records.specs.Lists.{member}
-use Rattle.records.specs.Record.{mostRules, records}
-use Rattle.records.specs.Widths.{states}
-use Rattle.records.specs.Laws.Limits.{limits}
-use Rattle.records.specs.Laws.States.{whole-bytes}
-use Rattle.steps.specs.Relayed.{relays}
-use Rattle.actions.specs.Adds.{lineBytes, Added}
+use borrow.Author.Needs.{needs}
+use Prim.Native.Nat.{ℕ}
+use lib.ListN.{length-replicate}
+use Rattle.planes.specs.Laws.Lines.{no-byte}
+use Rattle.records.specs.Record.{mostRules}
 use Rattle.actions.specs.BucketHeaders.{mostEntries}
-use Rattle.steps.proofs.PlaneOfPairs.{line-more}
+use Rattle.actions.specs.Leads.{mostArriving}
 use Rattle.steps.proofs.fill_arriving.Statement.{statement}
 use Rattle.steps.proofs.fill_arriving.Tie as tie
 
--- the lines of the states below s are filled
-abbrev Inv-loop : tie.InvT-loop
-Inv-loop work₀ base store n l states bytes ports headers buckets s₀ work s = (s ≤ states) × Made (λ x t. member t (relays (records n store) (l .widths) x)) (lineBytes (l .widths)) base s work₀ work
+rule-sets-requires : tie.Need-rule-sets-requires
+rule-sets-requires c κs = (c .before .before .before .before .pre .1, (length-replicate {A = ℕ} mostRules 0, length-replicate {A = ℕ} mostRules 0))
 
-abbrev μ-loop : tie.MeasureT-loop
-μ-loop work₀ base store n l states bytes ports headers buckets s₀ work s = states - s
+bucket-headers-requires : tie.Need-bucket-headers-requires
+bucket-headers-requires c κs = (c .before .before .before .before .before .before .pre .1, length-replicate {A = ℕ} mostEntries 0)
 
-states-requires : tie.Need-states-requires Inv-loop μ-loop
-states-requires c κs = limits (c .before .before .before .args .l .widths) (c .before .before .before .pre .1 .laid .limits) .bits
-
-rule-sets-requires : tie.Need-rule-sets-requires Inv-loop μ-loop
-rule-sets-requires c κs = (c .before .before .before .before .before .before .pre .1, (length-replicate {A = ℕ} mostRules 0, length-replicate {A = ℕ} mostRules 0))
-
-bucket-headers-requires : tie.Need-bucket-headers-requires Inv-loop μ-loop
-bucket-headers-requires c κs = (c .before .before .before .before .before .before .before .before .pre .1, length-replicate {A = ℕ} mostEntries 0)
-
-loop-holds : tie.Need-loop-holds Inv-loop μ-loop
-loop-holds c = (omega arith, made-none _ _ _ _)
-
--- in a turn, line s lies in the buffer
-bytes-are : (c : tie.After-states Inv-loop μ-loop) → c .states .result / 8 ≡ lineBytes (c .before .before .before .before .args .l .widths)
-bytes-are c = ap (λ (n : ℕ). n / 8) (c .states .ensures)
-
-inside : (c : tie.In-loop Inv-loop μ-loop)
-    → let n = c .before .before .before .before .before .before .before in
-    let r = n .states .result / 8 in
-    n .before .before .before .before .args .base + c .before .loop .s * r + r ≤ length (c .before .loop .work)
-inside c =
-    let n = c .before .before .before .before .before .before .before in
-    let o = c .before .loop in
-    let s = n .before .before .before .before in
-    let w = s .args .l .widths in
-    let h : o .s < lineBytes w * 8 = omega (arith, n .states .ensures, c .loop-test .taken, whole-bytes w (s .pre .1 .laid .limits)) in
-    subst⁻¹ (λ (r : ℕ). s .args .base + o .s * r + r ≤ length (o .work)) (bytes-are n)
-    (omega (arith, line-before (o .s) (lineBytes w * 8) (lineBytes w) h, o .inv .1 .len, s .pre .0))
-
-relay-state-requires : tie.Need-relay-state-requires Inv-loop μ-loop
-relay-state-requires c κs =
-    let k = c .before .before .before .before .before .before in
-    let i = k .before .before in
-    let m = i .before .before in
-    let n = m .before .before .before .before .before in
-    (omega (arith, inside i, bytes-are n, k .clear .ensures .len), (n .before .before .before .before .pre .1, m .before .before .rule-sets .ensures, m .bucket-headers .ensures))
-
-loop-again : tie.Need-loop-again Inv-loop μ-loop
-loop-again c =
-    let k = c .before .before .before .before .before .before .before .before .before in
-    let i = k .before .before in
-    let o = i .before .loop in
-    let n = i .before .before .before .before .before .before .before in
-    let a = n .before .before .before .before .args in
-    let e = bytes-are n in (
-      omega arith,
-      line-more (relays (records (a .n) (now (a .store))) (a .l .widths)) (a .base) (lineBytes (a .l .widths)) (o .s) (now (a .work)) (o .work) (k .clear .last .0) (c .before .before .relay-state .last .0)
-          (o .inv .1)
-          (subst (λ (r : ℕ). Cleared (a .base + o .s * r) r (o .work) (k .clear .last .0)) e (k .clear .ensures))
-          (subst (λ (r : ℕ). Added (relays (records (a .n) (now (a .store))) (a .l .widths) (o .s)) (a .base + o .s * r) (lineBytes (a .l .widths)) (k .clear .last .0) (c .before .before .relay-state .last .0)) e
-          (c .before .before .relay-state .ensures)),
+find-leads-requires : tie.Need-find-leads-requires
+find-leads-requires c κs =
+    let n = length-replicate {A = ℕ} mostArriving 0 in (
+      (c .before .before .before .before .before .before .before .before .before .before .before .before .pre .1, c .before .before .before .before .before .before .before .rule-sets .ensures),
+      record { room = record { ranks = n; firsts = n; lasts = n }; none = no-byte mostArriving },
     )
 
-returns : tie.Need-returns Inv-loop μ-loop
-returns c =
-    let o = c .before .loop in
-    let n = c .before .before .before .before .before .before .before in
-    let a = n .before .before .before .before .args in
-    let e : o .s ≡ states (a .l .widths) = omega (arith, n .states .ensures) in
-    subst (λ (m : ℕ). Made (λ x t. member t (relays (records (a .n) (now (a .store))) (a .l .widths) x)) (lineBytes (a .l .widths)) (a .base) m (now (a .work)) (o .work)) e (o .inv .1)
+relay-states-requires : tie.Need-relay-states-requires
+relay-states-requires c κs =
+    let s = c .before .before .before .before .before .before .before .before .before .before .before .before .before .before .before .before .before .before .before .before in
+    (s .pre .0, ((s .pre .1, c .before .before .before .before .before .before .before .before .before .before .before .before .before .before .before .rule-sets .ensures, c .before .before .before .before .before .before .before .before .before .before .before .before .before .bucket-headers .ensures), c .before .before .before .before .before .before .before .find-leads .ensures))
 
 pub fill-arriving-spec : {M : Type 1} → statement M
 fill-arriving-spec =
     tie.close
     (tie.spec
-    Inv-loop
-    μ-loop
-    states-requires
     rule-sets-requires
     bucket-headers-requires
-    loop-holds
-    (λ c. omega (arith, inside c))
-    (λ c. omega (arith, inside c))
-    (λ c κs. omega (arith, inside (c .before)))
-    relay-state-requires
-    (λ c. omega arith)
-    (λ c. omega arith)
-    loop-again
-    (λ c. c .before .loop .inv .1 .len)
-    returns)
+    find-leads-requires
+    relay-states-requires
+    (λ c. search needs)
+    (λ c. search needs))

@@ -1,10 +1,14 @@
 use borrow.Author.Needs.{needs}
 use denote.Ref.{now}
-use mathlib.Core.Path.{sym, subst⁻¹, _∙_}
+use mathlib.Core.Path.{_≡_, sym, ap, subst, subst⁻¹, _∙_}
 use Prim.Native.Nat.{ℕ, _^_, _<_}
 use Rattle.records.specs.Record.{records}
+use Rattle.records.specs.State.{headerOf, portOf, switchOf, directionOf}
 use Rattle.records.specs.Laws.States.{header-lt, port-lt, switch-lt}
+use Rattle.actions.specs.ByPlace.{arrival}
+use Rattle.actions.specs.Leads.{tables, leadAt, Leads}
 use Rattle.actions.specs.Laws.AddedBits.{added-none}
+use Rattle.actions.specs.Laws.Arriving.{arriving-of, arrives-lt}
 use Rattle.steps.proofs.NextStates.{relays-arriving, relays-departing}
 use Rattle.steps.proofs.relay_state.Statement.{statement}
 use Rattle.steps.proofs.relay_state.Tie as tie
@@ -13,18 +17,25 @@ returns : tie.Need-returns
 returns c =
     let s = c .before .before .before .before .before in
     let a = s .args in
-    rw (relays-departing (records (a .n) (now (a .store))) (a .l .widths) (s .pre .1 .0 .laid .widths) (a .s) (λ e. c .if1 .taken (c .before .direction .ensures ∙ e)))
+    rw (relays-departing (records (a .n) (now (a .store))) (a .l .widths) (s .pre .1 .0 .0 .laid .widths) (a .s) (λ e. c .if1 .taken (c .before .direction .ensures ∙ e)))
     (added-none _ _ _)
+
+lead-at-requires : tie.Need-lead-at-requires
+lead-at-requires c κs =
+    let s = c .before .before .before .before .before .before in
+    arrives-lt (s .args .l .widths) (s .pre .1 .0 .0 .laid .limits) (s .args .s) (sym (c .before .before .direction .ensures) ∙ c .before .if1 .left)
 
 relay-requires : tie.Need-relay-requires
 relay-requires c κs =
-    let s = c .before .before .before .before .before .before .before .before .before in
+    let s = c .before .before .before .before .before .before .before .before .before .before in
     let a = s .args in
-    let w = a .l .widths in (
+    let w = a .l .widths in
+    let e : directionOf w (a .s) ≡ 0 = sym (c .before .before .before .before .before .before .direction .ensures) ∙ c .before .before .before .before .before .if1 .left in
+    let t = tables (now (a .ranks)) (now (a .firsts)) (now (a .lasts)) in (
       (
         record {
           ready = record {
-            limits = s .pre .1 .0 .laid .limits;
+            limits = s .pre .1 .0 .0 .laid .limits;
             room = s .pre .0;
             header = subst⁻¹ (λ (n : ℕ). n < 2 ^ w .h) (c .header .ensures) (header-lt w (a .s));
           };
@@ -32,17 +43,22 @@ relay-requires c κs =
         },
         subst⁻¹ (λ (n : ℕ). n < 2 ^ w .p) (c .before .port .ensures) (port-lt w (a .s)),
       ),
-      s .pre .1,
+      (
+        s .pre .1 .0,
+        rw (c .header .ensures, c .before .port .ensures, c .before .before .switch .ensures, c .before .before .before .lead-at .ensures)
+            (subst (λ (n : ℕ). Leads (records (a .n) (now (a .store))) w (arrival (switchOf w (a .s)) (portOf w (a .s)) (headerOf w (a .s))) (leadAt t n)) (arriving-of w (s .pre .1 .0 .0 .laid .limits) (a .s) e)
+            (s .pre .1 .1 (switchOf w (a .s)) (portOf w (a .s)) (headerOf w (a .s)) (switch-lt w (a .s)) (port-lt w (a .s)) (header-lt w (a .s)))),
+      ),
     )
 
 returns-2 : tie.Need-returns-2
 returns-2 c =
     let h = c .before .before .before in
-    let d = h .before .before .before .before .before in
-    let s = h .before .before .before .before .before .before .before .before .before in
+    let d = h .before .before .before .before .before .before in
+    let s = h .before .before .before .before .before .before .before .before .before .before in
     let a = s .args in
     rw (
-      relays-arriving (records (a .n) (now (a .store))) (a .l .widths) (s .pre .1 .0 .laid .widths) (a .s) (sym (d .direction .ensures) ∙ h .before .before .before .before .if1 .left),
+      relays-arriving (records (a .n) (now (a .store))) (a .l .widths) (s .pre .1 .0 .0 .laid .widths) (a .s) (sym (d .direction .ensures) ∙ h .before .before .before .before .before .if1 .left),
       ← (h .header .ensures),
       ← (h .before .port .ensures),
       ← (h .before .before .switch .ensures),
@@ -55,6 +71,7 @@ relay-state-spec =
     (tie.spec
     (λ c κs. search needs)
     returns
+    lead-at-requires
     (λ c κs. search needs)
     (λ c κs. search needs)
     (λ c κs. search needs)

@@ -8,7 +8,8 @@ use Rattle.planes.specs.Bit.{bitOf}
 use Rattle.records.specs.Laws.Limits.{limits}
 use Rattle.records.specs.Laws.Matched.{below-64}
 use Rattle.actions.specs.Leads.{mostArriving, tables, Painted}
-use Rattle.actions.proofs.PaintedLeads.{painted-one, arriving-lt, upTo, painted-start, painted-in, painted-out, painted-end, ofPort, port-none, port-joined}
+use Rattle.actions.specs.Laws.Arriving.{arriving-lt}
+use Rattle.actions.proofs.PaintedLeads.{painted-one, upTo, painted-start, painted-in, painted-out, painted-end, ofPort, port-none, port-joined}
 use Rattle.actions.proofs.leads.raise_ports.Statement.{statement}
 use Rattle.actions.proofs.leads.raise_ports.Tie as tie
 
