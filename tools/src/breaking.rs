@@ -5,7 +5,8 @@ use crate::fault::quoted;
 use crate::formula::Node;
 use crate::json::Object;
 use crate::names::Names;
-use crate::steps::{Network, State};
+use crate::priorities::{also_words, beside_words};
+use crate::steps::{Network, State, Taken};
 use crate::truth::{Reason, Truth};
 use crate::widths::Widths;
 use crate::words::{record_words, Teller};
@@ -78,7 +79,7 @@ impl Teller<'_> {
     }
 
     /// The name and the line of a policy.
-    fn policy_words(&self, number: usize) -> String {
+    pub(crate) fn policy_words(&self, number: usize) -> String {
         match self.source.policy(number) {
             Some(policy) => match &policy.name {
                 Some(name) => format!(" \"{name}\", line {},", policy.line),
@@ -114,10 +115,9 @@ impl Teller<'_> {
         let mut hops = vec![];
         for pair in route.windows(2) {
             let [from, to] = [pair[0], pair[1]].map(|number| State::numbered(number, of));
-            let Some(by) = network.carriers(from, to).filter(|_| !from.departing) else { continue };
+            let Some(taken) = network.taken(from, to).filter(|_| !from.departing) else { continue };
             let [switch, port, header] = field_names(&self.source.names, from);
             let [_, out, header_out] = field_names(&self.source.names, to);
-            let by: Vec<String> = by.iter().map(|it| self.record_of(left, it.place)).collect();
             let header = match from.header == to.header {
                 true => header,
                 false => format!("{header} set to {header_out}"),
@@ -125,7 +125,7 @@ impl Teller<'_> {
             let sent = if from.point == to.point { "back out" } else { "out" };
             hops.push(format!(
                 "switch {switch}: in at port {port}, {sent} at port {out}, header {header} ({})",
-                by.join(", then ")
+                self.taken_words(left, &taken)
             ));
         }
         let end = route.last().filter(|end| route.first() != Some(end));
@@ -135,6 +135,16 @@ impl Teller<'_> {
             hops.push(format!("switch {switch}: in at port {port}, header {header}"));
         }
         hops
+    }
+
+    /// What sends a frame on: the first record that does, with the groups behind it, and which rules
+    /// of the same priority act as well.
+    fn taken_words(&self, left: &Book, taken: &Taken) -> String {
+        let way = taken.by.first().into_iter().flatten();
+        let way: Vec<String> = way.map(|it| self.record_of(left, it.place)).collect();
+        let others = [also_words(left, taken), beside_words(left, taken)];
+        let words = [Some(way.join(", then "))].into_iter().chain(others);
+        words.flatten().collect::<Vec<String>>().join("; ")
     }
 
     /// A record with where it comes from.
@@ -152,7 +162,7 @@ fn direction(state: State) -> &'static str {
 }
 
 /// Switch, port and header of a state, each by its name and number.
-fn field_names(names: &Names, state: State) -> [String; 3] {
+pub(crate) fn field_names(names: &Names, state: State) -> [String; 3] {
     let [switch, port] = state.point;
     let both = |name: String, number: u8| match name == number.to_string() {
         true => name,
@@ -167,9 +177,7 @@ fn field_names(names: &Names, state: State) -> [String; 3] {
 
 /// What is known of why a state breaks a policy. Walks are told only if they are the network's.
 fn reasons(network: Network, policy: usize, state: usize) -> Vec<Reason> {
-    let is_node = |record: &&Record| record[0] == 5 && usize::from(record[1]) == policy;
-    let records = network.records.iter().filter(is_node);
-    let nodes: Vec<Node> = records.map(|node| [node[2], node[3], node[4]]).collect();
+    let nodes = nodes_of(network.records, policy);
     let is_way = |walk: &Vec<usize>| walk.windows(2).all(|pair| network.steps(pair[0], pair[1]));
     let mut reasons = Truth::of(network, &nodes).reasons(state);
     for reason in &mut reasons {
@@ -177,4 +185,10 @@ fn reasons(network: Network, policy: usize, state: usize) -> Vec<Reason> {
     }
     reasons.retain(|reason| reason.y.is_some() || !reason.walks.is_empty());
     reasons
+}
+
+/// The nodes of a policy.
+pub(crate) fn nodes_of(records: &[Record], policy: usize) -> Vec<Node> {
+    let is_node = |record: &&Record| record[0] == 5 && usize::from(record[1]) == policy;
+    records.iter().filter(is_node).map(|node| [node[2], node[3], node[4]]).collect()
 }

@@ -20,6 +20,7 @@ pub mod parse;
 pub mod picture;
 mod policies;
 pub mod print;
+pub mod priorities;
 pub mod program;
 pub mod route;
 pub mod source;

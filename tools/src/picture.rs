@@ -37,7 +37,7 @@ pub fn route_picture(source: &Source, route: &[usize]) -> Option<String> {
                 let label = format!("step {number}, header {header}");
                 edges += &format!("    s{switch} -- s{other} [label=\"{label}\"];\n");
             }
-            None => lines.extend(step.by.iter().map(|carrier| {
+            None => lines.extend(step.taken.by.iter().flatten().map(|carrier| {
                 let words = inside(source, switch, &carrier.words(source));
                 (switch, format!("step {number}: {words}"))
             })),

@@ -4,9 +4,10 @@ use crate::book::Book;
 use crate::json::Object;
 use crate::parse::parse_states;
 use crate::picture::route_picture;
+use crate::priorities::beside_words;
 use crate::source::{fault_trouble, Source};
 use crate::standard::{self, say};
-use crate::steps::{Carrier, Network, State};
+use crate::steps::{Carrier, Network, State, Taken, Way};
 use crate::trouble::{Status, Trouble};
 use crate::words::{record_words, Answer, Form, Teller};
 use crate::Record;
@@ -83,8 +84,7 @@ pub fn drawn(source: &Source, states: &str) -> Result<Status, Trouble> {
 /// A step of a route: the state before it, and what takes the frame on.
 pub struct Step {
     pub from: usize,
-    /// A link, or a rule or a miss and then the groups that the frame goes through.
-    pub by: Vec<Carrier>,
+    pub taken: Taken,
 }
 
 /// The steps of a route.
@@ -92,7 +92,7 @@ pub fn steps(network: Network, route: &[usize]) -> Vec<Step> {
     let of = network.widths;
     let step = |pair: &[usize]| {
         let [from, to] = [pair[0], pair[1]].map(|number| State::numbered(number, of));
-        Some(Step { from: pair[0], by: network.carriers(from, to)? })
+        Some(Step { from: pair[0], taken: network.taken(from, to)? })
     };
     route.windows(2).filter_map(step).collect()
 }
@@ -143,13 +143,27 @@ impl Teller<'_> {
         let mut words = String::new();
         for step in steps(network, route) {
             words += &format!("\n    {}", self.numbered_words(network, step.from));
-            for carrier in &step.by {
-                let origin = &book.origins[carrier.place];
-                words += &format!("\n    - {origin}: {}", carrier.words(self.source));
+            for line in self.taken_lines(book, &step.taken) {
+                words += &format!("\n    - {line}");
             }
         }
         let end = route.last().map(|end| self.numbered_words(network, *end));
         words + "\n    " + &end.unwrap_or_default()
+    }
+
+    /// A line for each record that takes a frame on, and one for rules that act beside them.
+    fn taken_lines(&self, book: &Book, taken: &Taken) -> Vec<String> {
+        let line = |carrier: &Carrier| {
+            format!("{}: {}", book.origins[carrier.place], carrier.words(self.source))
+        };
+        let mut lines: Vec<String> = vec![];
+        for way in &taken.by {
+            let equal = if lines.is_empty() { "" } else { "with the same priority, " };
+            lines.extend(way.iter().take(1).map(|rule| format!("{equal}{}", line(rule))));
+            lines.extend(way.iter().skip(1).map(line));
+        }
+        lines.extend(beside_words(book, taken));
+        lines
     }
 
     fn route_object(&self, book: &Book, ends: [usize; 2], found: &Found) -> Object {
@@ -174,16 +188,30 @@ impl Teller<'_> {
     /// The states of a route, each but the last with what takes it on.
     fn state_objects(&self, network: Network, route: &[usize]) -> Vec<Object> {
         let state = |number: usize| self.state_object(network.widths, number);
-        let moved = |step: Step| {
-            let mut by = step.by.iter().map(|carrier| self.carrier_object(carrier));
-            let first = by.next().unwrap_or_default();
-            let groups: Vec<Object> = by.collect();
-            let groups = Some(groups).filter(|groups| !groups.is_empty());
-            let object = state(step.from).and(first);
-            object.maybe(groups, |object, groups| object.objects("groups", &groups))
-        };
+        let moved = |step: Step| state(step.from).and(self.taken_object(&step.taken));
         let moved = steps(network, route).into_iter().map(moved);
         moved.chain(route.last().map(|end| state(*end))).collect()
+    }
+
+    /// What takes a frame on: the first record that does, the others, and rules that act beside them.
+    fn taken_object(&self, taken: &Taken) -> Object {
+        let mut ways = taken.by.iter().map(|way| self.way_object(way));
+        let first = ways.next().unwrap_or_default();
+        let also: Vec<Object> = ways.collect();
+        let also = Some(also).filter(|also| !also.is_empty());
+        let beside = Some(&taken.beside).filter(|beside| !beside.is_empty());
+        first
+            .maybe(also, |object, also| object.objects("also", &also))
+            .maybe(beside, |object, beside| object.numbers("beside", beside))
+    }
+
+    /// A record that takes a frame on, and the groups behind it.
+    fn way_object(&self, way: &Way) -> Object {
+        let mut by = way.iter().map(|carrier| self.carrier_object(carrier));
+        let first = by.next().unwrap_or_default();
+        let groups: Vec<Object> = by.collect();
+        let groups = Some(groups).filter(|groups| !groups.is_empty());
+        first.maybe(groups, |object, groups| object.objects("groups", &groups))
     }
 
     /// A record that takes a frame on.

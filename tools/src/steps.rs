@@ -1,4 +1,4 @@
-//! The network behind an answer: which record acts on a packet state, and where it goes from there.
+//! The network behind an answer: which records act on a packet state, and where it goes from there.
 //!
 //! The gate's verdicts do not depend on this; it finds what the words beside a verdict tell. The
 //! records are those of a network that no row refuses.
@@ -48,10 +48,24 @@ pub struct Carrier {
     pub part: Option<usize>,
 }
 
-/// A copy that a switch sends of a frame, and what sends it: a rule or a miss, then the groups that
-/// it goes through.
+/// How a frame is taken on: by a link, or by a rule or a miss and then the groups that it goes
+/// through.
+pub type Way = Vec<Carrier>;
+
+/// What takes a frame from one state to the next.
+#[derive(Clone, Debug, PartialEq, Eq)]
+pub struct Taken {
+    /// The ways, one for each record that sends the frame there, in the order of the file. There are
+    /// several where rules of equal priority do.
+    pub by: Vec<Way>,
+    /// The places of the rules that act on the frame too, of the same priority, and do not send it
+    /// there.
+    pub beside: Vec<usize>,
+}
+
+/// A copy that a switch sends of a frame, and what sends it.
 struct Sent {
-    by: Vec<Carrier>,
+    by: Way,
     copy: State,
 }
 
@@ -121,35 +135,31 @@ impl<'a> Network<'a> {
         port != DROP && port != self.widths.controller()
     }
 
-    /// The place of the record that acts on an arriving state: of the matching rules the first with
-    /// the highest priority, or else the switch's miss.
-    pub fn acting(&self, state: State) -> Option<usize> {
+    /// The places of the records that act on an arriving state: all matching rules of the highest
+    /// priority, in the order of the file, or else the switch's miss.
+    pub fn acting(&self, state: State) -> Vec<usize> {
         let [switch, port] = state.point;
         if state.departing || port == DROP {
-            return None;
+            return vec![];
         }
-        let mut best: Option<(u16, usize)> = None;
-        for (place, record) in self.records.iter().enumerate() {
-            let is_better = best.is_none_or(|(priority, _)| priority_of(record) > priority);
-            let matches = port & record[5] == record[4] && state.header & record[7] == record[6];
-            if record[0] == 4 && record[1] == switch && matches && is_better {
-                best = Some((priority_of(record), place));
-            }
-        }
-        let miss = || self.records.iter().position(|record| record[..2] == [3, switch]);
-        best.map(|(_, place)| place).or_else(miss)
+        let is_match = |place: &usize| is_matching_rule(&self.records[*place], state);
+        let matching: Vec<usize> = (0..self.records.len()).filter(is_match).collect();
+        let priority = |place: &usize| priority_of(&self.records[*place]);
+        let Some(highest) = matching.iter().map(priority).max() else {
+            let miss = self.records.iter().position(|record| record[..2] == [3, switch]);
+            return miss.into_iter().collect();
+        };
+        matching.into_iter().filter(|place| priority(place) == highest).collect()
     }
 
-    /// The states that a state steps to.
+    /// The states that a state steps to. Each record that acts starts from the header of the arrival.
     pub fn next(&self, state: State) -> Vec<State> {
         if state.departing {
             let arrive = |point| State { departing: false, point, ..state };
             return self.other_end(state.point).map(arrive).into_iter().collect();
         }
-        match self.acting(state) {
-            Some(place) => self.sent(place, state).into_iter().map(|sent| sent.copy).collect(),
-            None => vec![],
-        }
+        let sent = self.acting(state).into_iter().flat_map(|place| self.sent(place, state));
+        sent.map(|sent| sent.copy).collect()
     }
 
     /// What the actions of the record at a place send of an arriving state.
@@ -210,14 +220,21 @@ impl<'a> Network<'a> {
         ports.filter(|port| care == last || self.is_ordinary(*port)).collect()
     }
 
-    /// What takes one state to the next: a link, or a rule or a miss and the groups behind it.
-    pub fn carriers(&self, from: State, to: State) -> Option<Vec<Carrier>> {
+    /// What takes one state to the next.
+    pub fn taken(&self, from: State, to: State) -> Option<Taken> {
+        let mut taken = Taken { by: vec![], beside: vec![] };
         if from.departing {
             let place = self.records.iter().position(|record| ends_at(record, from.point))?;
-            return Some(vec![Carrier { place, part: None }]);
+            taken.by.push(vec![Carrier { place, part: None }]);
+            return Some(taken);
         }
-        let sent = self.sent(self.acting(from)?, from);
-        sent.into_iter().find(|sent| sent.copy == to).map(|sent| sent.by)
+        for place in self.acting(from) {
+            match self.sent(place, from).into_iter().find(|sent| sent.copy == to) {
+                Some(sent) => taken.by.push(sent.by),
+                None => taken.beside.push(place),
+            }
+        }
+        Some(taken).filter(|taken| !taken.by.is_empty())
     }
 
     /// Whether one state steps to another.
@@ -232,6 +249,15 @@ fn ends_at(record: &Record, point: Point) -> bool {
     record[0] == 2 && (record[1..3] == point || record[3..5] == point)
 }
 
-fn priority_of(record: &Record) -> u16 {
+/// Whether a record is a rule that matches an arriving state.
+fn is_matching_rule(record: &Record, state: State) -> bool {
+    let [switch, port] = state.point;
+    record[..2] == [4, switch]
+        && port & record[5] == record[4]
+        && state.header & record[7] == record[6]
+}
+
+/// The priority of a rule.
+pub fn priority_of(record: &Record) -> u16 {
     u16::from_le_bytes([record[2], record[3]])
 }

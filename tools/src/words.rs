@@ -234,7 +234,7 @@ impl Teller<'_> {
 }
 
 /// How many policies there are; they are numbered from 0 without gaps.
-fn policies(records: &[Record]) -> usize {
+pub(crate) fn policies(records: &[Record]) -> usize {
     let last = records.iter().rfind(|record| record[0] == 5);
     last.map_or(0, |record| usize::from(record[1]) + 1)
 }

@@ -36,10 +36,16 @@ fn network(records: &[Record]) -> Network<'_> {
     Network::new(records).unwrap()
 }
 
-/// Whether what acts on a state sends through a group.
+/// Whether a record that acts on a state sends through a group.
 fn through_group(network: Network, number: usize) -> bool {
     let acting = network.acting(State::numbered(number, network.widths));
-    acting.is_some_and(|place| actions(&network.records[place]).any(|[kind, ..]| kind == 4))
+    let is_through = |place: &usize| actions(&network.records[*place]).any(|[kind, ..]| kind == 4);
+    acting.iter().any(is_through)
+}
+
+/// Whether several rules act on a state.
+fn by_several(network: Network, number: usize) -> bool {
+    network.acting(State::numbered(number, network.widths)).len() > 1
 }
 
 /// The states that a state steps to, once each.
@@ -121,7 +127,7 @@ fn groups_in_a_row() {
 #[test]
 fn steps_are_those_of_the_second_implementation() {
     let mut random = Random::new(1);
-    let [mut back, mut through] = [0, 0];
+    let [mut back, mut through, mut several] = [0, 0, 0];
     for of in all_widths() {
         let records = random_network(&mut random, of, MODEST);
         let ours = network(&records);
@@ -134,18 +140,20 @@ fn steps_are_those_of_the_second_implementation() {
             let departing = number + ours.states() / 2;
             back += usize::from(steps.iter().any(|to| to >> of.h == departing >> of.h));
             through += usize::from(through_group(ours, number));
+            several += usize::from(by_several(ours, number));
         }
     }
     assert!(back > 100, "{back} states step back to their port");
     assert!(through > 100, "{through} states go through a group");
+    assert!(several > 100, "on {several} states several rules act");
 }
 
 /// Two states make a route of the library just where the one steps to the other.
 #[test]
 fn steps_are_those_of_the_library() {
     let mut random = Random::new(9);
-    let [mut back, mut through] = [0, 0];
-    for _ in 0..20 {
+    let [mut back, mut through, mut several] = [0, 0, 0];
+    for _ in 0..60 {
         let records = random_network(&mut random, SMALL, BARE);
         let network = network(&records);
         for from in 0..32 {
@@ -154,10 +162,12 @@ fn steps_are_those_of_the_library() {
             assert_eq!(next(network, from), steps, "state {from} of {records:?}");
             back += usize::from(steps.iter().any(|to| to >> 1 == (from + 16) >> 1));
             through += usize::from(through_group(network, from));
+            several += usize::from(by_several(network, from));
         }
     }
     assert!(back > 20, "{back} states step back to their port");
     assert!(through > 20, "{through} states go through a group");
+    assert!(several > 20, "on {several} states several rules act");
 }
 
 /// The lowest state that breaks the one policy, by the second implementation.
