@@ -44,7 +44,7 @@ fn examples() -> Vec<String> {
 #[test]
 fn every_example() {
     let examples = examples();
-    for known in ["chain", "flood", "k", "openflow10", "routes", "templates", "uplinks"] {
+    for known in ["chain", "equals", "flood", "k", "openflow10", "routes", "templates", "uplinks"] {
         assert!(examples.iter().any(|name| name == known), "{known}");
     }
     for example in examples {
