@@ -4,6 +4,7 @@ use crate::book::Book;
 use crate::fault::quoted;
 use crate::json::Object;
 use crate::parse::parse_command;
+use crate::priorities::Noted;
 use crate::source::{fault_trouble, Given, Source};
 use crate::standard;
 use crate::trouble::{Status, Trouble};
@@ -20,6 +21,8 @@ pub struct Judging<'a> {
     gate: Option<Gate>,
     book: Book,
     answered: usize,
+    /// What is said of rules that act together.
+    noted: Noted,
     teller: Teller<'a>,
     status: Status,
 }
@@ -104,6 +107,7 @@ impl<'a> Judging<'a> {
             gate: None,
             book: Book::new(&source.network, &source.lines),
             answered: 0,
+            noted: Noted::default(),
             teller: Teller { source, form, work },
             status: Status::Good,
         }
@@ -131,7 +135,11 @@ impl<'a> Judging<'a> {
         };
         let verdict = gate.as_ref().map(Gate::check).map_err(|refusal| *refusal);
         self.gate = gate.ok().filter(|gate| gate.check() == Checked::Holds);
-        self.answer(&Answer::Start(verdict), told)
+        self.answer(&Answer::Start(verdict), told)?;
+        if let Ok(verdict) = verdict {
+            self.note_equals(verdict == Checked::Holds);
+        }
+        Ok(())
     }
 
     /// Judges the network and the source's commands. They are not judged unless the network holds.
@@ -166,8 +174,16 @@ impl<'a> Judging<'a> {
         self.answer(&answer, told)?;
         if answer.is_good() {
             self.book = left;
+            self.note_equals(true);
         }
         Ok(())
+    }
+
+    /// Says which rules act together in the network, unless that is said already.
+    fn note_equals(&mut self, holds: bool) {
+        for note in self.teller.notes_on_equals(&self.book, holds, &mut self.noted) {
+            standard::say(&format!("note: {note}\n"));
+        }
     }
 
     /// Commands as lines of text. A faulty line is told and passed over.

@@ -9,6 +9,7 @@ use wegbaro_tests::networks::work_needed;
 use wegbaro_tests::records::Record;
 use wegbaro_tools::generate::{generate, Kind, Options};
 use wegbaro_tools::print::whole_records;
+use wegbaro_tools::priorities::acting_together;
 use wegbaro_tools::steps::{Network, State};
 
 fn text(kind: Kind, switches: usize, flows: usize, seed: u64) -> String {
@@ -31,6 +32,7 @@ fn check(records: &[Record]) -> Checked {
     Library.check(&store, records.len(), &mut vec![0; work_needed(records)])
 }
 
+/// Each network holds, and no two rules of it act together.
 #[test]
 fn networks_of_every_size_hold() {
     for kind in Kind::ALL {
@@ -40,6 +42,7 @@ fn networks_of_every_size_hold() {
             let records = records(&text);
             assert!(records.iter().any(|record| record[0] == 4), "{text}");
             assert!(records[0][1..4].iter().sum::<u8>() < 10);
+            assert_eq!(acting_together(Network::new(&records).unwrap()), [], "{text}");
             assert_eq!(check(&records), Checked::Holds, "{text}");
         }
     }

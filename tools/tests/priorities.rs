@@ -4,10 +4,19 @@ mod common;
 mod running;
 
 use common::parsed;
-use running::{expect, file, wegbaro, K};
+use running::{expect, file, wegbaro, Ran, K, K_LINES};
+use wegbaro_tests::formulas::{
+    all, and, bit, external, not, or, r, random_formula, some, tc, X, Y,
+};
+use wegbaro_tests::random::Random;
+use wegbaro_tools::formula::Node;
 use wegbaro_tools::print::whole_records;
+use wegbaro_tools::priorities::{acting_together, is_even};
 use wegbaro_tools::steps::{Network, State, Way};
 use wegbaro_tools::Record;
+
+/// The example with two rules of one priority that match the same frame.
+const EQUALS: &str = concat!(env!("CARGO_MANIFEST_DIR"), "/../examples/equals/network.txt");
 
 fn records(text: &str) -> Vec<Record> {
     whole_records(&parsed(text).bytes).0
@@ -149,4 +158,214 @@ route: found, 1 step
     let records = file("equals", &records(WARD).concat());
     let ran = wegbaro(&["route", &records, "2", "22"], b"");
     assert!(ran.text().contains("\n    - record 2 acts too, with the same priority\n"), "{ran:?}");
+}
+
+/// The sets of rules that act together, with the lowest state for each.
+fn sets(text: &str) -> Vec<(Vec<usize>, usize)> {
+    let records = records(text);
+    let network = network(&records);
+    let sets = acting_together(network).into_iter();
+    sets.map(|it| (it.places, it.state.number(network.widths))).collect()
+}
+
+/// Rules act together where no rule of higher priority matches, and at no port of drop. Sets within a
+/// larger one are not told.
+#[test]
+fn rules_that_act_together() {
+    assert_eq!(sets(SWITCH), [(vec![2, 4, 5], 2)]);
+    let switch = |rules: &str| sets(&format!("widths H 1 P 2 W 0\nmiss 0: output 1\n{rules}"));
+    let none: [(Vec<usize>, usize); 0] = [];
+    assert_eq!(switch("rule 0 priority 1 port 1: output 2\nrule 0 priority 2: output 2\n"), none);
+    assert_eq!(
+        switch("rule 0 priority 1 port 1: output 2\nrule 0 priority 1 port 1*: output 1\n"),
+        none
+    );
+    assert_eq!(
+        switch("rule 0 priority 1 header 1: output 2\nrule 0 priority 1 header 0: output 1\n"),
+        none
+    );
+    let pair = "rule 0 priority 1 port 1: output 2\nrule 0 priority 1 header 1: output 1\n";
+    assert_eq!(switch(pair), [(vec![2, 3], 3)]);
+    // A rule above hides them where they meet, or not.
+    assert_eq!(switch(&format!("{pair}rule 0 priority 2 header 1: output 1\n")), none);
+    assert_eq!(switch(&format!("{pair}rule 0 priority 2 header 0: output 1\n")), [(vec![2, 3], 3)]);
+    let at_drop = "rule 0 priority 1 port 0*: output 2\nrule 0 priority 1 port *0: output 2\n";
+    assert_eq!(switch(at_drop), none);
+    let two = "rule 0 priority 1 port 1: output 2\nrule 0 priority 1 port *1 header 0: output 2\n\
+               rule 0 priority 1 port 11: output 2\n";
+    assert_eq!(switch(two), [(vec![2, 3], 2), (vec![3, 4], 6)]);
+    let other = "widths H 1 P 2 W 1\nmiss 0: output 1\nmiss 1: output 1\n\
+                 rule 0 priority 1: output 2\nrule 1 priority 1 port 1: output 2\n";
+    assert_eq!(sets(other), none);
+}
+
+#[test]
+fn even_policies() {
+    let reach = [r(X, Y), tc(0, X, Y)];
+    let with = |more: &[Node]| is_even(&[&reach[..], more].concat());
+    assert!(with(&[some(1, Y)]));
+    assert!(with(&[external(X), not(2), some(1, Y), and(3, 4)]));
+    assert!(!with(&[some(1, Y), not(2)]));
+    assert!(!with(&[not(1), some(2, Y)]));
+    assert!(with(&[not(1), all(2, Y), not(3)]));
+    // One node, reached over one NOT and over none.
+    assert!(!with(&[not(1), or(1, 2), some(3, Y)]));
+    assert!(!is_even(&[r(X, Y), not(0), tc(1, X, X)]));
+    assert!(is_even(&[r(X, Y), not(0), tc(1, X, X), not(2)]));
+    // Without an R, and with one that is no part of the last node.
+    assert!(is_even(&[bit(X, 0), not(0)]));
+    assert!(is_even(&[r(X, Y), not(0), external(X)]));
+}
+
+/// How many NOTs each way from a node down to an R passes, way by way.
+fn nots(nodes: &[Node], from: u8) -> Vec<usize> {
+    let [kind, one, other] = nodes[usize::from(from)];
+    match kind {
+        0 | 2 => vec![],
+        1 => vec![0],
+        3 => nots(nodes, one).iter().map(|count| count + 1).collect(),
+        4 | 5 => [nots(nodes, one), nots(nodes, other)].concat(),
+        _ => nots(nodes, one),
+    }
+}
+
+/// Evenness is that of the ways one by one.
+#[test]
+fn even_way_by_way() {
+    let mut random = Random::new(21);
+    let [mut even, mut uneven] = [0, 0];
+    for _ in 0..5_000 {
+        let length = 1 + random.below(14);
+        let nodes = random_formula(&mut random, 5, length);
+        let ways = nots(&nodes, nodes.len() as u8 - 1);
+        let expected = ways.iter().all(|count| count.is_multiple_of(2));
+        assert_eq!(is_even(&nodes), expected, "{nodes:?}");
+        even += usize::from(expected && !ways.is_empty());
+        uneven += usize::from(!expected);
+    }
+    assert!(even > 100 && uneven > 100, "{even} even, {uneven} not");
+}
+
+const HOLDS: &str = "start: the network holds, no policy is broken\n";
+
+/// What is said of the example: its two rules, and each of its policies.
+const EQUALS_NOTES: &str = "\
+note: line 24 and line 25 are rules of switch core (1) with priority 10 that both match port 6, \
+header alarm (1); both act, where a switch may take just one of them
+note: policy 0 \"the pump stays inside\", line 28, is even: it holds also if a switch takes just \
+one of these rules, whichever
+note: policy 1 \"the server hears the pump\", line 31, is not even: it holds over the steps of all \
+these rules together, and may be broken if a switch takes just one of them
+";
+
+/// The notes stand on standard error, for every form of the answers, and change no answer.
+#[test]
+fn notes_on_the_example() {
+    let unjudged = "note: the file's commands are not judged; `wegbaro run` judges them too\n";
+    let ran = wegbaro(&["check", EQUALS], b"");
+    assert_eq!((ran.status, ran.text()), (Some(0), HOLDS));
+    assert_eq!(ran.said, format!("{unjudged}{EQUALS_NOTES}"));
+    // README.md shows both outputs.
+    let shown = format!("{unjudged}{HOLDS}{EQUALS_NOTES}").replace('\n', "\n    ");
+    let shown =
+        format!("    wegbaro check examples/equals/network.txt\n    {}\n", shown.trim_end());
+    assert!(include_str!("../README.md").contains(&shown), "{shown}");
+    let lines = "start holds\n1 blocked 1 3\n2 blocked 0 2\n3 forwarded 52\n";
+    let gate = |ran: Ran, text: &str| {
+        assert_eq!((ran.status, ran.text(), ran.said.as_str()), (Some(1), text, EQUALS_NOTES));
+    };
+    gate(wegbaro(&["run", "--gate", EQUALS], b""), lines);
+    gate(wegbaro(&["session", "--gate", EQUALS], b""), lines);
+    let explained = wegbaro(&["run", EQUALS], b"");
+    gate(wegbaro(&["explain", EQUALS], lines.as_bytes()), explained.text());
+    let ran = wegbaro(&["run", "--json", EQUALS], b"");
+    assert_eq!((ran.status, ran.said.as_str()), (Some(1), EQUALS_NOTES));
+}
+
+/// The desk's rule taken alone, as by a priority above the other's, breaks the policy that is not
+/// even; the server's rule taken alone breaks none.
+#[test]
+fn one_rule_of_the_example_taken_alone() {
+    let text = std::fs::read_to_string(EQUALS).unwrap();
+    let network = &text[..text.find("\nadd ").unwrap()];
+    let taken = |rule: &str| {
+        let higher = rule.replace("priority 10", "priority 11");
+        assert_eq!(network.matches(rule).count(), 1, "{rule}");
+        network.replace(rule, &higher).into_bytes()
+    };
+    let desk = taken("rule core priority 10 header alarm: output desk");
+    expect(&["check", "--gate", "-"], &desk, 1, "start violated 1 3\n");
+    let server = taken("rule core priority 10 port 6: output server");
+    let ran = wegbaro(&["check", "--gate", "-"], &server);
+    assert_eq!((ran.status, ran.text(), ran.said.as_str()), (Some(0), "start holds\n", ""));
+}
+
+/// Where a network does not hold, its policies are not said to hold. One that is refused has no rules
+/// that act.
+#[test]
+fn notes_on_networks_that_do_not_hold() {
+    let ran = wegbaro(&["check", "--gate", "-"], OPEN.as_bytes());
+    assert_eq!((ran.status, ran.text()), (Some(1), "start violated 0 3\n"));
+    let said =
+        "note: line 3, line 4 and line 5 are rules of switch 0 with priority 3 that all match \
+                port 1, header 1; all act, where a switch may take just one of them\n";
+    assert_eq!(ran.said, said);
+    let twice = OPEN.replace("rule 0 priority 3 header 1", "rule 0 priority 3");
+    let ran = wegbaro(&["check", "--gate", "-"], twice.as_bytes());
+    assert_eq!((ran.text(), ran.said.as_str()), ("start refused 8 4\n", ""));
+}
+
+/// What a command leaves is noted where rules act together that did not before, be it that they are
+/// uncovered. What that means for the policies is noted once.
+#[test]
+fn notes_on_commands() {
+    let commands = "\
+add 0 priority 10 header 0: set 1, output 2
+add 0 priority 10 port 1: output drop
+modify 0 priority 10 port 1: output controller
+add 0 priority 20 port 1: output drop
+delete 0 priority 20 port 1
+";
+    let lines = "\
+3 blocked 0 2
+4 forwarded 22
+5 forwarded 22
+6 forwarded 23
+7 forwarded 22
+";
+    let ran = wegbaro(&["session", "--gate", K], commands.as_bytes());
+    assert_eq!((ran.status, ran.text()), (Some(1), format!("{K_LINES}{lines}").as_str()));
+    let together = |command: &str| {
+        format!(
+            "note: line 8 and {command} are rules of switch 0 with priority 10 that both match port \
+             1, header 0; both act, where a switch may take just one of them\n"
+        )
+    };
+    let even =
+        "note: policy 0, line 13, is even: it holds also if a switch takes just one of these \
+                rules, whichever\n";
+    assert_eq!(ran.said, together("command 4") + even + &together("command 5"));
+}
+
+/// Many rules, and many sets of them, are counted.
+#[test]
+fn many_rules_that_act_together() {
+    let mut ward = "widths H 3 P 3 W 0\nmiss 0: output 1\n".to_string();
+    for header in ["***", "**0", "*0*", "*00", "0**", "0*0", "00*", "000"] {
+        ward += &format!("rule 0 priority 1 header {header}: output 2\n");
+    }
+    let ran = wegbaro(&["check", "-"], ward.as_bytes());
+    let said = "note: line 3, line 4, line 5, line 6 and 4 more are rules of switch 0 with priority 1 \
+                that all match port 1, header 0; all act, where a switch may take just one of them\n";
+    assert_eq!(ran.said, said);
+    let mut ward = "widths H 3 P 3 W 0\nmiss 0: output 1\n".to_string();
+    for header in 0..8 {
+        ward += &format!("rule 0 priority 1 header {header}: output 2\n");
+    }
+    for port in 1..3 {
+        ward += &format!("rule 0 priority 1 port {port}: output 2\n");
+    }
+    let said = wegbaro(&["check", "-"], ward.as_bytes()).said;
+    assert_eq!(said.matches(" are rules of switch 0 ").count(), 8, "{said}");
+    assert!(said.ends_with("note: so it is with 8 more sets of rules\n"), "{said}");
 }

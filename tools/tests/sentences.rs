@@ -13,6 +13,7 @@ use wegbaro_tools::compile::{compile, Compiled};
 use wegbaro_tools::names::Names;
 use wegbaro_tools::parse::{parse, Reader};
 use wegbaro_tools::print::{print, whole_records};
+use wegbaro_tools::priorities::is_even;
 use wegbaro_tools::templates::read_sentence;
 use wegbaro_tools::tokens::statements;
 use wegbaro_tools::widths::Widths as Wide;
@@ -74,6 +75,21 @@ fn every_sentence_is_its_formula() {
             }
         }
     }
+}
+
+/// Of the sentences one is not even: a frame that reaches a point may not reach it where a switch
+/// takes just one of several rules of equal priority.
+#[test]
+fn every_sentence_but_one_is_even() {
+    let nodes = |sentence: &str| {
+        let parsed = parsed(&format!("widths H 1 P 2 W 2\npolicy 0: {sentence}\n"));
+        let (records, _) = whole_records(&parsed.bytes);
+        records[1..].iter().map(|node| [node[2], node[3], node[4]]).collect::<Vec<_>>()
+    };
+    let sentences = sentences();
+    let uneven = sentences.iter().filter(|(sentence, _)| !is_even(&nodes(sentence)));
+    let uneven: Vec<&str> = uneven.map(|(sentence, _)| sentence.as_str()).collect();
+    assert_eq!(uneven, ["what enters at 0:1 reaches 3:2"]);
 }
 
 /// The second form of a sentence is true for the same states as the first.
