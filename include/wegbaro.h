@@ -137,6 +137,12 @@ static __inline__ unsigned int wegbaro_second(wegbaro_answer answer)
  * WEGBARO_VIOLATED  some policy's is: the lowest broken policy, and the lowest state that breaks it.
  * WEGBARO_REFUSED   the network was not judged: number and place of the table above.
  *
+ * Of the rules that match an arriving frame all of the highest priority act, and the frame steps wherever any of them sends
+ * it. OpenFlow leaves open which of them a switch takes. A policy is even if every way from its last node down to an R
+ * passes an even number of NOTs. If the network holds, each even policy also holds if every state takes the steps of just
+ * one of those rules, whichever. Other policies are judged over the steps of all of them together, and nothing is said of a
+ * switch that takes just one. The command call judges in the same way.
+ *
  * The store is only read. If refused, the work buffer is untouched. Otherwise its first WEGBARO_WORK_BYTES of this network
  * are all zero, and the rest of it is untouched. What is in it before the call does not matter. */
 wegbaro_answer wegbaro_check(const unsigned char *store, size_t store_len, size_t n, unsigned char *work,
@@ -167,10 +173,10 @@ wegbaro_answer wegbaro_command(unsigned char *store, size_t store_len, size_t n,
  * WEGBARO_NO_ROUTE  no frame gets there. The list is untouched.
  * WEGBARO_REFUSED   the network was not searched: number and place of the table above. The list is untouched.
  *
- * A route has the start first and the end last, and each of its states steps to the next. It has at least one step, so
- * from a state to itself it is a loop, and at most 2^N. Of all such lists it is one with the fewest steps, and of those
- * the one that has the smaller state where it first differs from another. The store is only read. The work buffer is left
- * as by the check call. `list_len` counts entries, not bytes. */
+ * A route has the start first and the end last, and each of its states steps to the next, by any of the rules where several
+ * of equal priority act. It has at least one step, so from a state to itself it is a loop, and at most 2^N. Of all such
+ * lists it is one with the fewest steps, and of those the one that has the smaller state where it first differs from
+ * another. The store is only read. The work buffer is left as by the check call. `list_len` counts entries, not bytes. */
 wegbaro_answer wegbaro_route(const unsigned char *store, size_t store_len, size_t n, unsigned char *work, size_t work_len,
                              size_t start, size_t end, unsigned short *list, size_t list_len);
 

@@ -36,7 +36,8 @@ extern "C" {
 /// The verdict on a network.
 #[derive(Clone, Copy, Debug, PartialEq, Eq, Hash)]
 pub enum Checked {
-    /// No policy's forbidden condition is true for any state.
+    /// No policy's forbidden condition is true for any state. Where rules of equal priority act
+    /// together, [`check`] says what that means for a switch that takes just one of them.
     Holds,
     /// Some policy's is.
     Violated {
@@ -78,6 +79,13 @@ pub enum Routed {
 
 /// The check call: judges the first `n` records of the store.
 ///
+/// Of the rules that match an arriving frame all of the highest priority act, and the frame steps
+/// wherever any of them sends it. OpenFlow leaves open which of them a switch takes. A policy is even
+/// if every way from its last node down to an R passes an even number of NOTs. If the network holds,
+/// each even policy also holds if every state takes the steps of just one of those rules, whichever.
+/// Other policies are judged over the steps of all of them together, and nothing is said of a switch
+/// that takes just one.
+///
 /// Every length and every content is allowed. The store has at least [`crate::STORE_BYTES`], the
 /// work buffer at least [`work_bytes`] of the network, or the call is refused; what is in the work
 /// buffer does not matter, and so much of it is zero after a verdict.
@@ -95,7 +103,7 @@ pub fn check(store: &[u8], n: usize, work: &mut [u8]) -> Result<Checked, Refusal
 }
 
 /// The command call: judges the network that the command would leave of the first `n` records of
-/// the store, and carries it out if that network holds.
+/// the store, as [`check`] does, and carries it out if that network holds.
 ///
 /// An add of a rule that is there replaces it. A delete of a rule that is not there changes nothing.
 /// A modify of one adds it in version 1 (OpenFlow 1.0), and changes nothing in version 4 (1.3); the
@@ -134,9 +142,10 @@ pub fn command(
 /// The route call: writes a route from the state `start` to the state `end`, in the network of the
 /// first `n` records of the store, into the list.
 ///
-/// A route has both ends and at least one step, each from a state to one that it steps to; from a
-/// state to itself it is a loop. Of all such lists it is one of the shortest, and of those the one
-/// with the smaller state where it first differs from another. No policy is judged.
+/// A route has both ends and at least one step, each from a state to one that it steps to, by any of
+/// the rules where several of equal priority act; from a state to itself it is a loop. Of all such
+/// lists it is one of the shortest, and of those the one with the smaller state where it first
+/// differs from another. No policy is judged.
 ///
 /// Store and work buffer are as for [`check`], and the list has at least [`list_entries`] of the
 /// network, or the call is refused. Entries behind the route keep their values; where there is no

@@ -9,7 +9,7 @@ use wegbaro_tests::networks::{
     all_widths, crowded, full_switch, random_network, work_needed, MODEST,
 };
 use wegbaro_tests::random::Random;
-use wegbaro_tests::records::{add, miss, modify, output, record, rule, widths, with, ANY};
+use wegbaro_tests::records::{add, miss, modify, output, record, rule, set, widths, with, ANY};
 
 fn store(records: &[Record]) -> Vec<u8> {
     let mut store = records.concat();
@@ -118,6 +118,25 @@ fn versions() {
     let sent = |priority| modify(rule(0, priority, ANY, ANY, &[output(1, 3)]));
     assert_eq!(gate.command(&sent(256)), Err(Refusal { row: 13, place: 0 }));
     assert_eq!(gate.command(&sent(255)), Ok(Commanded::Forwarded { count: 258 }));
+}
+
+/// Two rules of equal priority both act, each on the frame as it arrived; one of higher priority acts
+/// alone.
+#[test]
+fn equal_priorities() {
+    let mut gate = Gate::new(&k()).unwrap();
+    // Beside rule A, header 0 goes to the controller as header 1: states 20 and 23 follow state 2.
+    let beside =
+        |priority, port| add(rule(0, priority, ANY, [0, 1], &[set(1, 1), output(port, 3)]));
+    assert_eq!(gate.command(&beside(10, 3)), Ok(Commanded::Forwarded { count: 21 }));
+    assert_eq!(gate.route(2, 20), Ok(Some(vec![2, 20])));
+    assert_eq!(gate.route(2, 23), Ok(Some(vec![2, 23])));
+    assert_eq!(gate.route(2, 21), Ok(None));
+    // To port 2 it would let header 1 out, though rule A stands before it.
+    assert_eq!(gate.command(&beside(10, 2)), Ok(Commanded::Blocked { policy: 0, state: 2 }));
+    assert_eq!(gate.command(&beside(11, 3)), Ok(Commanded::Forwarded { count: 22 }));
+    assert_eq!(gate.route(2, 20), Ok(None));
+    assert_eq!(gate.route(2, 23), Ok(Some(vec![2, 23])));
 }
 
 /// A frame goes through a group in one step, and commands may name a group that is there.
