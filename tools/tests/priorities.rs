@@ -6,13 +6,15 @@ mod running;
 use common::parsed;
 use running::{expect, file, wegbaro, Ran, K, K_LINES};
 use wegbaro_tests::formulas::{
-    all, and, bit, external, not, or, r, random_formula, some, tc, X, Y,
+    all, and, bit, external, not, or, push, push_is_state, r, random_formula, some, tc, X, Y,
 };
+use wegbaro_tests::networks::{random_network, Sizes, Widths, MODEST};
 use wegbaro_tests::random::Random;
 use wegbaro_tools::formula::Node;
 use wegbaro_tools::print::whole_records;
 use wegbaro_tools::priorities::{acting_together, is_even};
 use wegbaro_tools::steps::{Network, State, Way};
+use wegbaro_tools::truth::Truth;
 use wegbaro_tools::Record;
 
 /// The example with two rules of one priority that match the same frame.
@@ -244,6 +246,80 @@ fn even_way_by_way() {
         uneven += usize::from(!expected);
     }
     assert!(even > 100 && uneven > 100, "{even} even, {uneven} not");
+}
+
+/// A network with rules of two priorities, so that many act together. The same rule stands once.
+fn crowded(random: &mut Random) -> Vec<Record> {
+    let most = Sizes { links: 3, rules: 10, policies: 0, nodes: 0, ..MODEST };
+    let mut records: Vec<Record> = vec![];
+    for mut record in random_network(random, Widths { h: 1, p: 2, w: 1 }, most) {
+        if record[0] == 4 {
+            record[2..4].copy_from_slice(&[0, random.bits(1)]);
+        }
+        if records.iter().all(|other| record[0] != 4 || other[..8] != record[..8]) {
+            records.push(record);
+        }
+    }
+    records
+}
+
+/// The network of switches that take just one of several equal rules: no two have one priority, and
+/// each keeps its place above and below the others.
+fn one_at_a_time(random: &mut Random, records: &[Record]) -> Vec<Record> {
+    let mut ranks: Vec<u8> = (0..records.len() as u8).collect();
+    let mut apart = records.to_vec();
+    for rule in apart.iter_mut().filter(|record| record[0] == 4) {
+        rule[2] = ranks.swap_remove(random.below(ranks.len()));
+    }
+    apart
+}
+
+/// The policy that a state reaches another.
+fn reaches(from: usize, to: usize) -> Vec<Node> {
+    let mut nodes = vec![r(X, Y), tc(0, X, Y)];
+    let is_end = push_is_state(&mut nodes, Y, to, 5);
+    let reached = push(&mut nodes, and(1, is_end));
+    let some_y = push(&mut nodes, some(reached, Y));
+    let none = push(&mut nodes, not(some_y));
+    let is_start = push_is_state(&mut nodes, X, from, 5);
+    push(&mut nodes, and(is_start, none));
+    nodes
+}
+
+/// What the notes say: an even policy that holds where rules act together also holds where switches
+/// take one of them. One that is not even may be broken there.
+#[test]
+fn even_policies_where_one_rule_is_taken() {
+    let mut random = Random::new(22);
+    let [mut even, mut broken] = [0, 0];
+    for _ in 0..2_000 {
+        let records = crowded(&mut random);
+        let nodes = match random.one_in(2) {
+            true => reaches(random.below(32), random.below(32)),
+            false => {
+                let length = 1 + random.below(14);
+                random_formula(&mut random, 5, length)
+            }
+        };
+        let holds = |records: &[Record]| {
+            let truth = Truth::of(network(records), &nodes);
+            (0..32).all(|state| !truth.breaks(state))
+        };
+        let is_about_steps = !nots(&nodes, nodes.len() as u8 - 1).is_empty();
+        let is_choice = !acting_together(network(&records)).is_empty();
+        if !is_about_steps || !is_choice || !holds(&records) {
+            continue;
+        }
+        for _ in 0..4 {
+            let apart = one_at_a_time(&mut random, &records);
+            assert_eq!(acting_together(network(&apart)), []);
+            let stands = holds(&apart);
+            assert!(stands || !is_even(&nodes), "{nodes:?} over {apart:?}");
+            even += usize::from(is_even(&nodes));
+            broken += usize::from(!stands);
+        }
+    }
+    assert!(even > 100 && broken > 20, "{even} times even, {broken} times broken");
 }
 
 const HOLDS: &str = "start: the network holds, no policy is broken\n";
