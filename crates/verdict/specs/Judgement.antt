@@ -17,7 +17,7 @@ use Rattle.verdict.specs.Laws.FirstState.{FirstPassing, first-is}
 use Rattle.verdict.specs.Laws.Tabled.{truth-iff}
 
 module _ (net : Net) where
-  a-state : 0 < states (widthsOf net)
+  pub a-state : 0 < states (widthsOf net)
   unfolding states
   a-state = pow-pos (width (widthsOf net))
 

@@ -4,6 +4,8 @@ pub mod Verdict
 pub mod Computed
 pub mod Judgement
 pub mod LastNode
+pub mod Choice
+pub mod EvenPolicies
 pub mod Evaluated
 pub mod Judge
 pub mod Laws

@@ -3,16 +3,15 @@ use mathlib.Core.Path.{_≡_, sym, subst, subst⁻¹, _∙_}
 use mathlib.Core.Logic.{_↔_, _⊎_, inl, inr, ⊎-elim}
 use Prim.Native.Nat.{ℕ, _<_}
 use native.Mathlib.Omega.{arith}
-use lib.Pow.{pow-pos}
 use Rattle.records.specs.Record.{Net}
-use Rattle.records.specs.Widths.{width, states, widthsOf}
+use Rattle.records.specs.Widths.{states, widthsOf}
 use Rattle.records.specs.Policy.{Formula, absent, BIT, R, E, NOT, AND, OR, SOME, ALL, TC, forbidden, policyCount}
 use Rattle.steps.specs.Step.{Step, external}
 use Rattle.closure.specs.Walk.{Walk}
 use Rattle.closure.specs.Laws.Walks.{map-walk}
 use Rattle.truth.specs.Truth.{Model, value, withX, withY, Truth}
 use Rattle.verdict.specs.Verdict.{Verdict, holds, violated, Breaks, Is}
-use Rattle.verdict.specs.Judgement.{verdict, verdict-meant, only}
+use Rattle.verdict.specs.Judgement.{a-state, verdict, verdict-meant, only}
 use Rattle.truth.specs.Laws.Tables.{value-lt, withX-lt, withY-lt}
 use Rattle.verdict.specs.Model.{modelOf}
 
@@ -72,14 +71,10 @@ module _ (a b : Net) (s : SameNetwork a b) where
         externals = λ x h. (λ t. sym (s .externals x h) ∙ t, λ t. s .externals x h ∙ t);
       }
 
-  some-state : 0 < states (widthsOf a)
-  unfolding states
-  some-state = pow-pos (width (widthsOf a))
-
   same-breaks : (p x : ℕ) → p < policyCount a → x < states (widthsOf a) → Breaks a p x ↔ Breaks b p x
   same-breaks p x hp hx =
       subst (λ (f : Formula). Truth (modelOf a) (forbidden a p) x 0 ↔ Truth (modelOf b) f x 0) (s .conditions p hp)
-      (same-truth (modelOf a) (modelOf b) model (forbidden a p) x 0 hx some-state)
+      (same-truth (modelOf a) (modelOf b) model (forbidden a p) x 0 hx (a-state a))
 
   to-b : (n : ℕ) → n < states (widthsOf b) → n < states (widthsOf a)
   to-b n h = omega (arith, s .widths)
