@@ -4,6 +4,7 @@ pub mod Theorem
 pub mod Exactly
 pub mod Existence
 pub mod Sound
+pub mod EvenPolicies
 pub mod Starred
 pub mod NoBounce
 pub mod ThroughGroups

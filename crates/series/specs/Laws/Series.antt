@@ -6,32 +6,23 @@ use Prim.Native.Nat.{ℕ}
 use native.Mathlib.Omega.{arith}
 use lib.ListN.{length}
 use Rattle.records.specs.Record.{Rec, Net}
-use Rattle.rows.specs.Refusal.{Refusal, checkRefusal, commandRefusal}
+use Rattle.rows.specs.Refusal.{Refusal, commandRefusal}
 use Rattle.records.specs.Laws.Records.{Whole}
 use Rattle.verdict.specs.Verdict.{Verdict, holds, violated, Holds, Is}
 use Rattle.verdict.specs.Judgement.{verdict, verdict-meant, only}
 use Rattle.calls.specs.Answer.{CheckAnswer, CommandAnswer, forwarded, blocked}
 use Rattle.commands.specs.Apply.{wouldLeave}
-use Rattle.calls.specs.Check.{unless, ofVerdict, checkAnswer}
+use Rattle.calls.specs.Found.{found-holds}
 use Rattle.calls.specs.Reference.{Installed, network, Outcome, judged, outcomeOf, answers, installed}
 use Rattle.calls.specs.Command.{Call, startOf, Promised, left, NotRefused}
 use Rattle.series.specs.Series.{countAfter, Series, end, next, SaidToHold, fed, ifForwarded, forwardedApplied, JudgedByResult, EachJudged, Kept}
-use Rattle.calls.specs.Laws.Store.{holds-passes, stored-records}
+use Rattle.calls.specs.Laws.Store.{stored-records}
 use Rattle.calls.specs.Laws.Outcomes.{outcomeBy}
 use Rattle.calls.specs.Laws.Refusals.{goes-on}
 
 -- what the check call said to hold holds
-holds-said : (v : Verdict) → ofVerdict v ≡ CheckAnswer.holds → v ≡ holds
-holds-said holds e = refl
-holds-said (violated p x) e = let z : _≡_ {A = ℕ} 0 1 = cc in absurd (omega arith)
-
 pub said-holds : (i : Installed) → SaidToHold i → Holds (network i)
-unfolding checkAnswer
-said-holds i s =
-    let passes : checkRefusal (i .bytes) (i .count) (s .0) ≡ none = holds-passes (i .bytes) (i .count) (s .0) (s .1) in
-    let said : ofVerdict (verdict (network i)) ≡ CheckAnswer.holds =
-    sym (ap (λ (r : Refusal). unless r CheckAnswer.refused (ofVerdict (verdict (network i)))) passes) ∙ s .1 in
-    subst (Is (network i)) (holds-said (verdict (network i)) said) (verdict-meant (network i))
+said-holds i s = found-holds (i .bytes) (i .count) (s .0) CheckAnswer.holds (sym (s .1))
 
 module _ (i : Installed) (c : Rec) (work : ℕ) where
   abbrev net : Net
@@ -94,7 +85,7 @@ module _ (c : Call) (d : Promised c) where
       (ap (countAfter (c .count)) (d .answered) ∙ count-is (startOf c) (c .given) (length (c .work)) refusal (verdict (left c)))
       (d .stores)
 
-  call-records : network after ≡ ifForwarded (c .answer) (c .given) (network (startOf c))
+  pub call-records : network after ≡ ifForwarded (c .answer) (c .given) (network (startOf c))
   unfolding outcomeOf
   call-records =
       ap network call-after
@@ -108,7 +99,7 @@ module _ (c : Call) (d : Promised c) where
       (holds-after (startOf c) (c .given) (length (c .work)) refusal (verdict (left c)) (whole (startOf c) (c .given) (length (c .work)))
       (verdict-meant (left c)) h)
 
-  call-judged : NotRefused c → JudgedByResult c
+  pub call-judged : NotRefused c → JudgedByResult c
   unfolding outcomeOf judged
   call-judged n =
       let i = startOf c in
