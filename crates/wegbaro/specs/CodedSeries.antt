@@ -3,11 +3,14 @@ use mathlib.Core.Path.{_≡_, sym, ap, subst⁻¹, _∙_}
 use mathlib.Core.List.{List, [], _∷_, map}
 use Prim.Native.Nat.{ℕ}
 use lib.ListN.{length}
+use Rattle.records.specs.Record.{records}
+use Rattle.verdict.specs.Choice.{EvenPoliciesHold}
 use Rattle.calls.specs.Answer.{CheckAnswer, CommandAnswer}
-use Rattle.calls.specs.Reference.{Installed}
+use Rattle.calls.specs.Reference.{Installed, network}
 use Rattle.calls.specs.Command.{Call, call, startOf, Promised}
 use Rattle.series.specs.Series.{countAfter, Series, SaidToHold, Kept}
 use Rattle.series.specs.Theorem.{kept}
+use Rattle.series.specs.EvenPolicies.{forwarded-even, series-even}
 use Rattle.wegbaro.specs.Code.{commandCode, CheckCoded, CommandCoded}
 use Rattle.wegbaro.specs.Decoded.{checkDecoded, commandDecoded, command-decoded, check-promised, command-promised}
 
@@ -74,3 +77,13 @@ said-to-hold i h = (length (h .work), sym (check-promised (h .promised) .answere
 pub coded-kept : {start : Installed} {cs : List CodedCall} {final : Installed} → CodedHolds start → CodedSeries start cs final
     → Kept start (map decoded cs) final
 coded-kept {start} h series = kept (said-to-hold start h) (as-series series)
+
+-- after a call whose decoded answer is forwarded every even policy of the network in the store holds under every choice among equals
+pub coded-forwarded-even : (c : CodedCall) → KeepsPromise c → (m : ℕ) → commandDecoded (c .code) ≡ CommandAnswer.forwarded m
+    → EvenPoliciesHold (records m (c .store-after))
+coded-forwarded-even c d = forwarded-even (decoded c) (command-promised d)
+
+-- and so at the end of a series does every even policy of the installed network
+pub coded-series-even : {start : Installed} {cs : List CodedCall} {final : Installed} → CodedHolds start → CodedSeries start cs final
+    → EvenPoliciesHold (network final)
+coded-series-even {start} h series = series-even (said-to-hold start h) (as-series series)

@@ -5,9 +5,14 @@ use Prim.Native.Nat.{ℕ, zero, suc, _/_, _%_, _^_, _<_}
 use native.Mathlib.Omega.{arith}
 use lib.Dec.{lit<}
 use lib.ListN.{length}
-use Rattle.records.specs.Record.{Rec}
+use Rattle.records.specs.Record.{Rec, records}
+use Rattle.records.specs.Policy.{forbidden}
+use Rattle.truth.specs.Even.{Even}
+use Rattle.verdict.specs.Choice.{Choice, HoldsUnder}
 use Rattle.calls.specs.Answer.{CheckAnswer, CommandAnswer}
 use Rattle.calls.specs.Check.{checkAnswer, CheckPromised}
+use Rattle.calls.specs.Found.{FoundToHold}
+use Rattle.calls.specs.EvenPolicies.{check-even}
 use Rattle.calls.specs.Reference.{Installed, outcomeOf}
 use Rattle.calls.specs.Command.{call, Promised}
 use Rattle.calls.specs.Laws.Bounds.{Fits16, CheckSmall, CommandSmall, check-small, command-small}
@@ -109,6 +114,12 @@ pub check-promised : {store : List ℕ} {n : ℕ} {work : List ℕ} {code : ℕ}
     → CheckPromised store n work (checkDecoded code) after
 check-promised {store} {n} {work} c =
     record { answered = ap checkDecoded (c .answered) ∙ check-decoded store n (length work); works = c .works }
+
+-- and by its decoded answer an even policy that it found to hold holds under every choice among equals
+pub coded-even : {store : List ℕ} {n : ℕ} {work : List ℕ} {code : ℕ} {after : List ℕ} → CheckCoded store n work code after
+    → (p : ℕ) → FoundToHold (records n store) (checkDecoded code) p → Even (forbidden (records n store) p)
+    → (c : ℕ → Rec) → Choice (records n store) c → HoldsUnder (records n store) c p
+coded-even d = check-even (check-promised d)
 
 -- and the exported command call the command call's
 pub command-promised : {store : List ℕ} {n : ℕ} {work given : List ℕ} {code : ℕ} {store-after work-after : List ℕ}
