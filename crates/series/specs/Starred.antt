@@ -2,28 +2,24 @@
 use borrow.Author.Tests.{not-true}
 use mathlib.Core.Path.{_≡_, refl, sym, ap, subst, subst⁻¹, _∙_}
 use mathlib.Core.Bool.{Bool, true, false, not, Bool·beq}
-use mathlib.Core.List.{List, [], _∷_, map, flatMap}
+use mathlib.Core.List.{List, [], _∷_, map}
 use mathlib.Core.Logic.{_↔_}
 use Prim.Native.Nat.{ℕ, zero, suc, _<_}
 use lib.Dec.{lit<}
 use lib.ListN.{getD}
 use Rattle.planes.specs.Laws.Tests.{not-both}
 use Rattle.closure.specs.Walk.{Walk}
-use Rattle.planes.specs.Tabulated.{gridTest, tab, grid}
-use Rattle.closure.specs.Computed.{orLine, addLine, round, rounds, closed}
-use Rattle.records.specs.Lists.{all, member}
+use Rattle.records.specs.Lists.{member}
 use Rattle.records.specs.Record.{Net, flat}
 use Rattle.records.specs.Widths.{states, widthsOf}
-use Rattle.records.specs.State.{headerOf, portOf, switchOf, directionOf}
-use Rattle.records.specs.Policy.{X, Y, R, TC, formula, forbidden}
-use Rattle.rows.specs.Computing.{refusing}
-use Rattle.actions.specs.Computing.{sending}
-use Rattle.steps.specs.Step.{across, nextBy, next, Step, external}
+use Rattle.records.specs.Policy.{X, Y, R, TC, formula}
+use Rattle.steps.specs.Step.{Step}
 use Rattle.truth.specs.Truth.{Truth}
 use Rattle.verdict.specs.Verdict.{Verdict, holds, violated, Holds, Lowest, Is}
-use Rattle.truth.specs.Computed.{anyBelow, allBelow, truth}
-use Rattle.verdict.specs.Computed.{firstFrom, lowestState, verdictFrom, tableOf}
-use Rattle.verdict.specs.Judgement.{judgement, verdict, verdict-meant}
+use Rattle.truth.specs.Computed.{allBelow, truth}
+use Rattle.verdict.specs.Computed.{tableOf}
+use Rattle.verdict.specs.Judgement.{verdict, verdict-meant}
+use Rattle.verdict.specs.Computing.{judging}
 use Rattle.truth.specs.Laws.Tables.{all-iff}
 use Rattle.calls.specs.Answer.{CheckAnswer, CommandAnswer, forwarded, blocked}
 use Rattle.commands.specs.Apply.{asRule, withActions, changed, inserted, removed, added, applied, wouldLeave}
@@ -34,7 +30,7 @@ use Rattle.verdict.specs.Laws.Tabled.{truth-iff}
 
 -- all that a starred case computes with
 unfoldable pub computing : Unit {0}
-unfolding flatMap gridTest orLine addLine round rounds tab grid closed member flat headerOf portOf switchOf directionOf forbidden refusing sending across nextBy next external tableOf anyBelow allBelow truth firstFrom lowestState verdictFrom judgement verdict asRule withActions changed inserted removed added applied checkAnswer outcomeOf judged stored record24 node A B policy0 K inStore addAny addZero addSet addDrop deleteAbsent addD deleteD
+unfolding judging flat asRule withActions changed inserted removed added applied checkAnswer outcomeOf judged stored record24 node A B policy0 K inStore addAny addZero addSet addDrop deleteAbsent addD deleteD
 computing = tt
 
 -- the network with the first add's rule and D in the file

@@ -6,6 +6,7 @@ pub mod Judgement
 pub mod LastNode
 pub mod Choice
 pub mod EvenPolicies
+pub mod Computing
 pub mod Evaluated
 pub mod Judge
 pub mod Laws
