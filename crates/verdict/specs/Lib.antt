@@ -7,6 +7,7 @@ pub mod LastNode
 pub mod Choice
 pub mod EvenPolicies
 pub mod Computing
+pub mod EvenExample
 pub mod Evaluated
 pub mod Judge
 pub mod Laws
