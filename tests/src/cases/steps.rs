@@ -128,8 +128,8 @@ fn headers() -> Vec<CheckCase> {
     .concat()
 }
 
-/// The highest priority decides, then the first in the file, then the miss record, even if what
-/// decides sends nothing.
+/// The highest priority decides, and the miss record only where no rule matches, even if what decides
+/// sends nothing. Equal priorities have cases of their own.
 fn priorities() -> Vec<CheckCase> {
     let drop = [output(0, 3)];
     let by_number = [
@@ -137,8 +137,6 @@ fn priorities() -> Vec<CheckCase> {
         rule(0, 256, ANY, [1, 1], &[output(2, 3)]),
         rule(0, 255, ANY, [1, 1], &[output(3, 3)]),
     ];
-    let port_1 = rule(0, 5, [1, 3], ANY, &[IN_PORT]);
-    let header_0 = rule(0, 5, ANY, [0, 1], &[output(2, 3)]);
     let odd_ports = rule(0, 0, [1, 1], ANY, &[output(3, 3)]);
     [
         table(
@@ -146,18 +144,6 @@ fn priorities() -> Vec<CheckCase> {
             &one_switch(&[], &drop, &by_number),
             4,
             &[(2, &[]), (3, &[13]), (4, &[10]), (5, &[]), (6, &[10]), (7, &[13])],
-        ),
-        table(
-            "equal priorities, port 1 first",
-            &one_switch(&[], &drop, &[port_1, header_0]),
-            4,
-            &[(2, &[10]), (3, &[11]), (4, &[]), (5, &[9]), (6, &[12]), (7, &[9])],
-        ),
-        table(
-            "equal priorities, header 0 first",
-            &one_switch(&[], &drop, &[header_0, port_1]),
-            4,
-            &[(2, &[12]), (3, &[11]), (4, &[]), (5, &[9]), (6, &[12]), (7, &[9])],
         ),
         table(
             "priority 0 against a miss",

@@ -111,7 +111,7 @@ fn split(number: usize, bits: u8) -> (usize, u8) {
 }
 
 /// A set of state numbers.
-#[derive(Clone, Debug)]
+#[derive(Clone, Debug, PartialEq, Eq)]
 pub struct StateSet {
     words: [u64; 16],
 }
@@ -147,5 +147,13 @@ impl StateSet {
             }
         }
         members
+    }
+}
+
+impl FromIterator<usize> for StateSet {
+    fn from_iter<I: IntoIterator<Item = usize>>(states: I) -> StateSet {
+        let mut set = StateSet::empty();
+        states.into_iter().for_each(|state| set.insert(state));
+        set
     }
 }

@@ -3,47 +3,55 @@
 use super::groups::Tables;
 use super::network::{Action, Network, Pattern, Rule};
 use super::states::{Direction, Point, State, StateSet, DROP};
-use std::cmp::Reverse;
+use std::collections::BTreeMap;
 
 /// For each state number, the numbers of the states it steps to.
 pub fn all_steps(network: &Network) -> Vec<StateSet> {
-    let widths = network.widths;
+    steps_by(network, |point, header| acting(network, point, header))
+}
+
+/// The same if these lists of actions, each by itself, run on what arrives at a point with a header.
+pub fn steps_by<A: AsRef<[Action]>>(
+    network: &Network,
+    mut acting: impl FnMut(Point, u8) -> Vec<A>,
+) -> Vec<StateSet> {
     let groups = Tables::of(network);
     let steps_of = |number| {
-        let mut set = StateSet::empty();
-        for state in steps(network, &groups, State::numbered(number, widths)) {
-            set.insert(state.number(widths));
-        }
-        set
+        let state = State::numbered(number, network.widths);
+        let next: Vec<State> = match state.direction {
+            Direction::Arriving if state.point.port == DROP => vec![],
+            Direction::Arriving => {
+                let acting = acting(state.point, state.header);
+                let sent = |actions: &A| copies(network, &groups, state, actions.as_ref());
+                acting.iter().flat_map(sent).collect()
+            }
+            Direction::Departing => across(network, state).into_iter().collect(),
+        };
+        next.iter().map(|state| state.number(network.widths)).collect()
     };
-    (0..widths.states()).map(steps_of).collect()
+    (0..network.widths.states()).map(steps_of).collect()
 }
 
-/// The states that a state steps to.
-fn steps(network: &Network, groups: &Tables, state: State) -> Vec<State> {
-    match state.direction {
-        Direction::Arriving if state.point.port == DROP => vec![],
-        Direction::Arriving => copies(network, groups, state.point, state.header),
-        Direction::Departing => {
-            let end = network.other_end(state.point);
-            end.map(|point| arrive(point, state.header)).into_iter().collect()
-        }
-    }
-}
-
-fn arrive(point: Point, header: u8) -> State {
-    State { direction: Direction::Arriving, point, header }
+/// The state at the other end of the link, if there is one.
+fn across(network: &Network, departed: State) -> Option<State> {
+    let point = network.other_end(departed.point)?;
+    Some(State { direction: Direction::Arriving, point, header: departed.header })
 }
 
 fn depart(point: Point, header: u8) -> State {
     State { direction: Direction::Departing, point, header }
 }
 
-/// The copies sent by the actions that an arriving packet meets.
-fn copies(network: &Network, groups: &Tables, point: Point, header: u8) -> Vec<State> {
-    let mut header = header;
+/// The copies of an arriving packet that actions send.
+pub fn copies(
+    network: &Network,
+    groups: &Tables,
+    arrived: State,
+    actions: &[Action],
+) -> Vec<State> {
+    let State { point, mut header, .. } = arrived;
     let mut copies = vec![];
-    for action in actions_met(network, point, header) {
+    for action in actions {
         match action {
             Action::Set(pattern) => header = pattern.put_into(header),
             Action::Output(pattern) => {
@@ -69,16 +77,21 @@ fn elsewhere(network: &Network, sent: &StateSet, arrival: u8) -> Vec<State> {
         .collect()
 }
 
-/// The actions of the first rule of highest priority that matches, or of the miss record.
-pub fn actions_met(network: &Network, point: Point, header: u8) -> &[Action] {
-    let matching = network.rules.iter().filter(|rule| matches(rule, point, header));
-    match matching.min_by_key(|rule| Reverse(rule.matching.priority)) {
-        Some(rule) => &rule.actions,
-        None => &network.misses[usize::from(point.switch)],
+/// The actions of each record that acts on what arrives at a point with a header: of the rules that
+/// match, parted by priority, all of the highest; without one, the miss record.
+pub fn acting(network: &Network, point: Point, header: u8) -> Vec<&[Action]> {
+    let mut by_priority: BTreeMap<u16, Vec<&[Action]>> = BTreeMap::new();
+    for rule in network.rules.iter().filter(|rule| matches(rule, point, header)) {
+        by_priority.entry(rule.matching.priority).or_default().push(&rule.actions);
+    }
+    match by_priority.pop_last() {
+        Some((_, highest)) => highest,
+        None => vec![&network.misses[usize::from(point.switch)]],
     }
 }
 
-fn matches(rule: &Rule, point: Point, header: u8) -> bool {
+/// Whether a rule matches what arrives at a point with a header.
+pub fn matches(rule: &Rule, point: Point, header: u8) -> bool {
     let matching = &rule.matching;
     matching.switch == point.switch
         && matching.port.matches(point.port)

@@ -140,28 +140,30 @@ fn is_step(records: &[Record], from: usize, to: usize) -> bool {
     } else if direction == 1 {
         to_header == header && ends(records).contains(&[switch, port, to_switch, to_port])
     } else {
-        let record = deciding(records, switch, port, header);
+        let sent = |record| sends(records, record, [port, header], [to_port, to_header]);
         port != 0
             && switch == to_switch
-            && sends(records, record, [port, header], [to_port, to_header])
+            && acting(records, switch, port, header).into_iter().any(sent)
     }
 }
 
-/// The rule that an arriving packet takes, or the miss record.
-fn deciding(records: &[Record], switch: usize, port: usize, header: usize) -> Record {
+/// The records that act on an arriving packet: each rule that matches and that no other one that
+/// matches outranks; without a match, the miss record.
+fn acting(records: &[Record], switch: usize, port: usize, header: usize) -> Vec<Record> {
     let fits = |bits: usize, value: u8, care: u8| bits & usize::from(care) == usize::from(value);
-    let miss = records.iter().find(|r| r[0] == 3 && usize::from(r[1]) == switch);
-    let mut best = *miss.expect("a miss per switch");
-    for rule in records.iter().filter(|record| record[0] == 4) {
-        let matches = usize::from(rule[1]) == switch
-            && fits(port, rule[4], rule[5])
-            && fits(header, rule[6], rule[7]);
-        let higher = (rule[3], rule[2]) > (best[3], best[2]);
-        if matches && (best[0] == 3 || higher) {
-            best = *rule;
-        }
-    }
-    best
+    let here: Vec<Record> =
+        records.iter().copied().filter(|record| usize::from(record[1]) == switch).collect();
+    let matches = |record: &Record| {
+        record[0] == 4 && fits(port, record[4], record[5]) && fits(header, record[6], record[7])
+    };
+    let outranks = |one: &Record, other: &Record| (one[3], one[2]) > (other[3], other[2]);
+    let is_outranked =
+        |rule: &Record| here.iter().any(|other| matches(other) && outranks(other, rule));
+    let acts = |record: &Record| match here.iter().any(&matches) {
+        true => matches(record) && !is_outranked(record),
+        false => record[0] == 3,
+    };
+    here.iter().copied().filter(acts).collect()
 }
 
 /// Whether the actions of a record send a copy to a port with a header, of what arrived at a port

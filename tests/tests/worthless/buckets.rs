@@ -5,7 +5,7 @@ use wegbaro_tests::gate::{Checked, Commanded, Gate, Routed, RECORD};
 use wegbaro_tests::second::judge::judge_by;
 use wegbaro_tests::second::network::{Action, Bucket, Group, Network, Pattern, Target};
 use wegbaro_tests::second::states::{Direction, Point, State, StateSet, DROP};
-use wegbaro_tests::second::steps::{actions_met, all_steps, ports_reached};
+use wegbaro_tests::second::steps::{acting, all_steps, ports_reached};
 use wegbaro_tests::second::{file, routes, Second};
 
 #[derive(Clone, Copy, Debug, PartialEq, Eq)]
@@ -112,11 +112,18 @@ struct Frame<'a> {
 }
 
 impl Frame<'_> {
-    /// The copies sent by the actions that the frame meets with a header.
+    /// The copies sent by all that acts on the frame with a header.
     fn act(mut self, header: u8) -> StateSet {
+        for actions in acting(self.network, self.point, header) {
+            self.act_by(actions, header);
+        }
+        self.sent
+    }
+
+    fn act_by(&mut self, actions: &[Action], header: u8) {
         let first = header;
         let mut header = header;
-        for action in actions_met(self.network, self.point, header) {
+        for action in actions {
             match action {
                 Action::Set(pattern) => header = pattern.put_into(header),
                 Action::Output(ports) => {
@@ -138,7 +145,6 @@ impl Frame<'_> {
                 }
             }
         }
-        self.sent
     }
 
     fn has(&self, vice: BucketVice) -> bool {

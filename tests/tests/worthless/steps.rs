@@ -4,7 +4,7 @@
 use wegbaro_tests::gate::{Checked, Commanded, Gate, Routed, RECORD};
 use wegbaro_tests::second::judge::judge;
 use wegbaro_tests::second::network::{Action, Match, Network, Pattern, Rule};
-use wegbaro_tests::second::states::Widths;
+use wegbaro_tests::second::states::{Point, Widths};
 use wegbaro_tests::second::{file, routes, steps, Second};
 
 #[derive(Clone, Copy, Debug, PartialEq, Eq)]
@@ -84,19 +84,15 @@ impl Gate for Misled {
 
 impl Misled {
     /// The network with patterns as they are read, and with a rule for each port in place of every
-    /// rule and miss record, so that what is done can depend on the port of arrival.
+    /// rule, so that what is done can depend on the port of arrival. What no rule matches has a rule
+    /// of its own in place of the miss record.
     fn network(&self, store: &[u8], n: usize) -> Network {
         let (records, _) = store[..n * RECORD].as_chunks::<RECORD>();
         let mut network = file::read(records).unwrap();
         let widths = network.widths;
-        let rules = network.rules.iter().map(|rule| self.read_rule(rule, widths));
-        // Of priority 0 and behind all rules, they are met only where no rule matches.
-        let misses = network.misses.iter().enumerate().map(|(switch, actions)| Rule {
-            matching: Match { switch: switch as u8, priority: 0, port: ANY, header: ANY },
-            actions: actions.clone(),
-        });
-        let by_port = |rule: Rule| self.by_port(&rule, widths);
-        network.rules = rules.chain(misses).flat_map(by_port).collect();
+        network.rules = network.rules.iter().map(|rule| self.read_rule(rule, widths)).collect();
+        network.rules.extend(missed(&network));
+        network.rules = network.rules.iter().flat_map(|rule| self.by_port(rule, widths)).collect();
         network
     }
 
@@ -193,7 +189,25 @@ impl Misled {
     }
 }
 
-const ANY: Pattern = Pattern { value: 0, care: 0 };
+/// For each port and header at which no rule of a switch matches, one with the actions of its miss.
+fn missed(network: &Network) -> Vec<Rule> {
+    let Widths { port, header, .. } = network.widths;
+    let fixed = |value: u8, width: u8| Pattern { value, care: (1 << width) - 1 };
+    let mut missed = vec![];
+    for (switch, actions) in (0..).zip(&network.misses) {
+        for at in 0..network.widths.ports() {
+            for with in 0..1 << header {
+                let point = Point { switch, port: at };
+                let (port, header) = (fixed(at, port), fixed(with, header));
+                if !network.rules.iter().any(|rule| steps::matches(rule, point, with)) {
+                    let matching = Match { switch, priority: 0, port, header };
+                    missed.push(Rule { matching, actions: actions.clone() });
+                }
+            }
+        }
+    }
+    missed
+}
 
 /// A pattern with its stars fixed to 0.
 fn without_stars(pattern: Pattern, width: u8) -> Pattern {
