@@ -69,7 +69,7 @@ pub fn rule(
     record(&bytes)
 }
 
-pub fn output(value: u8, care: u8) -> Action {
+pub const fn output(value: u8, care: u8) -> Action {
     [1, value, care]
 }
 

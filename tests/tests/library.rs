@@ -97,6 +97,12 @@ fn bucket_patterns() {
     expect_all(cases.map(|case| case.run(&Library)));
 }
 
+/// 256 rules of one priority, all of which match one state.
+#[test]
+fn every_rule_of_one_priority() {
+    expect_all([cases::equals::every_rule().run(&Library)]);
+}
+
 #[test]
 fn sound_networks_of_every_width() {
     let small = Sizes { links: 4, rules: 6, policies: 2, nodes: 6, groups: 4 };

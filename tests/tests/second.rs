@@ -128,6 +128,12 @@ fn steps() {
 }
 
 #[test]
+fn steps_of_equals() {
+    run_checks(cases::equals::cases());
+    expect_all([cases::equals::every_rule().run(&Second)]);
+}
+
+#[test]
 fn row_16() {
     run_checks(cases::groups::cases());
     run_commands(cases::groups::commands());

@@ -17,6 +17,7 @@ pub fn cases() -> Vec<CommandCase> {
         modifies(),
         deletes(),
         verdicts(),
+        equals(),
         returns(),
         largest(),
         lengths_and_kinds(),
@@ -204,6 +205,51 @@ fn verdicts() -> Vec<CommandCase> {
         blocked("both policies broken", &two_policies, first_add(), 0, 3, K_WORK),
         blocked("modify that sets", &k(), modify(setting_a()), 0, 2, K_WORK),
         blocked("replacing add that sets", &k(), add(setting_a()), 0, 2, K_WORK),
+    ]
+}
+
+/// Rules of A's or B's priority that match what A or B does too: the add of one is blocked if it sends
+/// what must not leave, wherever A and B send, and a delete of one leaves what the other sends. A
+/// dropping rule takes away nothing that an equal one sends.
+fn equals() -> Vec<CommandCase> {
+    let setting = [set(1, 1), output(2, 3)];
+    let set_at_0 = rule(0, 10, [1, 3], ANY, &setting);
+    let set_at_1 = rule(1, 10, ANY, [0, 1], &setting);
+    let dropping = rule(0, 10, ANY, ANY, &[output(0, 3)]);
+    let all = with(first_add(), 0, 4);
+    let odd = rule(0, 5, ANY, [1, 1], &[output(0, 3)]);
+    let (a, b) = (k()[4], k()[5]);
+    let case = |name: &str, before: &[Record], given: Record, after: &[Record]| {
+        forwarded(name, before, given, after, K_WORK)
+    };
+    let broken = |name: &str, before: &[Record], given: Record, state: usize| {
+        blocked(name, before, given, 0, state, K_WORK)
+    };
+    let with_both = inserted(&k_with_rule(set_at_0), 4, set_at_1);
+    let dropped = inserted(&k(), 4, dropping);
+    let mended = rule(0, 10, [1, 3], ANY, &[output(0, 3)]);
+    vec![
+        broken("add of A's equal that sets", &k(), add(set_at_0), 2),
+        broken("add of B's equal that sets", &k(), add(set_at_1), 2),
+        case("add of A's equal that drops", &k(), add(dropping), &k_with_rule(dropping)),
+        case("delete of A's equal", &k_with_rule(set_at_0), delete(set_at_0), &k()),
+        case("delete of A's equal before it", &inserted(&k(), 4, set_at_0), delete(set_at_0), &k()),
+        case("delete of B's equal", &k_with_rule(set_at_1), delete(set_at_1), &k()),
+        broken("delete of A, not of its equal", &k_with_rule(set_at_0), delete(a), 2),
+        broken("delete of B, not of its equal", &k_with_rule(set_at_1), delete(b), 2),
+        broken("delete of one equal of two", &with_both, delete(set_at_0), 2),
+        broken("delete of the other equal of two", &with_both, delete(set_at_1), 2),
+        broken("modify of A beside one that drops", &dropped, modify(setting_a()), 2),
+        case("delete of A beside one that drops", &dropped, delete(a), &removed(&dropped, 5)),
+        broken("drop of the same priority", &k_with_rule(all), add(odd), 3),
+        broken("delete beside a drop", &inserted(&k_with_rule(all), 4, odd), delete(a), 3),
+        case(
+            "delete of what is not dropped",
+            &inserted(&k_with_rule(odd), 6, all),
+            delete(all),
+            &k_with_rule(odd),
+        ),
+        case("modify of A's equal", &k_with_rule(set_at_0), modify(mended), &k_with_rule(mended)),
     ]
 }
 

@@ -42,7 +42,7 @@ const ZERO: [u8; 2] = [0, 1];
 const ONE: [u8; 2] = [1, 1];
 
 /// The groups of switch 0, numbered from 0.
-fn numbered(groups: &[&[Bucket]]) -> Vec<Record> {
+pub fn numbered(groups: &[&[Bucket]]) -> Vec<Record> {
     groups.iter().zip(0..).map(|(buckets, number)| group(0, number, buckets)).collect()
 }
 

@@ -2,6 +2,7 @@
 
 pub mod arguments;
 pub mod commands;
+pub mod equals;
 pub mod fields;
 pub mod group_steps;
 pub mod groups;
@@ -195,7 +196,8 @@ fn zeroed(work: &[u8], length: usize) -> Vec<u8> {
 
 /// Every check case.
 pub fn all_checks() -> Vec<CheckCase> {
-    [checks_of_rows(), steps::cases(), group_steps::cases(), truths::cases()].concat()
+    [checks_of_rows(), steps::cases(), equals::cases(), group_steps::cases(), truths::cases()]
+        .concat()
 }
 
 /// The starred check cases and those of the rows.

@@ -213,7 +213,7 @@ fn sent_otherwise(character: char, place: u8) -> Vec<Node> {
 }
 
 /// X arrives from outside and is not sent on.
-fn not_sent(direction: u8) -> Vec<Node> {
+pub fn not_sent(direction: u8) -> Vec<Node> {
     vec![external(X), bit(X, direction), not(1), and(0, 2), r(X, Y), some(4, Y), not(5), and(3, 6)]
 }
 

@@ -1,5 +1,6 @@
 //! Routes worked out by hand, and rows 14 and 15.
 
+use super::commands::inserted;
 use super::starred::{k_with_rule, K_WORK};
 use super::{bare, lend, RouteCase, SPARE};
 use crate::gate::Routed;
@@ -17,8 +18,19 @@ const BEFORE: u16 = 0xBEEF;
 const MORE: usize = 3;
 
 pub fn cases() -> Vec<RouteCase> {
-    [on_k(), loops(), returns(), through_groups(), choices(), longest(), states(), lists(), order()]
-        .concat()
+    [
+        on_k(),
+        loops(),
+        returns(),
+        through_groups(),
+        by_equals(),
+        choices(),
+        longest(),
+        states(),
+        lists(),
+        order(),
+    ]
+    .concat()
 }
 
 /// The case of a route; with no states, of there being none.
@@ -134,6 +146,36 @@ fn through_groups() -> Vec<RouteCase> {
     ]
 }
 
+/// K with a second rule of A's or B's priority, behind the others or before them: it adds routes and
+/// takes none away. One of higher priority takes A's away.
+fn by_equals() -> Vec<RouteCase> {
+    let setting = [set(1, 1), output(2, 3)];
+    let set_at_0 = rule(0, 10, [1, 3], ANY, &setting);
+    let set_at_1 = rule(1, 10, ANY, [0, 1], &setting);
+    let dropping = rule(0, 10, ANY, [0, 1], &[output(0, 3)]);
+    let back = rule(1, 10, ANY, ANY, &[IN_PORT]);
+    let higher = rule(0, 11, ANY, [0, 1], &[output(0, 3)]);
+    let mut cases = vec![
+        none("K with a higher rule", &k_with_rule(higher), 2, 28),
+        found("K with a higher rule", &k_with_rule(higher), &[2, 16]),
+    ];
+    for (name, place) in [("behind", 6), ("before", 4)] {
+        let with = |rule: Record| inserted(&k(), place, rule);
+        cases.extend([
+            found(&format!("A's equal sets, {name}"), &with(set_at_0), &[2, 21, 11, 29]),
+            found(&format!("A's equal sets, {name}"), &with(set_at_0), &[2, 20, 10, 28]),
+            found(&format!("B's equal sets, {name}"), &with(set_at_1), &[2, 20, 10, 29]),
+            found(&format!("B's equal sets, {name}"), &with(set_at_1), &[2, 20, 10, 28]),
+            none(&format!("B's equal sets, {name}"), &with(set_at_1), 2, 21),
+            found(&format!("A's equal drops, {name}"), &with(dropping), &[2, 16]),
+            found(&format!("A's equal drops, {name}"), &with(dropping), &[2, 20, 10, 28]),
+            found(&format!("B's equal returns, {name}"), &with(back), &[2, 20, 10, 26, 4, 16]),
+            found(&format!("B's equal returns, {name}"), &with(back), &[2, 20, 10, 28]),
+        ]);
+    }
+    cases
+}
+
 /// One switch, header width 1 and port width 3: a state is 16 (departing) + 2 port + header. Ports
 /// 1 and 4 are linked, and 2 and 3. What arrives at port 5 goes to 1 and 2, at 3 to 6.
 fn forked(at_4: &[Action]) -> Vec<Record> {
@@ -149,12 +191,22 @@ fn forked(at_4: &[Action]) -> Vec<Record> {
     ]
 }
 
+/// The same network, where what arrives at 4 goes to 6, with two rules in place of that for port 5.
+fn forked_by_equals(rules: [Record; 2]) -> Vec<Record> {
+    let mut records = forked(&[output(6, 7)]);
+    records.splice(4..5, rules);
+    records
+}
+
 /// Fewest steps first; among as many, the smaller state at the first difference.
 fn choices() -> Vec<RouteCase> {
     let as_many = forked(&[output(6, 7)]);
     let longer = forked(&[output(2, 7)]);
     let later_header = forked(&[set(1, 1), output(6, 7)]);
     let two_headers = turning(&[rule(0, 1, [1, 3], ANY, &[output(2, 3), set(1, 1), output(2, 3)])]);
+    let to_2 = rule(0, 1, [5, 7], ANY, &[output(2, 7)]);
+    let to_1 = rule(0, 1, ANY, [0, 1], &[output(1, 7)]);
+    let to_6 = rule(0, 1, [4, 4], [0, 1], &[output(6, 7)]);
     vec![
         found("smaller by way of a larger one", &as_many, &[10, 18, 8, 28]),
         found("larger with fewer steps", &longer, &[10, 20, 6, 28]),
@@ -162,6 +214,10 @@ fn choices() -> Vec<RouteCase> {
         found("larger with its header", &later_header, &[10, 20, 6, 28]),
         found("with the header kept", &two_headers, &[2, 12, 2]),
         found("with the header set", &two_headers, &[2, 13, 3]),
+        found("smaller by an equal behind", &forked_by_equals([to_2, to_1]), &[10, 18, 8, 28]),
+        found("smaller by an equal before", &forked_by_equals([to_1, to_2]), &[10, 18, 8, 28]),
+        found("fewer steps by an equal behind", &forked_by_equals([to_2, to_6]), &[10, 28]),
+        found("fewer steps by an equal before", &forked_by_equals([to_6, to_2]), &[10, 28]),
     ]
 }
 

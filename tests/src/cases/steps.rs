@@ -33,7 +33,7 @@ pub fn table(name: &str, records: &[Record], bits: u8, steps: &[Steps]) -> Vec<C
 }
 
 /// One switch, header width 1 and port width 2: a state is 8 (departing) + 2 port + header.
-fn one_switch(links: &[Record], missed: &[Action], rules: &[Record]) -> Vec<Record> {
+pub fn one_switch(links: &[Record], missed: &[Action], rules: &[Record]) -> Vec<Record> {
     [&[widths(1, 2, 0)], links, &[miss(0, missed)], rules].concat()
 }
 
