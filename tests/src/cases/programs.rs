@@ -8,14 +8,15 @@ use crate::k::{
     delete_d, dropping_add, first_add, k, k_set, k_with_d, rule_d, second_add, setting_add,
 };
 use crate::records::{
-    add, delete, group, in_version, miss, modify, output, record, rule, run, to_port, widths, with,
-    Record, ANY, IN_PORT,
+    add, delete, group, in_version, miss, modify, output, record, rule, run, set, to_port, widths,
+    with, Record, ANY, IN_PORT,
 };
 
 pub fn cases() -> Vec<ProgramCase> {
     [
         starts(),
         series(),
+        equals(),
         versions(),
         full_tables(),
         groups(),
@@ -127,6 +128,39 @@ fn series() -> Vec<ProgramCase> {
             &["start holds", "1 forwarded 21", "2 blocked 0 13", "3 refused 12 0"],
         ),
     ]
+}
+
+/// A series on K with rules of A's priority that match what A does too.
+fn equals() -> Vec<ProgramCase> {
+    let setting = rule(0, 10, [1, 3], ANY, &[set(1, 1), output(2, 3)]);
+    let dropping = rule(0, 10, ANY, ANY, &[output(0, 3)]);
+    let (a, b) = (k()[4], k()[5]);
+    let commands = [
+        add(setting),
+        add(dropping),
+        add(setting),
+        delete(b),
+        add(setting),
+        add(b),
+        delete(a),
+        add(b),
+        delete(setting),
+        add(b),
+    ];
+    let lines = [
+        "start holds",
+        "1 blocked 0 2",
+        "2 forwarded 21",
+        "3 blocked 0 2",
+        "4 forwarded 20",
+        "5 forwarded 21",
+        "6 blocked 0 2",
+        "7 forwarded 20",
+        "8 blocked 0 2",
+        "9 forwarded 19",
+        "10 forwarded 20",
+    ];
+    vec![case("K, rules of A's priority", &input(&k(), &commands), &lines)]
 }
 
 /// The version stands in the first record and is that of every command.
