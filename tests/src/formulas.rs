@@ -154,7 +154,7 @@ pub fn random_sentence(random: &mut Random, bits: u8, length: usize) -> Vec<Node
     nodes
 }
 
-/// The most nodes of a guard or a probe.
+/// The most nodes of a guard, a probe or layers.
 pub const GUARD: usize = 18;
 
 /// A random form of "what arrives outside with one bit set so never leaves with another set so".
@@ -217,4 +217,43 @@ fn push_random_bit(
         is_so = push(nodes, not(is_so));
     }
     push(nodes, and(fact, is_so))
+}
+
+/// A step, negated, closed, quantified and joined with others layer by layer.
+pub fn random_layers(random: &mut Random, bits: u8) -> Vec<Node> {
+    let mut nodes = vec![r(X, Y)];
+    let mut fact = 0;
+    for _ in 0..1 + random.below(5) {
+        fact = push_layer(random, &mut nodes, fact, bits);
+    }
+    let quantifier = random.pick(&[some, all]);
+    fact = push(&mut nodes, quantifier(fact, Y));
+    if random.one_in(3) {
+        push(&mut nodes, not(fact));
+    }
+    nodes
+}
+
+/// One to three nodes over a fact; the number of the last one is told.
+fn push_layer(random: &mut Random, nodes: &mut Vec<Node>, fact: u8, bits: u8) -> u8 {
+    let variable = random.bits(1);
+    let other = 1 - variable;
+    match random.below(9) {
+        0..4 => push(nodes, not(fact)),
+        4 => push(nodes, tc(fact, variable, other)),
+        5 => {
+            let quantifier = random.pick(&[some, all]);
+            push(nodes, quantifier(fact, variable))
+        }
+        6 => {
+            let step = push(nodes, r(variable, other));
+            let both = random.pick(&[and, or]);
+            push(nodes, both(fact, step))
+        }
+        7 => push_random_bit(random, nodes, fact, variable, bits),
+        _ => {
+            let is_so = push(nodes, bit(variable, random.below(usize::from(bits)) as u8));
+            push(nodes, or(fact, is_so))
+        }
+    }
 }

@@ -1,7 +1,7 @@
 //! Random sound networks of every width and version, and the largest one.
 
 use crate::formulas::{
-    policy, random_formula, random_guard, random_probe, random_sentence, Node, GUARD,
+    policy, random_formula, random_guard, random_layers, random_probe, random_sentence, Node, GUARD,
 };
 use crate::random::Random;
 use crate::records::{
@@ -252,15 +252,51 @@ fn is_new(rule: &Record, records: &[Record]) -> bool {
     !records.iter().any(|other| other[0] == 4 && same_rule(rule, other))
 }
 
-/// A rule that runs groups of the records only.
+/// A rule that runs groups of the records only: any one, or one beside a rule of theirs.
 pub fn random_rule(random: &mut Random, of: Widths, records: &[Record]) -> Record {
+    let rules: Vec<Record> = records.iter().copied().filter(|record| record[0] == 4).collect();
+    let (switch, priority, port, header) = match rules.is_empty() || random.one_in(2) {
+        true => random_match(random, of),
+        false => {
+            let beside = random.pick(&rules);
+            random_match_beside(random, of, &beside)
+        }
+    };
+    let groups = groups_at(records, switch);
+    rule(switch, priority, port, header, &random_actions(random, of, port, &groups))
+}
+
+/// Switch, priority, port pattern and header pattern.
+type Match = (u8, u16, Pattern, Pattern);
+
+fn random_match(random: &mut Random, of: Widths) -> Match {
     let any = random.word() as u16;
     let priority = random.pick(&[0, 1, 1, 2, 0x00FF, 0x0100, 0xFFFF, any]);
     let port = random_pattern(random, of.p);
-    let switch = random.bits(of.w);
-    let header = random_pattern(random, of.h);
-    let groups = groups_at(records, switch);
-    rule(switch, priority, port, header, &random_actions(random, of, port, &groups))
+    (random.bits(of.w), priority, port, random_pattern(random, of.h))
+}
+
+/// A match that overlaps with a rule's: mostly of the same switch and priority, now and then of any
+/// switch or of another priority.
+fn random_match_beside(random: &mut Random, of: Widths, rule: &Record) -> Match {
+    let [_, switch, low, high, port, port_care, header, header_care, ..] = *rule;
+    let priority = u16::from_le_bytes([low, high]);
+    let any_switch = random.bits(of.w);
+    let switch = if random.one_in(8) { any_switch } else { switch };
+    let [lower, higher] = [priority.saturating_sub(1), priority.saturating_add(1)];
+    let other = random.pick(&[lower, higher, higher]);
+    let priority = if random.one_in(4) { other } else { priority };
+    let port = overlapping_pattern(random, of.p, [port, port_care]);
+    (switch, priority, port, overlapping_pattern(random, of.h, [header, header_care]))
+}
+
+/// A pattern that matches something that another one does: it may be that one, or have stars for some
+/// of its bits, or fix some of its stars, or both.
+fn overlapping_pattern(random: &mut Random, width: u8, [value, care]: Pattern) -> Pattern {
+    let some = random.bits(width);
+    let its = random.pick(&[care, care & some, care | some, some]);
+    let matched = value | random.bits(width) & !care;
+    [matched & its, its]
 }
 
 /// So many groups, at one switch or at any.
@@ -362,13 +398,15 @@ fn random_set(random: &mut Random, of: Widths) -> Action {
     set(value, care)
 }
 
-/// A policy of at most so many nodes: a guard or a probe of paths, or any formula, closed or not.
+/// A policy of at most so many nodes: a guard or a probe of paths, layers over a step, or any formula,
+/// closed or not.
 fn random_policy(random: &mut Random, of: Widths, most: usize) -> Vec<Node> {
     let length = 1 + random.below(most);
-    match random.below(4) {
+    match random.below(5) {
         0 if most >= GUARD => random_guard(random, of.bits()),
         1 if most >= GUARD => random_probe(random, of.bits()),
-        2 if length >= 3 => random_sentence(random, of.bits(), length),
+        2 if most >= GUARD => random_layers(random, of.bits()),
+        3 if length >= 3 => random_sentence(random, of.bits(), length),
         _ => random_formula(random, of.bits(), length),
     }
 }

@@ -767,8 +767,7 @@ fn comparisons_notice_every_vice_of_routes() {
 
 /// The first error of a gate in checks and routes of many small networks.
 fn steps_against(gate: &dyn Gate) -> Result<(), String> {
-    compare::damaged_networks(&Second, gate, 33, 4_000, 5)?;
-    routes::of_every_width(&Second, gate, 34, 1, 2, SMALL)?;
+    compare::damaged_networks(&Second, gate, 33, 16_000, 5)?;
     routes::of_every_width(&Second, gate, 45, 1, 2, Sizes { groups: 12, ..SMALL })?;
     Ok(())
 }
