@@ -19,6 +19,7 @@ pub mod networks;
 pub mod random;
 pub mod reading;
 pub mod records;
+pub mod reordered;
 pub mod second;
 pub mod unversioned;
 pub mod winding;

@@ -5,6 +5,7 @@ use wegbaro_tests::cases::{self, patterns};
 use wegbaro_tests::compare::{self, routes};
 use wegbaro_tests::library::{program, Library};
 use wegbaro_tests::networks::{Sizes, MODEST};
+use wegbaro_tests::reordered::Reordered;
 use wegbaro_tests::second::{self, Second};
 use wegbaro_tests::unversioned::Unversioned;
 
@@ -101,6 +102,13 @@ fn bucket_patterns() {
 #[test]
 fn every_rule_of_one_priority() {
     expect_all([cases::equals::every_rule().run(&Library)]);
+}
+
+#[test]
+fn the_order_of_rules_does_not_matter() {
+    let linked = Sizes { links: 40, rules: 12, policies: 0, nodes: 0, groups: 8 };
+    compare::orders(&Library, 58, 2).unwrap();
+    routes::of_every_width(&Library, &Reordered::new(&Library, 59), 59, 1, 12, linked).unwrap();
 }
 
 #[test]

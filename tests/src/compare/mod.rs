@@ -13,6 +13,7 @@ use crate::networks::{
 };
 use crate::random::Random;
 use crate::records::Record;
+use crate::reordered::Reordered;
 
 /// How often each answer came.
 #[derive(Clone, Debug, Default)]
@@ -309,6 +310,16 @@ fn one_more(
         lent.n = count;
     }
     lent.work = random.bytes(lent.work.len());
+    Ok(())
+}
+
+/// A gate on networks and on the same with their rules in any order: checks, commands and routes.
+pub fn orders(gate: &dyn Gate, seed: u64, rounds: usize) -> Result<(), String> {
+    let reordered = Reordered::new(gate, seed);
+    let most = Sizes { links: 6, rules: 12, policies: 2, nodes: 6, groups: 4 };
+    damaged_networks(gate, &reordered, seed, 8_000 * rounds, 5)?;
+    sound_networks(gate, &reordered, seed, rounds, most)?;
+    series(gate, &reordered, seed, 20 * rounds, 6, 16)?;
     Ok(())
 }
 
