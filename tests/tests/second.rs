@@ -25,6 +25,7 @@ use wegbaro_tests::second::{program, Second};
 use wegbaro_tests::unversioned::Unversioned;
 use wegbaro_tests::winding::{longest, looping, winding};
 use worthless::buckets::{BucketVice, Spilling, BUCKET_VICES};
+use worthless::choices::{ChoiceVice, Choosing, CHOICE_VICES};
 use worthless::groups::{Lax, GROUP_VICES};
 use worthless::routes::{Astray, ROUTE_VICES};
 use worthless::steps::{Misled, StepVice, STEP_VICES};
@@ -628,9 +629,9 @@ fn cases_notice_every_vice() {
     commands.retain(|case| case.lent.n < MOST_RECORDS);
     for vice in VICES {
         let gate = Worthless::new(vice);
-        let in_commands = commands.iter().any(|case| case.run(&gate).is_err());
-        let in_checks = checks.iter().any(|case| case.run(&gate).is_err());
-        assert!(in_commands || in_checks, "{vice:?}");
+        let in_commands = || commands.iter().any(|case| case.run(&gate).is_err());
+        let in_checks = || checks.iter().any(|case| case.run(&gate).is_err());
+        assert!(in_commands() || in_checks(), "{vice:?}");
     }
 }
 
@@ -687,6 +688,33 @@ fn cases_notice_every_vice_of_buckets() {
     assert!(!wrong(Spilling(None)));
     for vice in BUCKET_VICES {
         assert!(wrong(Spilling(Some(vice))), "{vice:?}");
+    }
+}
+
+#[test]
+fn cases_notice_every_vice_of_choices() {
+    let steps = cases::equals::cases();
+    let wrong = |gate: Choosing| steps.iter().any(|case| case.run(&gate).is_err());
+    assert!(!wrong(Choosing(None)));
+    for vice in CHOICE_VICES {
+        assert!(wrong(Choosing(Some(vice))), "{vice:?}");
+    }
+}
+
+/// The cases of routes, and those of commands too, notice that not all equals act, or that more do.
+#[test]
+fn calls_notice_the_vices_of_equals() {
+    let (routes, commands) = (cases::routes::cases(), cases::commands::cases());
+    for vice in [
+        ChoiceVice::TakesTheFirst,
+        ChoiceVice::TakesTheLast,
+        ChoiceVice::TakesTheFirstThatSends,
+        ChoiceVice::TakesWhatAllSend,
+        ChoiceVice::TakesLowerOnes,
+    ] {
+        let gate = Choosing(Some(vice));
+        assert!(routes.iter().any(|case| case.run(&gate).is_err()), "{vice:?}");
+        assert!(commands.iter().any(|case| case.run(&gate).is_err()), "{vice:?}");
     }
 }
 
@@ -785,6 +813,30 @@ fn comparisons_notice_every_vice_of_buckets() {
     assert_eq!(steps_against(&Spilling(None)), Ok(()));
     for vice in BUCKET_VICES {
         assert!(steps_against(&Spilling(Some(vice))).is_err(), "{vice:?}");
+    }
+}
+
+#[test]
+fn comparisons_notice_every_vice_of_choices() {
+    assert_eq!(steps_against(&Choosing(None)), Ok(()));
+    for vice in CHOICE_VICES {
+        assert!(steps_against(&Choosing(Some(vice))).is_err(), "{vice:?}");
+    }
+}
+
+/// It does to gates with some vices, and that is noticed.
+#[test]
+fn the_order_of_rules_does_not_matter() {
+    assert_eq!(compare::orders(&Second, 60, 1), Ok(()));
+    for vice in [
+        ChoiceVice::TakesTheFirst,
+        ChoiceVice::TakesTheLast,
+        ChoiceVice::TakesTheFirstAndTheLast,
+        ChoiceVice::TakesTheFirstThatSends,
+        ChoiceVice::TakesUnmatchedOnesBetween,
+        ChoiceVice::HandsTheHeaderOn,
+    ] {
+        assert!(compare::orders(&Choosing(Some(vice)), 61, 1).is_err(), "{vice:?}");
     }
 }
 

@@ -235,7 +235,7 @@ fn switches() -> Vec<CheckCase> {
         at(0, EQUAL, &[IN_PORT]),
         of(1, EQUAL + 4, &OUT_3),
         of(0, EQUAL, &OUT_2),
-        at(1, EQUAL, &[IN_PORT]),
+        at(1, EQUAL, &OUT_3),
         at(1, EQUAL + 4, &OUT_2),
     ];
     let records = [&[widths(1, 2, 1), miss(0, &DROP), miss(1, &DROP)], &rules[..]].concat();

@@ -1,6 +1,7 @@
 //! Gates whose steps through groups are wrong in one way each. Groups and buckets are run here one by
 //! one, and not by tables as in the second implementation.
 
+use std::collections::BTreeSet;
 use wegbaro_tests::gate::{Checked, Commanded, Gate, Routed, RECORD};
 use wegbaro_tests::second::judge::judge_by;
 use wegbaro_tests::second::network::{Action, Bucket, Group, Network, Pattern, Target};
@@ -23,9 +24,10 @@ pub enum BucketVice {
     TakesTheFirstSwitch,
     StopsBehindAGroup,
     SetsStarsToZero,
+    RunsAGroupForOneStateOnly,
 }
 
-pub const BUCKET_VICES: [BucketVice; 13] = [
+pub const BUCKET_VICES: [BucketVice; 14] = [
     BucketVice::SetsTheNextBucket,
     BucketVice::KeepsTheHeader,
     BucketVice::SendsToTheArrivalPort,
@@ -39,6 +41,7 @@ pub const BUCKET_VICES: [BucketVice; 13] = [
     BucketVice::TakesTheFirstSwitch,
     BucketVice::StopsBehindAGroup,
     BucketVice::SetsStarsToZero,
+    BucketVice::RunsAGroupForOneStateOnly,
 ];
 
 /// A gate with a vice, if any, in the groups of its check and route calls, else as the second
@@ -93,10 +96,12 @@ impl Spilling {
     /// The steps, those of arriving states by actions and buckets run one by one.
     fn steps(&self, network: &Network) -> Vec<StateSet> {
         let mut steps = all_steps(network);
+        let mut marks = BTreeSet::new();
         for (number, set) in steps.iter_mut().enumerate() {
             let State { direction, point, header } = State::numbered(number, network.widths);
             if direction == Direction::Arriving && point.port != DROP {
-                *set = Frame { vice: self.0, network, point, sent: StateSet::empty() }.act(header);
+                let (vice, marks, sent) = (self.0, &mut marks, StateSet::empty());
+                *set = Frame { vice, network, point, marks, sent }.act(header);
             }
         }
         steps
@@ -108,6 +113,8 @@ struct Frame<'a> {
     vice: Option<BucketVice>,
     network: &'a Network,
     point: Point,
+    /// The groups that were run for this state or one before, each with the header that entered it.
+    marks: &'a mut BTreeSet<[u8; 3]>,
     sent: StateSet,
 }
 
@@ -159,6 +166,10 @@ impl Frame<'_> {
 
     /// Runs a group, and tells the header of its last copy.
     fn run(&mut self, number: u8, header: u8) -> u8 {
+        let is_new = self.marks.insert([self.point.switch, number, header]);
+        if !is_new && self.has(BucketVice::RunsAGroupForOneStateOnly) {
+            return header;
+        }
         let mut entered = header;
         let mut set = header;
         for bucket in self.buckets_run(number) {

@@ -1,6 +1,7 @@
 //! Gates that are wrong in one way each, to see that cases and comparisons notice.
 
 pub mod buckets;
+pub mod choices;
 pub mod groups;
 pub mod routes;
 pub mod steps;
