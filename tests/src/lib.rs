@@ -10,6 +10,7 @@ pub mod cases;
 pub mod commands;
 pub mod compare;
 pub mod damage;
+pub mod even;
 pub mod formulas;
 pub mod gate;
 pub mod inputs;

@@ -1,6 +1,6 @@
 //! The verdict on a network.
 
-use super::network::Network;
+use super::network::{Network, Policy};
 use super::states::StateSet;
 use super::steps::all_steps;
 use super::truth::Truth;
@@ -23,4 +23,10 @@ pub fn judge_by(network: &Network, steps: &[StateSet]) -> Option<Breach> {
         let state = Truth::new(network, steps, formula).lowest_breaking()?;
         Some(Breach { policy, state })
     })
+}
+
+/// The states that a policy forbids, over steps that are given.
+pub fn forbidden(network: &Network, steps: &[StateSet], policy: &Policy) -> StateSet {
+    let mut truth = Truth::new(network, steps, policy);
+    (0..network.widths.states()).filter(|state| truth.is_breaking(*state)).collect()
 }

@@ -57,9 +57,13 @@ impl<'a> Truth<'a> {
 
     /// The lowest state that makes the last node true as X.
     pub fn lowest_breaking(&mut self) -> Option<usize> {
+        (0..self.network.widths.states()).find(|state| self.is_breaking(*state))
+    }
+
+    /// Whether a state makes the last node true as X.
+    pub fn is_breaking(&mut self, state: usize) -> bool {
         let last = self.policy.nodes.len() - 1;
-        (0..self.network.widths.states())
-            .find(|state| self.is_true(last, Sight { x: *state, y: 0 }))
+        self.is_true(last, Sight { x: state, y: 0 })
     }
 
     /// The truth of a node, looked up or else worked out.
