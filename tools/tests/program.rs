@@ -219,16 +219,22 @@ fn commands_that_are_not_judged() {
     assert!(ran.said.starts_with("note: the commands are not judged"));
 }
 
-/// On whatever input, the lines are those of the program `gate`.
+/// On whatever input, the lines are those of the program `gate`, but where its work is too short:
+/// the tool lends as much as the network needs.
 #[test]
 fn the_lines_of_the_gate() {
     let mut random = Random::new(11);
+    let mut compared = 0;
     for _ in 0..150 {
         let input = random_input(&mut random);
         if input.first().is_some_and(|kind| *kind > 8) {
             continue;
         }
         let lines = library::program(&input);
+        if lines == b"start refused 11 0\n" {
+            continue;
+        }
+        compared += 1;
         let ran = wegbaro(&["run", "--gate", "-"], &input);
         assert_eq!(ran.bytes, lines, "{}", ran.said);
         let lines = String::from_utf8(lines).unwrap();
@@ -243,6 +249,7 @@ fn the_lines_of_the_gate() {
         assert_eq!(explained.status, Some(status), "{}", explained.said);
         assert_eq!(explained.text(), wegbaro(&["run", "-"], &input).text());
     }
+    assert!(compared > 100, "{compared}");
 }
 
 /// A text or records with a few bytes changed, put in or taken out.
