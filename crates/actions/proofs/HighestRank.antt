@@ -1,5 +1,5 @@
 -- The matching rules that none of them outranks are the rules of the highest rank.
-use borrow.Author.Tests.{lt-ltb, le-ltb, ltb-true, eq-eqb, ne-eqb, eqb-true}
+use borrow.Author.Tests.{lt-ltb, le-ltb, eq-eqb, ne-eqb, eqb-true}
 use mathlib.Core.Path.{_≡_, refl, sym, ap, ap₂, _∙_}
 use mathlib.Core.Bool.{Bool, true, false, cond, not, _&&_, _||_}
 use mathlib.Core.List.{[], _∷_}
@@ -8,7 +8,7 @@ use Prim.Native.Nat.{ℕ, suc, _<_, _≤_}
 use native.Mathlib.Decide.{ℕ-discrete}
 use native.Mathlib.Omega.{arith}
 use lib.Dec.{eqb, ltb, leb·suc-suc}
-use Rattle.planes.specs.Laws.Tests.{not-both, or-left, or-right, or-cases}
+use Rattle.planes.specs.Laws.Tests.{or-left, or-right, or-cases}
 use Rattle.records.specs.Lists.{keep, any}
 use Rattle.records.specs.Record.{Rec, Net, priority}
 use Rattle.records.specs.Laws.Lists.{keep-keep}

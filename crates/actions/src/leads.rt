@@ -12,7 +12,7 @@ ghost use mathlib.Core.Bool.{true, _&&_};
 ghost use Prim.Native.Nat.{_^_, _<_};
 ghost use lib.Dec.{eqb};
 ghost use Rattle.planes.specs.Bit.{bitOf};
-ghost use Rattle.records.specs.Record.{mostRules, records};
+ghost use Rattle.records.specs.Record.{records};
 ghost use Rattle.records.specs.Widths.{withinLimits};
 ghost use Rattle.scan.specs.Stored.{Stored};
 ghost use Rattle.actions.specs.RuleSets.{RuleSets};

@@ -1,6 +1,6 @@
 use borrow.Author.Needs.{needs}
 use denote.Ref.{now}
-use mathlib.Core.Path.{refl, ap, subst, _∙_}
+use mathlib.Core.Path.{refl, ap, _∙_}
 use mathlib.Core.List.{List, []}
 use Prim.Native.Nat.{ℕ, _+_, _*_, _≤_, _<_}
 use native.Mathlib.Omega.{arith}
@@ -9,7 +9,6 @@ use Rattle.records.specs.Record.{records}
 use Rattle.records.specs.Fields.{actionsGood}
 use Rattle.records.specs.Laws.Fields.{actions-body}
 use Rattle.actions.specs.ByPlace.{arrival, ofBody}
-use Rattle.actions.specs.Sent.{GroupsRan}
 use Rattle.actions.specs.Laws.Bodies.{bodyAt, body-of, body-is, body-length, sent-same}
 use Rattle.actions.specs.Laws.GoodActions.{few-actions}
 use Rattle.actions.specs.Laws.GoodRecords.{record-in, record-room, actions-good}

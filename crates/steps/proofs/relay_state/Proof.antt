@@ -1,6 +1,6 @@
 use borrow.Author.Needs.{needs}
 use denote.Ref.{now}
-use mathlib.Core.Path.{_≡_, sym, ap, subst, subst⁻¹, _∙_}
+use mathlib.Core.Path.{_≡_, sym, subst, subst⁻¹, _∙_}
 use Prim.Native.Nat.{ℕ, _^_, _<_}
 use Rattle.records.specs.Record.{records}
 use Rattle.records.specs.State.{headerOf, portOf, switchOf, directionOf}

@@ -1,11 +1,6 @@
 use borrow.Author.Needs.{needs}
-use denote.Ref.{now}
-use mathlib.Core.Path.{_≡_}
-use Prim.Native.Nat.{suc, _+_, _*_}
 use native.Mathlib.Omega.{arith}
-use lib.ListN.{getD}
 use Rattle.records.specs.Record.{priority}
-use Rattle.actions.specs.ByPlace.{ofBody}
 use Rattle.actions.proofs.choice.priority_rank.Statement.{statement}
 use Rattle.actions.proofs.choice.priority_rank.Tie as tie
 

@@ -5,7 +5,7 @@ use mathlib.Core.List.{[]}
 use Prim.Native.Nat.{ℕ, suc, _+_, _-_, _*_, _^_, _≤_, _<_}
 use native.Mathlib.Omega.{arith}
 use lib.ListN.{length, getD}
-use Rattle.records.specs.Record.{Rec, at, mostRules, priority, records, ofKind}
+use Rattle.records.specs.Record.{Rec, at, mostRules, priority, records}
 use Rattle.actions.specs.ByPlace.{ofBody}
 use Rattle.actions.specs.RuleSets.{SetsOf}
 use Rattle.actions.specs.Leads.{tables}
