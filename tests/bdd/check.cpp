@@ -210,15 +210,20 @@ class Judge {
             if (miss[0] != 3)
                 continue;
             auto &table = tables[miss[1]];
-            std::stable_sort(table.begin(), table.end(), [&](const Record *one, const Record *other) {
+            std::sort(table.begin(), table.end(), [&](const Record *one, const Record *other) {
                 return priority(one) > priority(other);
             });
-            bdd left = bdd_not(is_port(X, 0));
+            // What no rule of higher priority matches, and what no rule before matches.
+            bdd open = bdd_not(is_port(X, 0)), left = open;
             bdd its = bddfalse;
+            int last = -1;
             for (const Record *rule : table) {
                 const Record &r = *rule;
+                if (priority(rule) != last)
+                    open = left;
+                last = priority(rule);
                 bdd matched = fixed(X, 0, header, r[6], r[7]) & fixed(X, header, port, r[4], r[5]);
-                its |= (matched & left) & copies(r);
+                its |= (matched & open) & copies(r);
                 left -= matched;
             }
             its |= left & copies(miss);
