@@ -14,7 +14,7 @@ use wegbaro_tests::networks::{
 };
 use wegbaro_tests::random::Random;
 use wegbaro_tests::records::{add, link, miss, output, rule, run, widths, Record};
-use wegbaro_tests::second::network::{Action, Network, Pattern};
+use wegbaro_tests::second::network::{Action, Match, Network, Pattern, Rule};
 use wegbaro_tests::second::states::{Direction, Point, State, DROP};
 use wegbaro_tests::second::{file, routes, steps, Second};
 use wegbaro_tests::winding::winding;
@@ -53,25 +53,6 @@ fn set_bit(words: &mut [u64], place: usize) {
     words[place / 64] |= 1 << (place % 64);
 }
 
-/// The actions of the first matching rule of highest priority, or of the miss record.
-fn actions_met(network: &Network, point: Point, header: u8) -> &[Action] {
-    let mut best = &network.misses[usize::from(point.switch)];
-    let mut highest = 0;
-    for rule in &network.rules {
-        let given = &rule.matching;
-        let rank = 1 + u32::from(given.priority);
-        if given.switch == point.switch
-            && given.port.matches(point.port)
-            && given.header.matches(header)
-            && rank > highest
-        {
-            best = &rule.actions;
-            highest = rank;
-        }
-    }
-    best
-}
-
 fn depart(network: &Network, row: &mut [u64], point: Point, header: u8) {
     let state = State { direction: Direction::Departing, point, header };
     set_bit(row, state.number(network.widths));
@@ -88,27 +69,69 @@ fn send(network: &Network, row: &mut [u64], point: Point, header: u8, ports: Pat
     }
 }
 
-/// Clears the plane and puts in the steps of arriving states, each by a search of all rules.
+/// Puts what actions send of an arriving state into its row.
+fn act(network: &Network, groups: &Groups, row: &mut [u64], arrived: State, actions: &[Action]) {
+    let State { point, mut header, .. } = arrived;
+    for action in actions {
+        match action {
+            Action::Set(pattern) => header = pattern.put_into(header),
+            Action::Output(ports) => send(network, row, point, header, *ports),
+            Action::InPort => depart(network, row, point, header),
+            Action::Group(number) => {
+                let sent = groups.sent(point.switch, *number, header);
+                groups::add_elsewhere(network, row, sent, point);
+            }
+        }
+    }
+}
+
+/// A priority, above that of a miss record.
+fn rank(rule: &Rule) -> u32 {
+    1 + u32::from(rule.matching.priority)
+}
+
+/// Takes each arriving state that a rule matches: its fixed bits, with any of its stars set.
+fn each_match(network: &Network, rule: &Rule, mut take: impl FnMut(usize)) {
+    let (Match { switch, port, header, .. }, widths) = (rule.matching, network.widths);
+    let bits = |port: u8, header: u8| usize::from(port) << widths.header | usize::from(header);
+    let below = widths.port + widths.header;
+    let fixed = usize::from(switch) << below | bits(port.value, header.value);
+    let stars = (1 << below) - 1 - bits(port.care, header.care);
+    let mut set = 0;
+    loop {
+        take(fixed | set);
+        set = set.wrapping_sub(stars) & stars;
+        if set == 0 {
+            return;
+        }
+    }
+}
+
+/// Clears the plane and puts in the steps of arriving states. Each rule is taken twice over the states
+/// that it matches: for the highest rank of each, and to act where that is its own.
 #[inline(never)]
 fn fill_arriving(network: &Network, plane: &mut [u64]) {
     plane.fill(0);
     let groups = Groups::of(network);
-    for (number, row) in plane.chunks_exact_mut(WORDS).take(STATES / 2).enumerate() {
-        let State { point, mut header, .. } = State::numbered(number, network.widths);
-        if point.port == DROP {
-            continue;
+    let mut highest = [0; STATES / 2];
+    for rule in &network.rules {
+        each_match(network, rule, |state| highest[state] = rank(rule).max(highest[state]));
+    }
+    let mut run = |number: usize, actions: &[Action]| {
+        let arrived = State::numbered(number, network.widths);
+        if arrived.point.port != DROP {
+            act(network, &groups, &mut plane[number * WORDS..][..WORDS], arrived, actions);
         }
-        for action in actions_met(network, point, header) {
-            match action {
-                Action::Set(pattern) => header = pattern.put_into(header),
-                Action::Output(ports) => send(network, row, point, header, *ports),
-                Action::InPort => depart(network, row, point, header),
-                Action::Group(number) => {
-                    let sent = groups.sent(point.switch, *number, header);
-                    groups::add_elsewhere(network, row, sent, point);
-                }
+    };
+    for rule in &network.rules {
+        each_match(network, rule, |state| {
+            if highest[state] == rank(rule) {
+                run(state, &rule.actions);
             }
-        }
+        });
+    }
+    for number in (0..STATES / 2).filter(|number| highest[*number] == 0) {
+        run(number, &network.misses[number >> (network.widths.port + network.widths.header)]);
     }
 }
 
@@ -205,6 +228,37 @@ fn one_switch_with_groups() -> Vec<Record> {
     for (number, rule) in records[2..].iter_mut().enumerate() {
         rule[9..12].copy_from_slice(&run(number as u8 % 16));
     }
+    records.extend(nested_groups(Widths { h: 6, p: 3, w: 0 }, 0));
+    records
+}
+
+/// The values and cares of the 256 patterns of nine bits with the most stars.
+fn widest() -> Vec<[u16; 2]> {
+    let mut cares: Vec<u16> = (0..512).collect();
+    cares.sort_by_key(|care| care.count_ones());
+    let of_care = |care: u16| {
+        let values = (0..512).filter(move |value| value & !care == 0);
+        values.map(move |value| [value, care])
+    };
+    cares.into_iter().flat_map(of_care).take(256).collect()
+}
+
+/// 256 rules of one priority at one switch, with the widest patterns of port and header, so that as
+/// many as possible act on each state: 46 with at most two bits fixed, and some of those with three.
+fn equals_at_one_switch() -> Vec<Record> {
+    let sending = |(number, [value, care]): (u8, [u16; 2])| {
+        let port = [value, care].map(|bits| (bits >> 6) as u8);
+        let header = [value, care].map(|bits| (bits & 63) as u8);
+        rule(0, 7, port, header, &[output(1 + number % 6, 7)])
+    };
+    let rules = (0..=255).zip(widest()).map(sending);
+    [widths(6, 3, 0), miss(0, &[output(0, 7)])].into_iter().chain(rules).collect()
+}
+
+/// The same rules, each of which runs the highest of sixteen groups in place of its action.
+fn equals_with_groups() -> Vec<Record> {
+    let mut records = equals_at_one_switch();
+    records[2..].iter_mut().for_each(|rule| rule[9..12].copy_from_slice(&run(15)));
     records.extend(nested_groups(Widths { h: 6, p: 3, w: 0 }, 0));
     records
 }
@@ -468,6 +522,10 @@ fn main() {
     print(plane, step_plane(&one_switch(), by_link), "plain Rust, links walked once");
     let plane = "step plane, 256 rules and 16 groups at one switch";
     print(plane, step_plane(&one_switch_with_groups(), by_link), "plain Rust, links walked once");
+    let plane = "step plane, 256 overlapping rules of one priority at one switch";
+    print(plane, step_plane(&equals_at_one_switch(), by_link), "plain Rust, links walked once");
+    let plane = "step plane, the same rules, each runs the highest of 16 groups";
+    print(plane, step_plane(&equals_with_groups(), by_link), "plain Rust, links walked once");
     let records = guarded();
     print("check, 256 rules and eight closures", check(&records), "second implementation");
     print("command on the same network", command(&records), "second implementation");
