@@ -9,7 +9,7 @@ use wegbaro_tests::gate::{Checked, Commanded, Gate, MOST_RECORDS, RECORD, STORE}
 use wegbaro_tests::library::Library;
 use wegbaro_tests::networks::{largest, largest_with, nested_groups, work_needed, LARGEST};
 use wegbaro_tests::random::Random;
-use wegbaro_tests::records::{add, delete, in_version, modify, run as run_group, Record};
+use wegbaro_tests::records::{add, delete, in_version, modify, rule, run as run_group, Record};
 use wegbaro_tests::winding::winding;
 
 /// Starts and ends of routes at N = 10: loops, any two states, and the ends of the winding route.
@@ -57,6 +57,23 @@ fn run_highest_group(records: &mut [Record]) {
         record[8] = 1;
         record[9..12].copy_from_slice(&run_group(15));
     }
+}
+
+/// A chained network whose rules are all of switch 0 and run its highest group: 243 of one priority, one
+/// for each pattern of port and header, and the other thirteen of a lower one.
+fn with_equals() -> Vec<Record> {
+    let of_care =
+        |care: u8| (0..32).filter(move |value| value & !care == 0).map(move |v| [v, care]);
+    let patterns: Vec<[u8; 2]> = (0..32).flat_map(of_care).collect();
+    assert_eq!(patterns.len(), 243);
+    let mut records = chained(0);
+    let rules = records.iter_mut().filter(|record| record[0] == 4);
+    for (number, (record, bits)) in rules.zip(patterns.iter().cycle()).enumerate() {
+        let [port, header] = [bits.map(|bits| bits >> 1), bits.map(|bits| bits & 1)];
+        let priority = u16::from(number < patterns.len());
+        *record = rule(0, priority, port, header, &[run_group(15)]);
+    }
+    records
 }
 
 /// A network with a longest route, and with policies as chains.
@@ -125,7 +142,8 @@ fn within_the_bound() {
     let mut random = Random::new(17);
     let networks = (0..8).map(chained).chain((0..4).map(|_| largest(&mut random)));
     let mut most = [0, 0, 0];
-    let networks = networks.inspect(|network| assert_eq!(network.len(), MOST_RECORDS));
+    let networks =
+        networks.chain([with_equals()]).inspect(|network| assert_eq!(network.len(), MOST_RECORDS));
     let inputs = networks.chain([longest()]).map(with_commands);
     for (network, commands) in inputs.chain([with_adding_modify(&chained(0))]) {
         assert!(is_judged(&network));
