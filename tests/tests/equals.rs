@@ -1,4 +1,4 @@
-//! Generated networks and commands have rules of equal priority that act together.
+//! Generated networks and commands have rules of equal priority that act together, in any order.
 
 use std::collections::{BTreeMap, BTreeSet};
 use wegbaro_tests::cases::commands::inserted;
@@ -11,7 +11,7 @@ use wegbaro_tests::second::file;
 use wegbaro_tests::second::groups::Tables;
 use wegbaro_tests::second::network::{Action, Network, Pattern, Rule};
 use wegbaro_tests::second::states::{State, StateSet, DROP};
-use wegbaro_tests::second::steps::{copies, matches};
+use wegbaro_tests::second::steps::{all_steps, copies, matches};
 
 /// What is met at an arriving state; all but the last say that two rules act that send elsewhere.
 #[derive(Clone, Copy, Debug, PartialEq, Eq, PartialOrd, Ord)]
@@ -189,4 +189,21 @@ fn equals_are_added() {
         }
     }
     assert!(100 * added > 10 * alone, "{added} of {alone}");
+}
+
+/// Whatever order the rules stand in. What the gates answer then is compared by `compare::orders`.
+#[test]
+fn steps_are_the_same_in_any_order() {
+    let mut random = Random::new(63);
+    let mut meeting = 0;
+    for of in compare::widths_up_to(7).into_iter().cycle().take(600) {
+        let mut network = file::read(&random_network(&mut random, of, MODEST)).unwrap();
+        let steps = all_steps(&network);
+        for _ in 0..4 {
+            random.shuffle(&mut network.rules);
+            assert_eq!(all_steps(&network), steps, "{network:?}");
+        }
+        meeting += usize::from(met_by(&network).contains(&Met::Two));
+    }
+    assert!(meeting > 200, "{meeting}");
 }
