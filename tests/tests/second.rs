@@ -305,7 +305,7 @@ fn generated_networks_are_sound_and_judged_as_plainly() {
     let mut random = Random::new(11);
     let (mut holding, mut broken) = (0, 0);
     for of in compare::widths_up_to(6) {
-        for _ in 0..12 {
+        for _ in 0..40 {
             let records = random_network(&mut random, of, MODEST);
             let mut lent = lend(&mut random, &records);
             let answer = Second.check(&lent.store, lent.n, &mut lent.work);
