@@ -1,4 +1,4 @@
-//! The order of rules told by the calls of a gate on networks with their rules in another order.
+//! A gate that is shown every network with its rules in another order.
 
 use crate::gate::{Checked, Commanded, Gate, Routed, MOST_RECORDS, RECORD};
 use crate::random::Random;

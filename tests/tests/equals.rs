@@ -13,7 +13,7 @@ use wegbaro_tests::second::network::{Action, Network, Pattern, Rule};
 use wegbaro_tests::second::states::{State, StateSet, DROP};
 use wegbaro_tests::second::steps::{all_steps, copies, matches};
 
-/// What is met at an arriving state; all but the last say that two rules act that send elsewhere.
+/// What is met at an arriving state; all but the last say that two rules act that do not send the same.
 #[derive(Clone, Copy, Debug, PartialEq, Eq, PartialOrd, Ord)]
 enum Met {
     Two,
@@ -135,7 +135,7 @@ fn assert_meet(networks: &[Vec<Record>], least: &[(Met, usize)]) {
     }
 }
 
-/// Most of these are met about twice as often as before rules were drawn beside others.
+/// Of a hundred random networks so many have each; rules that are drawn one by one have fewer.
 #[test]
 fn equals_are_generated() {
     let mut random = Random::new(60);
@@ -171,7 +171,8 @@ fn equals_are_generated() {
     assert_meet(&guarded, &of_guarded);
 }
 
-/// Adds of new rules by which rules come to act together that send elsewhere, where none did before.
+/// Adds of new rules by which rules come to act together that do not send the same, where none did
+/// before.
 #[test]
 fn equals_are_added() {
     let mut random = Random::new(61);

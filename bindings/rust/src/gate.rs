@@ -7,9 +7,9 @@ use std::fmt;
 /// A network, and the buffers in which commands to it are judged.
 ///
 /// Once [`Gate::check`] says that the network holds, it holds for good: a command that would break
-/// a policy is blocked and changes nothing. That is proved for every series of commands. Where rules
-/// of equal priority match the same frame, all of them act; [`check`] says which policies then also
-/// hold for a switch that takes just one of them.
+/// a policy is blocked and changes nothing. That is proved for every series of commands. Where
+/// several matching rules have the highest priority, all of them act; [`check`] says which policies
+/// then also hold for a switch that takes just one of them.
 #[derive(Clone)]
 pub struct Gate {
     store: Vec<u8>,

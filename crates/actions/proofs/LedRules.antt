@@ -1,5 +1,5 @@
 -- Who leads an arrival, one rule after the other, ends at the rules that act.
-use borrow.Author.Tests.{eq-eqb, ne-eqb}
+use borrow.Author.Tests.{eq-eqb, ne-eqb, eqb-true}
 use mathlib.Core.Path.{_≡_, sym, ap, subst, subst⁻¹, _∙_}
 use mathlib.Core.Bool.{Bool, true, false, cond, _&&_}
 use mathlib.Core.List.{[], _∷_}
@@ -10,21 +10,23 @@ use native.Mathlib.Omega.{arith}
 use lib.Dec.{eqb}
 use lib.ListN.{length, getD}
 use Rattle.planes.specs.Bit.{bitOf}
+use Rattle.planes.specs.Laws.Tests.{same-test}
 use Rattle.records.specs.Lists.{keep, any}
 use Rattle.records.specs.Record.{Rec, Net, at, priority, ofKind}
 use Rattle.records.specs.State.{state}
 use Rattle.records.specs.Widths.{withinLimits, widthsOf}
-use Rattle.records.specs.Laws.Every.{at-every, any-kept}
+use Rattle.records.specs.Laws.Every.{every-at, at-every, keep-same, any-fails, any-kept, any-more}
 use Rattle.records.specs.Laws.Parts.{part, part-more, keep-part}
 use Rattle.records.specs.declared.Widths.{Widths}
 use Rattle.actions.specs.declared.leads.Lead.{Lead}
-use Rattle.actions.specs.Chosen.{Arrival, ruleMatches, best, orMiss, chosen}
+use Rattle.actions.specs.Chosen.{Arrival, ruleMatches, chosen}
 use Rattle.actions.specs.ByPlace.{arrival, rankOf}
 use Rattle.actions.specs.RuleSets.{SetsOf}
+use Rattle.actions.specs.Laws.Chosen.{NoneOutranks, chosen-exactly, chosen-miss}
 use Rattle.actions.specs.Laws.RuleSets.{match-by-sets}
 use Rattle.actions.specs.Leads.{Tables, leadAt, Room, Empty, raised, Painted, Leads, AllLead}
-use Rattle.actions.proofs.HighestRank.{rank-true, rank-false, best-by-rank, none-match}
 use Rattle.actions.proofs.PaintedLeads.{takes-lead, joins-lead, stays-behind}
+use Rattle.actions.proofs.Ranks.{rank-true, rank-false, ranked, unranked}
 
 -- of the rules before number j, x has the highest rank of one that matches, and the first and the last that has it
 pub record Led (w : Widths) (a : Arrival) (rules : Net) (j : ℕ) (x : Lead) : Type 0 where
@@ -36,12 +38,12 @@ module _ (w : Widths) (a : Arrival) (rules : Net) where
   abbrev rank : ℕ → ℕ
   rank k = rankOf w a (getD rules k [])
 
-  pub led-none : (x : Lead) → x .rank ≡ 0 → Led w a rules 0 x
+  led-none : (x : Lead) → x .rank ≡ 0 → Led w a rules 0 x
   led-none x e = record { no-higher = λ k h. absurd (omega arith); first = λ h. absurd (omega arith); between = λ k h. absurd (omega arith) }
 
   module _ (j : ℕ) (x : Lead) (L : Led w a rules j x) where
     -- one rule more, which does not match
-    pub led-passed : rankOf w a (getD rules j []) ≡ 0 → Led w a rules (j + 1) x
+    led-passed : rankOf w a (getD rules j []) ≡ 0 → Led w a rules (j + 1) x
     led-passed z = record {
       no-higher = λ k h. upTo k h;
       first = λ h. let f = L .first h in (f .0, omega (arith, f .1), f .2);
@@ -90,7 +92,7 @@ module _ (w : Widths) (a : Arrival) (rules : Net) where
         between = at-j (λ (k : ℕ). 0 < x .rank → rank k ≡ x .rank → (x .first ≤ k) × (k ≤ x .last)) (λ t u. absurd (omega arith)) (L .between);
       }
 
-      pub led-raised : Led w a rules (j + 1) (raised r j x)
+      led-raised : Led w a rules (j + 1) (raised r j x)
       led-raised = go (decLt (x .rank) r) (ℕ-discrete (x .rank) r)
         where
           go : Dec (x .rank < r) → Dec (x .rank ≡ r) → Led w a rules (j + 1) (raised r j x)
@@ -99,65 +101,87 @@ module _ (w : Widths) (a : Arrival) (rules : Net) where
           go (no h) (no q) = rw (stays-behind r j x (omega (arith, q))) (stays (omega (arith, q)))
 
 -- after all rules, those that lead are those that act
-module _ (net : Net) (w : Widths) (widths : w ≡ widthsOf net) (a : Arrival) (x : Lead) where
+module _ (net : Net) (a : Arrival) (x : Lead) (L : Led (widthsOf net) a (ofKind 4 net) (length (ofKind 4 net)) x) where
+  abbrev w : Widths
+  w = widthsOf net
+
   abbrev rules : Net
   rules = ofKind 4 net
 
-  abbrev miss : Rec
-  miss = getD (ofKind 3 net) (a .switch) []
+  abbrev rankBy : Rec → ℕ
+  rankBy r = rankOf w a r
 
   abbrev top : Rec → Bool
-  top r = eqb (rankOf w a r) (x .rank)
+  top r = eqb (rankBy r) (x .rank)
 
-  module _ (L : Led w a (ofKind 4 net) (length (ofKind 4 net)) x) where
-    by-widths : chosen net a ≡ orMiss (best (keep (ruleMatches w a) rules)) miss
-    unfolding chosen
-    by-widths = ap (λ (v : Widths). orMiss (best (keep (ruleMatches v a) rules)) miss) (sym widths)
+  missed : x .rank ≡ 0 → chosen net a ≡ getD (ofKind 3 net) (a .switch) [] ∷ []
+  missed e = chosen-miss net a (any-fails (ruleMatches w a) rules (at-every (λ r. ruleMatches w a r ≡ false) [] rules (λ k h. unranked w a (getD rules k []) (omega (arith, L .no-higher k h)))))
 
-    missed : x .rank ≡ 0 → chosen net a ≡ miss ∷ []
-    unfolding orMiss best keep
-    missed e = by-widths ∙ ap (λ (l : Net). orMiss (best l) miss) (none-match w a rules (at-every (λ r. rankOf w a r ≤ 0) [] rules (λ k h. omega (arith, L .no-higher k h))))
+  module _ (some : 0 < x .rank) where
+    f : (x .first ≤ x .last) × (x .last < length rules) × (rankBy (getD rules (x .first) []) ≡ x .rank)
+    f = L .first some
 
-    module _ (some : 0 < x .rank) where
-      f : (x .first ≤ x .last) × (x .last < length rules) × (rankOf w a (getD rules (x .first) []) ≡ x .rank)
-      f = L .first some
+    -- no rule before the first or after the last has the rank
+    outside : (k : ℕ) → k < length rules → (k < x .first) ⊎ (x .last < k) → top (getD rules k []) ≡ false
+    outside k h o = ne-eqb _ _ (λ e. go o (L .between k h some e))
+      where
+        go : (k < x .first) ⊎ (x .last < k) → (x .first ≤ k) × (k ≤ x .last) → ⊥
+        go (inl t) b = omega (arith, b .0)
+        go (inr t) b = omega (arith, b .1)
 
-      -- no rule before the first or after the last has the rank
-      outside : (k : ℕ) → k < length rules → (k < x .first) ⊎ (x .last < k) → top (getD rules k []) ≡ false
-      outside k h o = ne-eqb _ _ (λ e. let b = L .between k h some e in go o b)
-        where
-          go : (k < x .first) ⊎ (x .last < k) → (x .first ≤ k) × (k ≤ x .last) → ⊥
-          go (inl t) b = omega (arith, b .0)
-          go (inr t) b = omega (arith, b .1)
+    between : keep top rules ≡ keep top (part rules (x .first) (x .last + 1))
+    between =
+        keep-part top rules (x .first) (x .last + 1) (omega (arith, f .0))
+        (λ k h. outside k (omega (arith, f .0, f .1)) (inl h)) (λ k l h. outside k h (inr (omega arith)))
 
-      between : keep top rules ≡ keep top (part rules (x .first) (x .last + 1))
-      between =
-          keep-part top rules (x .first) (x .last + 1) (omega (arith, f .0))
-          (λ k h. outside k (omega (arith, f .0, f .1)) (inl h)) (λ k l h. outside k h (inr (omega arith)))
+    begins : keep top (part rules (x .first) (x .last + 1)) ≡ getD rules (x .first) [] ∷ keep top (part rules (x .first + 1) (x .last + 1))
+    unfolding keep
+    begins =
+        ap (keep top) (part-more rules (x .first) (x .last + 1) (omega (arith, f .0)) (omega (arith, f .1)))
+        ∙ ap (λ (b : Bool). cond b (getD rules (x .first) [] ∷ keep top (part rules (x .first + 1) (x .last + 1))) (keep top (part rules (x .first + 1) (x .last + 1)))) (eq-eqb _ _ (f .2))
 
-      begins : keep top (part rules (x .first) (x .last + 1)) ≡ getD rules (x .first) [] ∷ keep top (part rules (x .first + 1) (x .last + 1))
-      unfolding keep
-      begins =
-          ap (keep top) (part-more rules (x .first) (x .last + 1) (omega (arith, f .0)) (omega (arith, f .1)))
-          ∙ ap (λ (b : Bool). cond b (getD rules (x .first) [] ∷ keep top (part rules (x .first + 1) (x .last + 1))) (keep top (part rules (x .first + 1) (x .last + 1)))) (eq-eqb _ _ (f .2))
+    -- the first one matches
+    matches : any (ruleMatches w a) rules ≡ true
+    matches =
+        any-more top (ruleMatches w a) (λ r t. ranked w a r (omega (arith, eqb-true (rankBy r) (x .rank) t))) rules
+        (any-kept top rules (getD rules (x .first) []) (keep top (part rules (x .first + 1) (x .last + 1))) (between ∙ begins))
 
-      attained : any top rules ≡ true
-      attained = any-kept top rules (getD rules (x .first) []) (keep top (part rules (x .first + 1) (x .last + 1))) (between ∙ begins)
+    first-matches : ruleMatches w a (getD rules (x .first) []) ≡ true
+    first-matches = ranked w a (getD rules (x .first) []) (omega (arith, f .2))
 
-      lead : chosen net a ≡ keep top (part rules (x .first) (x .last + 1))
-      unfolding orMiss
-      lead =
-          by-widths
-          ∙ ap (λ (l : Net). orMiss l miss)
-          (best-by-rank w a (x .rank) some rules (at-every (λ r. rankOf w a r ≤ x .rank) [] rules (L .no-higher)) attained ∙ between ∙ begins)
-          ∙ sym begins
+    -- a rule matches and none that matches outranks it exactly if it has the highest rank
+    highest : (k : ℕ) → k < length rules → let r = getD rules k [] in (ruleMatches w a r ≡ true) × NoneOutranks net a r → top r ≡ true
+    unfolding priority
+    highest k h t =
+        let r = getD rules k [] in
+        let g = getD rules (x .first) [] in
+        let over : priority g ≤ priority r = every-at (λ s. ruleMatches w a s ≡ true → priority s ≤ priority r) [] rules (x .first) (λ m. omega arith) (t .1) first-matches in
+        eq-eqb (rankBy r) (x .rank) (omega (arith, L .no-higher k h, rank-true w a r (t .0), rank-true w a g first-matches, f .2))
 
-    pub led-all : Leads net w a x
-    led-all = record {
-      miss = missed;
-      rules = λ n. lead (omega (arith, n));
-      within = λ n. let q = f (omega (arith, n)) in (q .0, q .1);
-    }
+    is-highest : (k : ℕ) → k < length rules → let r = getD rules k [] in top r ≡ true → (ruleMatches w a r ≡ true) × NoneOutranks net a r
+    is-highest k h t =
+        let r = getD rules k [] in
+        let e = eqb-true (rankBy r) (x .rank) t in
+        let m = ranked w a r (omega arith) in
+        (m, at-every (λ s. ruleMatches w a s ≡ true → priority s ≤ priority r) [] rules (λ j l n. omega (arith, rank-true w a (getD rules j []) n, L .no-higher j l, rank-true w a r m)))
+
+    lead : chosen net a ≡ keep top (part rules (x .first) (x .last + 1))
+    lead =
+        let q = chosen-exactly net a matches in
+        q .1
+        ∙ keep-same (q .0) top rules (at-every (λ r. q .0 r ≡ top r) [] rules
+        (λ k h. same-test (q .0 (getD rules k [])) (top (getD rules k [])) (λ t. highest k h (q .2 (getD rules k []) .0 t)) (λ t. q .2 (getD rules k []) .1 (is-highest k h t))))
+        ∙ between
+
+  led-own : Leads net (widthsOf net) a x
+  led-own = record {
+    miss = missed;
+    rules = λ n. lead (omega (arith, n));
+    within = λ n. let q = f (omega (arith, n)) in (q .0, q .1);
+  }
+
+led-all : (net : Net) (w : Widths) → w ≡ widthsOf net → (a : Arrival) (x : Lead) → Led w a (ofKind 4 net) (length (ofKind 4 net)) x → Leads net w a x
+led-all net w widths a x = subst⁻¹ (λ (v : Widths). Led v a (ofKind 4 net) (length (ofKind 4 net)) x → Leads net v a x) widths (led-own net a x)
 
 -- the tables have who leads each arrival, by the rules before number j
 pub record LedBy (net : Net) (w : Widths) (j : ℕ) (t : Tables) : Type 0 where

@@ -65,11 +65,11 @@ module _ (s r j : ℕ) (R F L : List ℕ) (room : Room (tables R F L)) (h : s < 
   counted-not lt = record { room = room; here = sym (stays-behind r j (leadAt (tables R F L) s) lt); others = λ t n. refl }
 
 module _ (w : Widths) (r j : ℕ) where
-  pub painted-none : (t : Tables) → Room t → Painted w (λ a. false) r j t t
+  painted-none : (t : Tables) → Room t → Painted w (λ a. false) r j t t
   painted-none t R = record { room = R; leads = λ sw p h hs hp hh. refl }
 
   -- which arrivals pass may be said in other words
-  pub painted-as : (f g : Arrival → Bool) (a b : Tables)
+  painted-as : (f g : Arrival → Bool) (a b : Tables)
       → ((sw p h : ℕ) → sw < 2 ^ w .w → p < 2 ^ w .p → h < 2 ^ w .h → f (arrival sw p h) ≡ g (arrival sw p h))
       → Painted w f r j a b → Painted w g r j a b
   painted-as f g a b e P = record {
@@ -84,7 +84,7 @@ module _ (w : Widths) (r j : ℕ) where
   either false true x y z e q = q ∙ ap (raised r j) e
   either false false x y z e q = q ∙ e
 
-  pub painted-both : (f g : Arrival → Bool) (a b c : Tables) → Painted w f r j a b → Painted w g r j b c → Painted w (λ v. f v || g v) r j a c
+  painted-both : (f g : Arrival → Bool) (a b c : Tables) → Painted w f r j a b → Painted w g r j b c → Painted w (λ v. f v || g v) r j a c
   painted-both f g a b c A B = record {
     room = B .room;
     leads = λ sw p h hs hp hh. either (f (arrival sw p h)) (g (arrival sw p h)) _ _ _ (A .leads sw p h hs hp hh) (B .leads sw p h hs hp hh);
@@ -114,17 +114,17 @@ module _ (w : Widths) (r j : ℕ) where
             go (yes u) (yes v) (no t) = rw (eq-eqb sw x (sym u), eq-eqb y p v, ne-eqb z h t) (R .others (state w 0 x y z) (λ q. t (sym (header-of w 0 x y z hx hy hz) ∙ ap (headerOf w) (q ∙ is) ∙ header-of w 0 sw p h hs hp hh)))
 
 -- the numbers below k that pass
-abbrev pub below : ℕ → (ℕ → Bool) → ℕ → Bool
+abbrev below : ℕ → (ℕ → Bool) → ℕ → Bool
 below k f x = ltb x k && f x
 
 module _ (f : ℕ → Bool) (x : ℕ) where
-  pub below-none : below 0 f x ≡ false
+  below-none : below 0 f x ≡ false
   below-none = ap (λ (t : Bool). t && f x) (le-ltb x 0 (omega arith))
 
-  pub below-all : (k : ℕ) → x < k → below k f x ≡ f x
+  below-all : (k : ℕ) → x < k → below k f x ≡ f x
   below-all k h = ap (λ (t : Bool). t && f x) (lt-ltb x k h)
 
-  pub below-in : (k : ℕ) → f k ≡ true → (below k f x || eqb x k) ≡ below (k + 1) f x
+  below-in : (k : ℕ) → f k ≡ true → (below k f x || eqb x k) ≡ below (k + 1) f x
   below-in k e = go (ℕ-discrete x k) (decLt x k)
     where
       go : Dec (x ≡ k) → Dec (x < k) → (below k f x || eqb x k) ≡ below (k + 1) f x
@@ -132,7 +132,7 @@ module _ (f : ℕ → Bool) (x : ℕ) where
       go (no q) (yes h) = rw (lt-ltb x k h, lt-ltb x (k + 1) (omega arith), ne-eqb x k q) (or-false (f x))
       go (no q) (no h) = rw (le-ltb x k (omega arith), le-ltb x (k + 1) (omega (arith, q)), ne-eqb x k q)
 
-  pub below-out : (k : ℕ) → f k ≡ false → below k f x ≡ below (k + 1) f x
+  below-out : (k : ℕ) → f k ≡ false → below k f x ≡ below (k + 1) f x
   below-out k e = go (ℕ-discrete x k) (decLt x k)
     where
       go : Dec (x ≡ k) → Dec (x < k) → below k f x ≡ below (k + 1) f x

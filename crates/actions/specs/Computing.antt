@@ -1,4 +1,4 @@
--- What theorems by computation open to choose a rule and to run its actions.
+-- What theorems by computation open to choose the rules that act and to run their actions.
 use Rattle.planes.specs.Bit.{bitOf}
 use Rattle.records.specs.Lists.{keep, any, from}
 use Rattle.records.specs.Record.{ofKind, priority, actionKind}

@@ -24,6 +24,7 @@ pub record Tables : Type 0 where
   pub firsts : List ℕ
   pub lasts : List ℕ
 
+-- the tables, from three lists
 abbrev pub tables : List ℕ → List ℕ → List ℕ → Tables
 tables ranks firsts lasts = record { ranks = ranks; firsts = firsts; lasts = lasts }
 

@@ -1,4 +1,4 @@
--- The choice of a rule, and what its actions and groups send.
+-- The choice of the rules that act, and what their actions and groups send.
 pub mod Chosen
 pub mod Departing
 pub mod Groups

@@ -1,4 +1,4 @@
--- Whether a formula is even, computed: the type of `evenTest` says what it is.
+-- Whether a formula is even, computed: `even-by-test` says what the test is.
 use mathlib.Core.Path.{_≡_, refl}
 use mathlib.Core.Bool.{Bool, true, false, cond, not, _&&_, false≢true}
 use mathlib.Core.Logic.{_↔_}
@@ -65,7 +65,3 @@ complete e (TC f u v) p = complete e f (λ n w. p n (under-TC w))
 -- so it passes exactly if the formula is even
 pub even-by-test : (f : Formula) → nots true f ≡ true ↔ Even f
 even-by-test f = (λ t n w. sound true w t, complete true f)
-
--- the test, with the proof of what it tests
-unfoldable pub evenTest : (f : Formula) → (passes : Bool) × (passes ≡ true ↔ Even f)
-evenTest f = (nots true f, even-by-test f)

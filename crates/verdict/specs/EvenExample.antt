@@ -1,4 +1,4 @@
--- Even policies on a network with equals, by computation: one with one NOT over its R holds and is broken under a choice; one with two holds under every choice.
+-- Two policies of a network with equals that holds: one with one NOT over its R is broken under a choice, by computation; one with two NOTs is even, so that it is not.
 use borrow.Author.Tests.{not-true}
 use mathlib.Core.Path.{_≡_, refl, subst}
 use mathlib.Core.Bool.{true, not}
@@ -19,7 +19,7 @@ use Rattle.actions.specs.Chosen.{chosen}
 use Rattle.steps.specs.Step.{arrivalOf, nextBy}
 use Rattle.truth.specs.Truth.{Truth}
 use Rattle.truth.specs.Even.{here, under-NOT, left-AND, under-SOME, Even}
-use Rattle.truth.specs.EvenTest.{nots, evenTest}
+use Rattle.truth.specs.EvenTest.{nots, even-by-test}
 use Rattle.truth.specs.Computed.{allBelow}
 use Rattle.truth.specs.Laws.Tables.{all-iff}
 use Rattle.verdict.specs.Verdict.{holds, Holds, Is}
@@ -40,8 +40,7 @@ wide = record24 (4 ∷ 0 ∷ 10 ∷ 0 ∷ 0 ∷ 0 ∷ 0 ∷ 0 ∷ 2 ∷ 1 ∷ 1 
 unfoldable node1 : ℕ → ℕ → ℕ → Rec
 node1 k a b = record24 (5 ∷ 1 ∷ k ∷ a ∷ b ∷ [])
 
--- widths H 1, P 2, W 0; the miss OUTPUT 0; the rules; policy 0: a state departs from port 1 or 3, and no state steps to it;
--- policy 1: a state departs from port 0, drop, and not every state does not step to it
+-- H 1, P 2, W 0; policy 0: a state departs from port 1 or 3, and none steps to it; policy 1: one departs from drop, and not all do not step to it
 unfoldable net : Net
 net =
     record24 (1 ∷ 1 ∷ 2 ∷ 0 ∷ [])
@@ -70,7 +69,7 @@ net =
 
 -- all that the example computes with
 unfoldable computing : Unit {0}
-unfolding judging record24 node A B policy0 K nots evenTest firstInFile narrow wide node1 net
+unfolding judging record24 node A B policy0 K nots firstInFile narrow wide node1 net
 computing = tt
 
 -- no row refuses the file
@@ -128,7 +127,7 @@ even-needed all = all net net-holds 0 (rw policies (lit< tt)) (firstInFile net) 
 -- two NOTs lie over the R of policy 1
 two-nots : Even (forbidden net 1)
 unfolding computing
-two-nots = evenTest (forbidden net 1) .1 .0 refl
+two-nots = even-by-test (forbidden net 1) .0 refl
 
 -- it holds under every choice
 two-nots-hold : (c : ℕ → Rec) → Choice net c → HoldsUnder net c 1
@@ -137,4 +136,4 @@ two-nots-hold = even-policies-hold net net-holds 1 (rw policies (lit< tt)) two-n
 -- the policy of K is even
 K-even : Even (forbidden K 0)
 unfolding computing
-K-even = evenTest (forbidden K 0) .1 .0 refl
+K-even = even-by-test (forbidden K 0) .0 refl

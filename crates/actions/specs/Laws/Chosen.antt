@@ -1,20 +1,20 @@
 -- Exactly which records act on an arrival.
-use borrow.Author.Tests.{ltb-false, le-ltb, eqb-true, eq-eqb}
+use borrow.Author.Tests.{ltb-false, le-ltb, eqb-true, eq-eqb, not-true}
 use mathlib.Core.Path.{_≡_, refl, sym, ap, _∙_}
 use mathlib.Core.Bool.{Bool, true, false, cond, not, _&&_, _||_, false≢true}
 use mathlib.Core.List.{[], _∷_}
-use mathlib.Core.Logic.{_↔_, ⊎-elim}
+use mathlib.Core.Logic.{_↔_}
 use Prim.Native.Nat.{_<_, _≤_}
 use native.Mathlib.Decide.{decLt}
 use native.Mathlib.Omega.{arith}
 use lib.Dec.{eqb, ltb}
 use lib.ListN.{getD}
-use Rattle.planes.specs.Laws.Tests.{and-both, both, or-left, or-right, or-cases, or-none}
+use Rattle.planes.specs.Laws.Tests.{and-both, both, or-left, or-right}
 use Rattle.records.specs.Lists.{keep, any}
 use Rattle.records.specs.Record.{Rec, Net, priority, ofKind}
 use Rattle.records.specs.Widths.{widthsOf}
 use Rattle.records.specs.Laws.Lists.{any-keep, keep-keep}
-use Rattle.records.specs.Laws.Every.{Every, every-more, every-fails, any-fails}
+use Rattle.records.specs.Laws.Every.{Every, every-more, every-fails, any-fails, any-more, none-kept}
 use Rattle.actions.specs.Chosen.{Arrival, ruleMatches, outranked, best, orMiss, chosen}
 
 -- some rule has the highest priority
@@ -34,11 +34,6 @@ top-of r (s ∷ rs) = go (top-of s rs)
           or-left (eqb (priority r) (priority r)) _ (eq-eqb (priority r) (priority r) refl),
         )
         higher (no h) = (t, (omega arith, highest), or-right (eqb (priority r) (priority t)) _ attained)
-
-any-more : (f g : Rec → Bool) → ((r : Rec) → f r ≡ true → g r ≡ true) → (rs : Net) → any f rs ≡ true → any g rs ≡ true
-unfolding any
-any-more f g h [] e = e
-any-more f g h (r ∷ rs) e = ⊎-elim (λ q. or-left (g r) (any g rs) (h r q)) (λ q. or-right (g r) (any g rs) (any-more f g h rs q)) (or-cases (f r) (any f rs) e)
 
 -- so of some rules there is one that none outranks
 not-all-outranked : (r : Rec) (rs : Net) → any (λ s. not (outranked s (r ∷ rs))) (r ∷ rs) ≡ true
@@ -70,11 +65,6 @@ best-acts f (r ∷ rs) miss e = go (f r) e (best-acts f rs miss)
         → orMiss (best (cond b (r ∷ keep f rs) (keep f rs))) miss ≡ best (cond b (r ∷ keep f rs) (keep f rs))
     go true e ih = no-miss (λ s. not (outranked s (r ∷ keep f rs))) (r ∷ keep f rs) miss (not-all-outranked r (keep f rs))
     go false e ih = ih e
-
-none-kept : (f : Rec → Bool) (rs : Net) → any f rs ≡ false → keep f rs ≡ []
-unfolding any keep
-none-kept f [] e = refl
-none-kept f (r ∷ rs) e = let q = or-none (f r) (any f rs) e in ap (λ (b : Bool). cond b (r ∷ keep f rs) (keep f rs)) (q .0) ∙ none-kept f rs (q .1)
 
 module _ (net : Net) (a : Arrival) where
   abbrev matching : Rec → Bool
@@ -116,14 +106,10 @@ module _ (net : Net) (a : Arrival) where
     test,
     best-acts matching rules (getD (ofKind 3 net) (a .switch) []) e ∙ keep-keep (λ r. not (outranked r (keep matching rules))) matching rules,
     λ r. (
-      λ t. let q = both (matching r) (not (outranked r (keep matching rules))) t in (q .0, none-outranks r (unnot (outranked r (keep matching rules)) (q .1))),
+      λ t. let q = both (matching r) (not (outranked r (keep matching rules))) t in (q .0, none-outranks r (not-true (outranked r (keep matching rules)) (q .1))),
       λ t. and-both (matching r) (not (outranked r (keep matching rules))) (t .0) (ap not (not-outranked r (t .1))),
     ),
   )
-    where
-      unnot : (b : Bool) → not b ≡ true → b ≡ false
-      unnot true q = sym q
-      unnot false q = refl
 
   -- where no rule matches, the miss record of the switch alone acts
   pub chosen-miss : any (ruleMatches (widthsOf net) a) (ofKind 4 net) ≡ false → chosen net a ≡ getD (ofKind 3 net) (a .switch) [] ∷ []

@@ -1,6 +1,6 @@
 -- What is so of every element of a list.
 use borrow.Author.Tests.{eqb-true}
-use mathlib.Core.Path.{_≡_, refl, ap, ap₂, subst⁻¹}
+use mathlib.Core.Path.{_≡_, refl, ap, ap₂, subst⁻¹, _∙_}
 use mathlib.Core.Bool.{Bool, true, false, cond, _||_, false≢true}
 use mathlib.Core.List.{List, [], _∷_, _++_}
 use mathlib.Core.Logic.{⊎-elim}
@@ -8,7 +8,7 @@ use Prim.Native.Nat.{ℕ, zero, suc, _+_, _<_}
 use native.Mathlib.Omega.{arith}
 use lib.Dec.{eqb}
 use lib.ListN.{length, getD}
-use Rattle.planes.specs.Laws.Tests.{or-cases, or-none}
+use Rattle.planes.specs.Laws.Tests.{or-left, or-right, or-cases, or-none}
 use Rattle.records.specs.Lists.{keep, any, member, from}
 
 -- every element is so
@@ -93,3 +93,14 @@ any-kept {A} f (y ∷ l) x rest e = go (f y) e (any-kept f l x rest)
     go : (b : Bool) → _≡_ {A = List A} (cond b (y ∷ keep f l) (keep f l)) (x ∷ rest) → (keep f l ≡ x ∷ rest → any f l ≡ true) → (b || any f l) ≡ true
     go true q ih = refl
     go false q ih = ih q
+
+-- where every element that passes one test passes another
+pub any-more : {A : Type 0} (f g : A → Bool) → ((x : A) → f x ≡ true → g x ≡ true) → (l : List A) → any f l ≡ true → any g l ≡ true
+unfolding any
+any-more f g h [] e = e
+any-more f g h (x ∷ l) e = ⊎-elim (λ q. or-left (g x) (any g l) (h x q)) (λ q. or-right (g x) (any g l) (any-more f g h l q)) (or-cases (f x) (any f l) e)
+
+pub none-kept : {A : Type 0} (f : A → Bool) (l : List A) → any f l ≡ false → keep f l ≡ []
+unfolding any keep
+none-kept f [] e = refl
+none-kept {A} f (x ∷ l) e = let q = or-none (f x) (any f l) e in ap (λ (b : Bool). cond b (x ∷ keep f l) (keep f l)) (q .0) ∙ none-kept f l (q .1)

@@ -1,7 +1,7 @@
 -- Laws of the records of a kind, and of what is read off them: nodes and policies.
 use mathlib.Core.Path.{_≡_, refl, sym, ap, ap₂, _∙_}
 use mathlib.Core.Bool.{Bool, true, false, cond, _&&_, _||_}
-use mathlib.Core.List.{List, [], _∷_, _++_}
+use mathlib.Core.List.{[], _∷_, _++_}
 use Prim.Native.Nat.{ℕ, zero, suc, _+_, _-_, _<_, max}
 use native.Mathlib.Omega.{arith}
 use borrow.Author.Tests.{eqb-true, ne-eqb}
@@ -13,7 +13,7 @@ use Rattle.records.specs.Record.{Rec, Net, at, kind, ofKind, sameRule, p
 use Rattle.records.specs.Widths.{widthsOf}
 use Rattle.records.specs.Version.{versionOf}
 use Rattle.records.specs.Policy.{nodesOf, policyCount, longestOf, longest}
-use Rattle.records.specs.Laws.Lists.{keep-append, any-append}
+use Rattle.records.specs.Laws.Lists.{keep-append, keep-keep, any-append}
 
 -- a record is a rule, a node, a group
 abbrev pub isRule : Rec → Bool
@@ -51,17 +51,6 @@ rules-only k h (r ∷ rs) e = go (isRule r) refl e (rules-only k h rs)
     go : (b : Bool) → isRule r ≡ b → (b && all isRule rs) ≡ true → (all isRule rs ≡ true → ofKind k rs ≡ []) → ofKind k (r ∷ rs) ≡ []
     go true t e ih = rw (ne-eqb (kind r) k (λ q. h (sym q ∙ eqb-true (kind r) 4 t))) (ih e)
     go false t e ih = let z : _≡_ {A = ℕ} 0 1 = cc in absurd (omega arith)
-
-module _ {A : Type 0} (f g : A → Bool) where
-  keep-keep-step : (b : Bool) (x : A) (l m : List A) → keep f l ≡ m → keep f (cond b (x ∷ l) l) ≡ cond (b && f x) (x ∷ m) m
-  unfolding keep
-  keep-keep-step true x l m e = ap (λ (k : List A). cond (f x) (x ∷ k) k) e
-  keep-keep-step false x l m e = e
-
-  keep-keep : (xs : List A) → keep f (keep g xs) ≡ keep (λ x. g x && f x) xs
-  unfolding keep
-  keep-keep [] = refl
-  keep-keep (x ∷ xs) = keep-keep-step (g x) x (keep g xs) (keep (λ x. g x && f x) xs) (keep-keep xs)
 
 pub nodes-kind : (p : ℕ) (net : Net) → nodesOf p net ≡ keep (λ r. eqb (at r 1) p) (ofKind 5 net)
 unfolding nodesOf ofKind

@@ -1,6 +1,6 @@
 -- A verdict depends on a network only through its widths, external points, policies and steps.
 use mathlib.Core.Path.{_≡_, sym, subst, subst⁻¹, _∙_}
-use mathlib.Core.Logic.{_↔_, _⊎_, inl, inr, ⊎-elim}
+use mathlib.Core.Logic.{_↔_, inl, inr, ⊎-elim}
 use Prim.Native.Nat.{ℕ, _<_}
 use native.Mathlib.Omega.{arith}
 use Rattle.records.specs.Record.{Net}
