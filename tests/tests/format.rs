@@ -140,6 +140,22 @@ fn a_step_through_groups() {
     assert_eq!((0..32).filter(is_step).collect::<Vec<usize>>(), [20, 23]);
 }
 
+/// The steps of state 2 with the document's rule C behind K's rules, by the priority of rule C.
+#[test]
+fn a_step_by_rules_of_equal_priority() {
+    let document = document();
+    let line = document.lines().find(|line| line.starts_with("    04 00 0A 00 00 ")).unwrap();
+    let rule = record(&bytes(line.trim().split("   ").next().unwrap()));
+    for (priority, steps) in [(10, vec![20, 23]), (11, vec![23]), (9, vec![20])] {
+        let mut records = k();
+        records.insert(6, rule);
+        records[6][2] = priority;
+        let mut gate = wegbaro::Gate::new(&records).unwrap();
+        let is_step = |to: &usize| gate.route(2, *to) == Ok(Some(vec![2, *to as u16]));
+        assert_eq!((0..32).filter(is_step).collect::<Vec<usize>>(), steps, "{priority}");
+    }
+}
+
 /// A state of network K in bits, part by part, and in words.
 fn described(state: State) -> [String; 2] {
     let State { direction, point: Point { switch, port }, header } = state;
