@@ -1,0 +1,7 @@
+-- Laws that belong to no one function.
+pub mod Digits
+pub mod Seeking
+pub mod Gathering
+pub mod Turning
+pub mod Ending
+pub mod Testing
