@@ -8,9 +8,9 @@ use Rattle.records.specs.Record.{Rec, Net, at, ActionKind, kOutput, kSet, kInPo
 use Rattle.records.specs.State.{ordinary}
 use Rattle.records.specs.Pattern.{matches, putBits}
 use Rattle.records.specs.declared.Widths.{Widths}
-use Rattle.actions.specs.Chosen.{Arrival}
-use Rattle.actions.specs.Departing.{except, departing}
-use Rattle.actions.specs.Groups.{groupSent}
+use Rattle.choice.specs.Chosen.{Arrival}
+use Rattle.groups.specs.Departing.{except, departing}
+use Rattle.groups.specs.Groups.{groupSent}
 
 -- the ports that OUTPUT names: without stars its one port, drop and controller included; with stars ordinary ports only
 unfoldable pub named : Widths → ℕ → ℕ → List ℕ

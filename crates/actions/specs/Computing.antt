@@ -7,9 +7,9 @@ use Rattle.records.specs.Search.{firstAt}
 use Rattle.records.specs.Widths.{widthsOf}
 use Rattle.records.specs.State.{state, ordinary}
 use Rattle.records.specs.Pattern.{ternary, matches, putBits}
-use Rattle.actions.specs.Chosen.{ruleMatches, outranked, best, orMiss, chosen}
-use Rattle.actions.specs.Departing.{except, departing}
-use Rattle.actions.specs.Groups.{groupRecord, bucketSent, bucketsSent, lowerSent, groupSent}
+use Rattle.choice.specs.Chosen.{ruleMatches, outranked, best, orMiss, chosen}
+use Rattle.groups.specs.Departing.{except, departing}
+use Rattle.groups.specs.Groups.{groupRecord, bucketSent, bucketsSent, lowerSent, groupSent}
 use Rattle.actions.specs.Actions.{named, reached, sentBy, headerAfter, copies, sent}
 
 -- all that is sent computes with

@@ -6,10 +6,10 @@ use Rattle.records.specs.Lists.{from}
 use Rattle.records.specs.Record.{Rec, Net}
 use Rattle.records.specs.Widths.{widthsOf}
 use Rattle.records.specs.NetK.{record24}
-use Rattle.actions.specs.Chosen.{chosen}
+use Rattle.choice.specs.Chosen.{chosen}
+use Rattle.choice.specs.ByBytes.{arrival}
 use Rattle.actions.specs.Actions.{sent}
 use Rattle.actions.specs.Computing.{sending}
-use Rattle.actions.specs.ByPlace.{arrival}
 
 -- the miss of switch 0: group 1
 unfoldable pub missPair : Rec

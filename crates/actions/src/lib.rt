@@ -1,5 +1,8 @@
 // What the actions of a record send.
-use buckets::BUCKET_HEADERS;
+use choice::state::values;
+use groups::buckets::BUCKET_HEADERS;
+use groups::copies::send;
+use groups::copies::send_on;
 use groups::run_group;
 use records::Widths;
 use records::fields::is_ordinary;
@@ -7,8 +10,6 @@ use records::pattern::in_set;
 use records::pattern::matched;
 use records::pattern::put;
 use scan::Layout;
-use state::number;
-use state::values;
 ghost use mathlib.Core.Path.{_≡_};
 ghost use mathlib.Core.Bool.{true};
 ghost use mathlib.Core.List.{[], _∷_};
@@ -19,38 +20,14 @@ ghost use Rattle.records.specs.Record.{records};
 ghost use Rattle.records.specs.Fields.{actionsGood};
 ghost use Rattle.records.specs.Pattern.{patternGood};
 ghost use Rattle.records.specs.Matched.{MatchedSet};
+ghost use Rattle.choice.specs.ByBytes.{arrival, ofBody};
+ghost use Rattle.groups.specs.Departing.{departing};
+ghost use Rattle.groups.specs.BucketHeaders.{BucketHeaders};
+ghost use Rattle.groups.specs.Adds.{lineBytes, Added};
+ghost use Rattle.groups.specs.Sent.{Sends, Ready, GroupsRan};
 ghost use Rattle.actions.specs.Actions.{reached, sent};
-ghost use Rattle.actions.specs.Departing.{except, departing};
-ghost use Rattle.actions.specs.ByPlace.{arrival, ofBody};
-ghost use Rattle.actions.specs.BucketHeaders.{BucketHeaders};
-ghost use Rattle.actions.specs.Adds.{lineBytes, Added};
-ghost use Rattle.actions.specs.Sent.{Sends, flooded, Ready, GroupsRan, UsedAction, Acted};
+ghost use Rattle.actions.specs.Acted.{flooded, UsedAction, Acted};
 ghost use Rattle.scan.specs.Stored.{Stored};
-
-pub mod buckets;
-pub mod choice;
-mod groups;
-pub mod leads;
-pub mod state;
-
-// Sends a copy to port q.
-fn send(work: &mut [u8], line: usize, w: Widths, sw: u8, h: u8, q: u8)
-    requires { ⌜ Sends w line sw h (now work) × (q < 2 ^ w .p) ⌝ }
-    ensures { λ _. ⌜ Added (departing w sw h (q ∷ [])) line (lineBytes w) (now (work .entry)) (now (work .exit)) ⌝ }
-{
-    planes::set_at(work, line, number(w, 1, sw, q, h));
-}
-
-// Sends a copy to port q, unless it is the arrival port p.
-fn send_on(work: &mut [u8], line: usize, w: Widths, sw: u8, p: u8, h: u8, q: u8)
-    requires { ⌜ Sends w line sw h (now work) × (q < 2 ^ w .p) ⌝ }
-    ensures { λ _. ⌜ Added (departing w sw h (except p (q ∷ []))) line (lineBytes w) (now (work .entry)) (now (work .exit)) ⌝ }
-{
-    if q == p {
-        return;
-    }
-    send(work, line, w, sw, h, q);
-}
 
 // Sends a copy to port q, if OUTPUT with stars, whose pattern matches these ports, reaches it from the arrival port p.
 fn offer(work: &mut [u8], line: usize, w: Widths, sw: u8, p: u8, ports: u64, h: u8, q: u8)

@@ -12,9 +12,9 @@ use Rattle.records.specs.State.{state}
 use Rattle.records.specs.Widths.{states, withinLimits}
 use Rattle.records.specs.declared.Widths.{Widths}
 use Rattle.steps.specs.Step.{across}
-use Rattle.actions.specs.Adds.{lineBytes, Adds}
+use Rattle.groups.specs.Adds.{lineBytes, Adds}
 use Rattle.steps.specs.Carried.{oneWay, pair, pairs, crosses}
-use Rattle.actions.specs.Laws.AddedBits.{adds-none, adds-as, adds-both}
+use Rattle.groups.specs.Laws.AddedBits.{adds-none, adds-as, adds-both}
 use Rattle.steps.proofs.HeaderByHeader.{below, hops-none, hops-more, hops-all}
 use Rattle.steps.proofs.LinkCrossings.{both-ways}
 use Rattle.steps.proofs.PlaneOfPairs.{plane-pairs}

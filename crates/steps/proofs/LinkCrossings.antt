@@ -10,8 +10,8 @@ use Rattle.records.specs.State.{state, headerOf, portOf, switchOf, directionOf}
 use Rattle.records.specs.declared.Widths.{Widths}
 use Rattle.steps.specs.Step.{across}
 use Rattle.steps.specs.Carried.{arriving, oneWay, crosses}
-use Rattle.actions.specs.Laws.AddedBits.{member-append}
-use Rattle.actions.specs.Laws.SentCopies.{map-append}
+use Rattle.groups.specs.Laws.AddedBits.{member-append}
+use Rattle.groups.specs.Laws.SentCopies.{map-append}
 
 -- what is across from a point, by one list of ends and by another
 module _ (w : Widths) where

@@ -14,12 +14,12 @@ use Rattle.records.specs.Laws.Records.{byte-of}
 use Rattle.records.specs.declared.Widths.{Widths}
 use Rattle.scan.specs.declared.Layout.{Layout}
 use Rattle.steps.specs.Step.{across}
-use Rattle.actions.specs.ByPlace.{ofBody}
+use Rattle.choice.specs.ByBytes.{ofBody}
 use Rattle.steps.specs.Carried.{Ends, crosses}
 use Rattle.scan.specs.Stored.{Stored}
-use Rattle.actions.specs.Laws.Bodies.{bodyAt, SameTo, body-of}
+use Rattle.choice.specs.Laws.Bodies.{bodyAt, SameTo, body-of}
 use Rattle.steps.proofs.LinkCrossings.{crosses-as, links-after}
-use Rattle.actions.specs.Laws.GoodRecords.{in-store, in-net, link-good}
+use Rattle.choice.specs.Laws.GoodRecords.{in-store, in-net, link-good}
 
 -- a link by its bytes 1 to 4
 module _ (sw p : ℕ) (r q : Rec) (same : SameTo 4 r q) where

@@ -10,10 +10,10 @@ use Rattle.records.specs.Record.{Rec, Net, ofKind}
 use Rattle.records.specs.Widths.{widthsOf}
 use Rattle.records.specs.State.{headerOf, portOf, switchOf, directionOf}
 use Rattle.records.specs.declared.Widths.{Widths}
-use Rattle.actions.specs.Chosen.{Arrival, chosen}
-use Rattle.actions.specs.Actions.{sent}
+use Rattle.choice.specs.Chosen.{Arrival, chosen}
+use Rattle.choice.specs.ByBytes.{arrival}
 use Rattle.steps.specs.Step.{across, next}
-use Rattle.actions.specs.ByPlace.{arrival}
+use Rattle.actions.specs.Actions.{sent}
 use Rattle.steps.specs.Relayed.{relayed, relays}
 use Rattle.steps.specs.Carried.{crosses}
 use Rattle.steps.specs.Laws.ByDirection.{next-arriving, next-departing}

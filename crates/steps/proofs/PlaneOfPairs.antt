@@ -14,7 +14,7 @@ use Rattle.records.specs.Lists.{member}
 use Rattle.records.specs.Widths.{states, withinLimits}
 use Rattle.records.specs.Laws.States.{whole-bytes}
 use Rattle.records.specs.declared.Widths.{Widths}
-use Rattle.actions.specs.Adds.{lineBytes, Adds, Added}
+use Rattle.groups.specs.Adds.{lineBytes, Adds, Added}
 use Rattle.steps.specs.Filled.{PlaneRoom}
 use Rattle.steps.specs.Carried.{pair}
 

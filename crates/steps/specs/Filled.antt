@@ -11,7 +11,7 @@ use Rattle.records.specs.Record.{Net}
 use Rattle.records.specs.Widths.{states, withinLimits, widthsOf}
 use Rattle.records.specs.declared.Widths.{Widths}
 use Rattle.steps.specs.Step.{next}
-use Rattle.actions.specs.Adds.{lineBytes}
+use Rattle.groups.specs.Adds.{lineBytes}
 
 -- a plane starts at byte base
 pub record PlaneRoom (w : Widths) (base : ℕ) (work : List ℕ) : Type 0 where

@@ -21,11 +21,11 @@ use Rattle.records.specs.declared.Widths.{Widths}
 use Rattle.rows.specs.Refusal.{fileRow}
 use Rattle.rows.specs.Laws.Good.{clean-good}
 use Rattle.rows.specs.Laws.Passing.{clean-at, ordered}
-use Rattle.actions.specs.Chosen.{Arrival, chosen}
+use Rattle.choice.specs.Chosen.{Arrival, chosen}
+use Rattle.choice.specs.ByBytes.{arrival}
+use Rattle.choice.specs.Laws.AmongChosen.{every-chosen}
+use Rattle.groups.specs.Laws.AddedBits.{member-append}
 use Rattle.actions.specs.Actions.{copies, sent}
-use Rattle.actions.specs.ByPlace.{arrival}
-use Rattle.actions.specs.Laws.AddedBits.{member-append}
-use Rattle.actions.specs.Laws.AmongChosen.{every-chosen}
 use Rattle.actions.specs.Laws.Bounce.{NoInPort, no-bounce}
 use Rattle.actions.specs.Laws.Elsewhere.{GroupsGood}
 use Rattle.steps.specs.Step.{Step}

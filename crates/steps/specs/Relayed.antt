@@ -6,9 +6,9 @@ use lib.Dec.{eqb}
 use Rattle.records.specs.Record.{Net}
 use Rattle.records.specs.State.{headerOf, portOf, switchOf, directionOf}
 use Rattle.records.specs.declared.Widths.{Widths}
-use Rattle.actions.specs.Chosen.{Arrival, chosen}
+use Rattle.choice.specs.Chosen.{Arrival, chosen}
+use Rattle.choice.specs.ByBytes.{arrival}
 use Rattle.actions.specs.Actions.{sent}
-use Rattle.actions.specs.ByPlace.{arrival}
 
 -- what an arrival steps to: at port 0 nothing, else what the records that act send
 unfoldable pub relayed : Net → Widths → Arrival → List ℕ

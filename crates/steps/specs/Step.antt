@@ -8,7 +8,7 @@ use Rattle.records.specs.Lists.{member}
 use Rattle.records.specs.Record.{Net, at, ofKind, linked}
 use Rattle.records.specs.Widths.{widthsOf}
 use Rattle.records.specs.State.{state, headerOf, portOf, switchOf, directionOf, ordinary}
-use Rattle.actions.specs.Chosen.{Arrival, chosen}
+use Rattle.choice.specs.Chosen.{Arrival, chosen}
 use Rattle.actions.specs.Actions.{sent}
 
 -- the other ends of the links at a point

@@ -1,7 +1,7 @@
 // What links carry, and where they end.
-use actions::state::join;
-use actions::state::number;
-use actions::state::values;
+use choice::state::join;
+use choice::state::number;
+use choice::state::values;
 use records::Widths;
 use scan::Layout;
 ghost use mathlib.Core.Path.{_≡_};
@@ -17,8 +17,8 @@ ghost use Rattle.records.specs.Fields.{pointGood};
 ghost use Rattle.records.specs.State.{state};
 ghost use Rattle.records.specs.Widths.{withinLimits};
 ghost use Rattle.steps.specs.Step.{across};
-ghost use Rattle.actions.specs.ByPlace.{ofBody};
-ghost use Rattle.actions.specs.Adds.{lineBytes, Adds};
+ghost use Rattle.choice.specs.ByBytes.{ofBody};
+ghost use Rattle.groups.specs.Adds.{lineBytes, Adds};
 ghost use Rattle.steps.specs.Filled.{PlaneRoom};
 ghost use Rattle.steps.specs.Carried.{oneWay, Ends, pair, pairs, crosses, point, LinkedPoints};
 ghost use Rattle.scan.specs.Stored.{Stored};

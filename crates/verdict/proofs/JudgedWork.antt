@@ -20,7 +20,7 @@ use Rattle.scan.specs.declared.Layout.{Layout}
 use Rattle.records.specs.Laws.Limits.{limits}
 use Rattle.records.specs.Laws.States.{whole-bytes, few-states}
 use Rattle.steps.specs.Step.{Step, external}
-use Rattle.actions.specs.Adds.{lineBytes}
+use Rattle.groups.specs.Adds.{lineBytes}
 use Rattle.steps.specs.Filled.{Filled}
 use Rattle.verdict.specs.declared.judge.Judged.{Judged}
 use Rattle.truth.specs.Shapes.{Line}

@@ -8,7 +8,7 @@ use Rattle.records.specs.Record.{Rec, Net}
 use Rattle.records.specs.Widths.{states, widthsOf}
 use Rattle.records.specs.State.{directionOf}
 use Rattle.records.specs.Policy.{forbidden, policyCount}
-use Rattle.actions.specs.Chosen.{chosen}
+use Rattle.choice.specs.Chosen.{chosen}
 use Rattle.steps.specs.Step.{arrivalOf, nextBy, external}
 use Rattle.truth.specs.Truth.{Model, Truth}
 use Rattle.truth.specs.Even.{Even}

@@ -15,7 +15,7 @@ use Rattle.records.specs.Widths.{states, widthsOf}
 use Rattle.records.specs.Policy.{X, Y, BIT, R, NOT, AND, SOME, policyCount, forbidden}
 use Rattle.records.specs.NetK.{record24, node, A, B, policy0, K}
 use Rattle.rows.specs.Refusal.{fileRow}
-use Rattle.actions.specs.Chosen.{chosen}
+use Rattle.choice.specs.Chosen.{chosen}
 use Rattle.steps.specs.Step.{arrivalOf, nextBy}
 use Rattle.truth.specs.Truth.{Truth}
 use Rattle.truth.specs.Even.{here, under-NOT, left-AND, under-SOME, Even}

@@ -12,7 +12,7 @@ use Rattle.records.specs.Record.{Rec, Net}
 use Rattle.records.specs.Widths.{states, widthsOf}
 use Rattle.records.specs.State.{directionOf}
 use Rattle.records.specs.Policy.{forbidden}
-use Rattle.actions.specs.Chosen.{chosen}
+use Rattle.choice.specs.Chosen.{chosen}
 use Rattle.steps.specs.Step.{arrivalOf, nextBy, next, Step}
 use Rattle.truth.specs.Even.{Even, Within}
 use Rattle.truth.specs.Laws.Growing.{grows}

@@ -11,17 +11,18 @@ use Rattle.records.specs.Pattern.{patternGood}
 use Rattle.records.specs.Laws.Fields.{no-action}
 use Rattle.records.specs.Laws.Limits.{limits}
 use Rattle.records.specs.declared.Widths.{Widths}
-use Rattle.actions.specs.ByPlace.{ofBody}
-use Rattle.actions.specs.Groups.{groupSent}
+use Rattle.choice.specs.ByBytes.{ofBody}
+use Rattle.choice.specs.Laws.Bodies.{body-byte}
+use Rattle.groups.specs.Groups.{groupSent}
+use Rattle.groups.specs.Adds.{lineBytes, Added}
+use Rattle.groups.specs.Marks.{Done}
+use Rattle.groups.specs.Sent.{GroupsRan}
+use Rattle.groups.specs.Laws.AddedBits.{added-none}
+use Rattle.groups.specs.Laws.Marking.{ran-sent}
 use Rattle.actions.specs.Actions.{sentAs, headerBy}
-use Rattle.actions.specs.Adds.{lineBytes, Added}
-use Rattle.actions.specs.Marks.{Done}
-use Rattle.actions.specs.Sent.{GroupsRan, UsedAction, Acted}
+use Rattle.actions.specs.Acted.{UsedAction, Acted}
 use Rattle.actions.specs.Laws.CopiesInOrder.{sent-as, header-as}
-use Rattle.actions.specs.Laws.AddedBits.{added-none}
-use Rattle.actions.specs.Laws.Bodies.{body-byte}
 use Rattle.actions.specs.Laws.GoodActions.{output-pattern, group-number}
-use Rattle.actions.specs.Laws.Marking.{ran-sent}
 use Rattle.actions.proofs.act.Statement.{statement}
 use Rattle.actions.proofs.act.Tie as tie
 

@@ -5,11 +5,12 @@ use native.Mathlib.Omega.{arith}
 use lib.ListN.{length}
 use Rattle.records.specs.Lists.{keep, from}
 use Rattle.records.specs.Laws.Limits.{limits}
-use Rattle.actions.specs.Departing.{except, departing}
-use Rattle.actions.specs.Adds.{lineBytes, Added}
-use Rattle.actions.specs.Sent.{flooded}
-use Rattle.actions.specs.Laws.AddedBits.{TowardList, list-more, added-none}
-use Rattle.actions.specs.Laws.SentCopies.{sends-on, ports-left}
+use Rattle.groups.specs.Departing.{except, departing}
+use Rattle.groups.specs.Adds.{lineBytes, Added}
+use Rattle.groups.specs.Laws.AddedBits.{TowardList, list-more, added-none}
+use Rattle.groups.specs.Laws.SentCopies.{sends-on}
+use Rattle.actions.specs.Acted.{flooded}
+use Rattle.actions.specs.Laws.Flooded.{ports-left}
 use Rattle.actions.proofs.flood.Statement.{statement}
 use Rattle.actions.proofs.flood.Tie as tie
 

@@ -7,9 +7,9 @@ use Rattle.records.specs.State.{ordinary}
 use Rattle.records.specs.Pattern.{matches}
 use Rattle.records.specs.Laws.Limits.{limits}
 use Rattle.records.specs.Laws.Matched.{below-64}
-use Rattle.actions.specs.Departing.{departing}
-use Rattle.actions.specs.Laws.AddedBits.{added-none}
-use Rattle.actions.specs.Laws.SentCopies.{port-passed, port-offered}
+use Rattle.groups.specs.Departing.{departing}
+use Rattle.groups.specs.Laws.AddedBits.{added-none}
+use Rattle.actions.specs.Laws.Flooded.{port-passed, port-offered}
 use Rattle.actions.proofs.offer.Statement.{statement}
 use Rattle.actions.proofs.offer.Tie as tie
 

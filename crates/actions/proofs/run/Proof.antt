@@ -6,14 +6,14 @@ use Prim.Native.Nat.{ℕ, _-_, _^_, _≤_, _<_}
 use native.Mathlib.Omega.{arith}
 use lib.ListN.{length, getD}
 use Rattle.records.specs.Record.{records}
+use Rattle.choice.specs.ByBytes.{arrival, ofBody}
+use Rattle.groups.specs.Adds.{lineBytes, Added}
+use Rattle.groups.specs.Sent.{Ready}
+use Rattle.groups.specs.Laws.AddedBits.{TowardList, list-more, added-none}
+use Rattle.groups.specs.Laws.Running.{ready-with, ready-on}
 use Rattle.actions.specs.Actions.{sentBy, sent, copies}
-use Rattle.actions.specs.ByPlace.{arrival, ofBody}
-use Rattle.actions.specs.Adds.{lineBytes, Added}
-use Rattle.actions.specs.Sent.{Ready}
 use Rattle.actions.specs.Laws.CopiesInOrder.{copies-left, header-after-lt}
-use Rattle.actions.specs.Laws.AddedBits.{TowardList, list-more, added-none}
 use Rattle.actions.specs.Laws.GoodActions.{used-action}
-use Rattle.actions.specs.Laws.Running.{ready-with, ready-on}
 use Rattle.actions.proofs.run.Statement.{statement}
 use Rattle.actions.proofs.run.Tie as tie
 

@@ -8,10 +8,11 @@ use lib.ListN.{length, getD}
 use Rattle.records.specs.Record.{records}
 use Rattle.records.specs.Fields.{actionsGood}
 use Rattle.records.specs.Laws.Fields.{actions-body}
-use Rattle.actions.specs.ByPlace.{arrival, ofBody}
-use Rattle.actions.specs.Laws.Bodies.{bodyAt, body-of, body-is, body-length, sent-same}
+use Rattle.choice.specs.ByBytes.{arrival, ofBody}
+use Rattle.choice.specs.Laws.Bodies.{bodyAt, body-of, body-is, body-length}
+use Rattle.choice.specs.Laws.GoodRecords.{record-in, record-room, actions-good}
+use Rattle.actions.specs.Laws.SameCopies.{sent-same}
 use Rattle.actions.specs.Laws.GoodActions.{few-actions}
-use Rattle.actions.specs.Laws.GoodRecords.{record-in, record-room, actions-good}
 use Rattle.actions.proofs.run_record.Statement.{statement}
 use Rattle.actions.proofs.run_record.Tie as tie
 

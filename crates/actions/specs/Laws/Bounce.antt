@@ -16,11 +16,11 @@ use Rattle.records.specs.State.{state, portOf}
 use Rattle.records.specs.Laws.Every.{in-empty, every-member}
 use Rattle.records.specs.Laws.States.{port-of}
 use Rattle.records.specs.declared.Widths.{Widths}
-use Rattle.actions.specs.Chosen.{Arrival}
-use Rattle.actions.specs.Departing.{departing}
+use Rattle.choice.specs.Chosen.{Arrival}
+use Rattle.groups.specs.Departing.{departing}
+use Rattle.groups.specs.Laws.AddedBits.{member-append}
 use Rattle.actions.specs.Actions.{named, reached, sentBy, headerAfter, copies, sent}
-use Rattle.actions.specs.Sent.{UsedAction}
-use Rattle.actions.specs.Laws.AddedBits.{member-append}
+use Rattle.actions.specs.Acted.{UsedAction}
 use Rattle.actions.specs.Laws.CopiesInOrder.{sent-as, header-after-lt}
 use Rattle.actions.specs.Laws.Elsewhere.{named-lt, elsewhere, GroupsGood, group-elsewhere}
 use Rattle.actions.specs.Laws.GoodActions.{output-pattern, used-action}

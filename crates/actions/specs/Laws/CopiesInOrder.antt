@@ -12,10 +12,10 @@ use Rattle.records.specs.State.{ordinary}
 use Rattle.records.specs.Pattern.{matches}
 use Rattle.records.specs.Laws.Patterns.{put-lt}
 use Rattle.records.specs.declared.Widths.{Widths}
-use Rattle.actions.specs.Chosen.{Arrival}
-use Rattle.actions.specs.Departing.{except}
+use Rattle.choice.specs.Chosen.{Arrival}
+use Rattle.groups.specs.Departing.{except}
 use Rattle.actions.specs.Actions.{named, reached, sentAs, headerBy, sentBy, headerAfter, copies}
-use Rattle.actions.specs.Sent.{flooded}
+use Rattle.actions.specs.Acted.{flooded}
 
 -- the ports of a pattern without stars, and with
 module _ (w : Widths) (value care : ℕ) where

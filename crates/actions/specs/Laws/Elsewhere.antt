@@ -18,12 +18,12 @@ use Rattle.records.specs.Laws.Every.{Every, every-append, every-from, every-mor
 use Rattle.records.specs.Laws.Patterns.{put-lt}
 use Rattle.records.specs.Laws.States.{port-of}
 use Rattle.records.specs.declared.Widths.{Widths}
-use Rattle.actions.specs.Departing.{except, departing}
-use Rattle.actions.specs.Groups.{groupRecord, sentTo, bucketSent, bucketsSent, recordSent, lowerSent, groupSent}
+use Rattle.groups.specs.Departing.{except, departing}
+use Rattle.groups.specs.Groups.{groupRecord, sentTo, bucketSent, bucketsSent, recordSent, lowerSent, groupSent}
+use Rattle.groups.specs.Laws.GoodGroups.{bucket-port}
 use Rattle.actions.specs.Actions.{named}
 use Rattle.actions.specs.Laws.CopiesInOrder.{named-one, named-starred}
 use Rattle.actions.specs.Laws.GoodActions.{pattern-value-lt}
-use Rattle.actions.specs.Laws.GoodGroups.{bucket-port}
 
 -- each of some copies departs at another port than p
 abbrev pub Elsewhere : Widths → ℕ → List ℕ → Type 0

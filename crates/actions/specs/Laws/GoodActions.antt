@@ -14,7 +14,7 @@ use Rattle.records.specs.Fields.{usedFields, usedGood, unusedGood, actionBytesG
 use Rattle.records.specs.Laws.Fields.{count-high, action-each}
 use Rattle.records.specs.Laws.Patterns.{care-lt, value-within}
 use Rattle.records.specs.declared.Widths.{Widths}
-use Rattle.actions.specs.Sent.{UsedAction}
+use Rattle.actions.specs.Acted.{UsedAction}
 
 -- a value lies within its width
 pub pattern-value-lt : (k value care : ℕ) → patternGood k value care ≡ true → value < 2 ^ k

@@ -3,8 +3,8 @@ use Prim.Native.Nat.{ℕ}
 use lib.ListN.{length-replicate}
 use Rattle.planes.specs.Laws.Lines.{no-byte}
 use Rattle.records.specs.Record.{mostRules}
-use Rattle.actions.specs.BucketHeaders.{mostEntries}
-use Rattle.actions.specs.Leads.{mostArriving}
+use Rattle.choice.specs.Leads.{mostArriving}
+use Rattle.groups.specs.BucketHeaders.{mostEntries}
 use Rattle.steps.proofs.fill_arriving.Statement.{statement}
 use Rattle.steps.proofs.fill_arriving.Tie as tie
 

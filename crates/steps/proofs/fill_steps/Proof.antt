@@ -10,7 +10,7 @@ use Rattle.records.specs.Record.{records, ofKind}
 use Rattle.records.specs.Widths.{states}
 use Rattle.records.specs.declared.Widths.{Widths}
 use Rattle.steps.specs.Step.{across, next}
-use Rattle.actions.specs.Adds.{lineBytes}
+use Rattle.groups.specs.Adds.{lineBytes}
 use Rattle.steps.specs.Relayed.{relays}
 use Rattle.steps.specs.Carried.{crosses}
 use Rattle.steps.proofs.PairBits.{pair-first, pair-second}

@@ -6,10 +6,10 @@ use Prim.Native.Nat.{_+_}
 use native.Mathlib.Omega.{arith}
 use lib.ListN.{getD}
 use Rattle.records.specs.Record.{Rec, records}
-use Rattle.actions.specs.ByPlace.{arrival}
-use Rattle.actions.specs.Laws.AddedBits.{added-none}
-use Rattle.actions.specs.Laws.GoodRecords.{miss-at}
-use Rattle.actions.specs.Laws.Running.{ready-first}
+use Rattle.choice.specs.ByBytes.{arrival}
+use Rattle.choice.specs.Laws.GoodRecords.{miss-at}
+use Rattle.groups.specs.Laws.AddedBits.{added-none}
+use Rattle.groups.specs.Laws.Running.{ready-first}
 use Rattle.steps.proofs.NextStates.{dropped, all-act, one-acts}
 use Rattle.steps.proofs.relay.Statement.{statement}
 use Rattle.steps.proofs.relay.Tie as tie

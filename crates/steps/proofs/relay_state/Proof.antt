@@ -5,10 +5,10 @@ use Prim.Native.Nat.{ℕ, _^_, _<_}
 use Rattle.records.specs.Record.{records}
 use Rattle.records.specs.State.{headerOf, portOf, switchOf, directionOf}
 use Rattle.records.specs.Laws.States.{header-lt, port-lt, switch-lt}
-use Rattle.actions.specs.ByPlace.{arrival}
-use Rattle.actions.specs.Leads.{tables, leadAt, Leads}
-use Rattle.actions.specs.Laws.AddedBits.{added-none}
-use Rattle.actions.specs.Laws.Arriving.{arriving-of, arrives-lt}
+use Rattle.choice.specs.ByBytes.{arrival}
+use Rattle.choice.specs.Leads.{tables, leadAt, Leads}
+use Rattle.choice.specs.Laws.Arriving.{arriving-of, arrives-lt}
+use Rattle.groups.specs.Laws.AddedBits.{added-none}
 use Rattle.steps.proofs.NextStates.{relays-arriving, relays-departing}
 use Rattle.steps.proofs.relay_state.Statement.{statement}
 use Rattle.steps.proofs.relay_state.Tie as tie

@@ -12,7 +12,7 @@ use Rattle.records.specs.Widths.{states}
 use Rattle.records.specs.Laws.Limits.{limits}
 use Rattle.records.specs.Laws.States.{whole-bytes}
 use Rattle.steps.specs.Relayed.{relays}
-use Rattle.actions.specs.Adds.{lineBytes, Added}
+use Rattle.groups.specs.Adds.{lineBytes, Added}
 use Rattle.steps.proofs.PlaneOfPairs.{line-more}
 use Rattle.steps.proofs.relay_states.Statement.{statement}
 use Rattle.steps.proofs.relay_states.Tie as tie

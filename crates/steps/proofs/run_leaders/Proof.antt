@@ -13,16 +13,16 @@ use Rattle.records.specs.Lists.{keep}
 use Rattle.records.specs.Record.{Rec, Net, mostRules, records, ofKind}
 use Rattle.records.specs.Laws.Parts.{part}
 use Rattle.records.specs.declared.Widths.{Widths}
+use Rattle.choice.specs.ByBytes.{arrival, ofBody, rankOf}
+use Rattle.choice.specs.Chosen.{Arrival, chosen}
+use Rattle.choice.specs.Laws.Bodies.{bodyAt, body-of, body-length, rank-same}
+use Rattle.choice.specs.Laws.GoodRecords.{record-in, record-room, rule-number, rules-count, rule-at}
+use Rattle.choice.specs.Laws.RuleSets.{sets-same}
+use Rattle.groups.specs.Adds.{lineBytes, Added}
+use Rattle.groups.specs.Sent.{Ready}
+use Rattle.groups.specs.Laws.AddedBits.{TowardList, list-more, added-none}
+use Rattle.groups.specs.Laws.Running.{ready-on}
 use Rattle.actions.specs.Actions.{sent}
-use Rattle.actions.specs.Adds.{lineBytes, Added}
-use Rattle.actions.specs.ByPlace.{arrival, ofBody, rankOf}
-use Rattle.actions.specs.Chosen.{Arrival, chosen}
-use Rattle.actions.specs.Sent.{Ready}
-use Rattle.actions.specs.Laws.AddedBits.{TowardList, list-more, added-none}
-use Rattle.actions.specs.Laws.Bodies.{bodyAt, body-of, body-length, rank-same}
-use Rattle.actions.specs.Laws.GoodRecords.{record-in, record-room, rule-number, rules-count, rule-at}
-use Rattle.actions.specs.Laws.RuleSets.{sets-same}
-use Rattle.actions.specs.Laws.Running.{ready-on}
 use Rattle.steps.proofs.ActingRules.{acts, passes, acts-none}
 use Rattle.steps.proofs.run_leaders.Statement.{statement}
 use Rattle.steps.proofs.run_leaders.Tie as tie

@@ -9,9 +9,9 @@ use Rattle.records.specs.Record.{Net, ofKind}
 use Rattle.records.specs.Widths.{widthsOf}
 use Rattle.records.specs.State.{state, headerOf, portOf, switchOf, directionOf}
 use Rattle.records.specs.declared.Widths.{Widths}
-use Rattle.actions.specs.Chosen.{chosen}
+use Rattle.choice.specs.Chosen.{chosen}
+use Rattle.choice.specs.ByBytes.{arrival}
 use Rattle.actions.specs.Actions.{sent}
-use Rattle.actions.specs.ByPlace.{arrival}
 use Rattle.steps.specs.Step.{across, nextBy, next}
 use Rattle.steps.specs.Relayed.{relayed}
 use Rattle.steps.specs.Carried.{arriving}

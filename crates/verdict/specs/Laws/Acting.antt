@@ -14,9 +14,9 @@ use Rattle.records.specs.Widths.{widthsOf}
 use Rattle.records.specs.State.{state, headerOf, portOf, switchOf, directionOf}
 use Rattle.records.specs.Laws.Every.{in-empty}
 use Rattle.records.specs.declared.Widths.{Widths}
-use Rattle.actions.specs.Chosen.{Arrival, orMiss, chosen}
+use Rattle.choice.specs.Chosen.{Arrival, orMiss, chosen}
+use Rattle.groups.specs.Laws.AddedBits.{member-append}
 use Rattle.actions.specs.Actions.{sent}
-use Rattle.actions.specs.Laws.AddedBits.{member-append}
 use Rattle.steps.specs.Step.{across, arrivalOf, nextBy}
 
 -- what records send by f

@@ -3,7 +3,7 @@ use Prim.Native.Nat.{_-_, _^_, _≤_}
 use native.Mathlib.Omega.{arith}
 use Rattle.planes.specs.Plane.{planeSize}
 use Rattle.records.specs.Laws.Limits.{limits}
-use Rattle.actions.specs.Adds.{lineBytes, Adds}
+use Rattle.groups.specs.Adds.{lineBytes, Adds}
 use Rattle.steps.specs.Carried.{pairs}
 use Rattle.steps.proofs.HeaderByHeader.{below}
 use Rattle.steps.proofs.PlaneOfPairs.{room-on}

@@ -9,10 +9,10 @@ use Rattle.records.specs.Record.{Net, records, ofKind}
 use Rattle.records.specs.Widths.{states}
 use Rattle.records.specs.Laws.Parts.{part, part-none}
 use Rattle.steps.specs.Step.{across}
-use Rattle.actions.specs.Adds.{lineBytes, Adds}
+use Rattle.choice.specs.Laws.Bodies.{body-length}
 use Rattle.steps.specs.Carried.{pairs, crosses}
-use Rattle.actions.specs.Laws.AddedBits.{Toward, toward-more, adds-none, adds-as}
-use Rattle.actions.specs.Laws.Bodies.{body-length}
+use Rattle.groups.specs.Adds.{lineBytes, Adds}
+use Rattle.groups.specs.Laws.AddedBits.{Toward, toward-more, adds-none, adds-as}
 use Rattle.steps.proofs.LinkCrossings.{crosses-none}
 use Rattle.steps.proofs.PlaneOfPairs.{room-on}
 use Rattle.steps.proofs.LinksInStore.{link-in, link-room, link-ends, links-cross}

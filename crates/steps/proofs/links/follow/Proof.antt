@@ -1,7 +1,7 @@
 use borrow.Author.Needs.{needs}
 use denote.Ref.{now}
 use mathlib.Core.Path.{_∙_}
-use Rattle.actions.specs.ByPlace.{ofBody}
+use Rattle.choice.specs.ByBytes.{ofBody}
 use Rattle.steps.proofs.PlaneOfPairs.{room-on}
 use Rattle.steps.proofs.EveryHeader.{followed}
 use Rattle.steps.proofs.links.follow.Statement.{statement}

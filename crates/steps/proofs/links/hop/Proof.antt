@@ -9,9 +9,9 @@ use Rattle.records.specs.State.{state}
 use Rattle.records.specs.Widths.{states}
 use Rattle.records.specs.Laws.Limits.{limits}
 use Rattle.records.specs.Laws.States.{state-lt}
-use Rattle.actions.specs.Adds.{lineBytes, Adds}
+use Rattle.groups.specs.Adds.{lineBytes, Adds}
 use Rattle.steps.specs.Carried.{pair}
-use Rattle.actions.specs.Laws.AddedBits.{adds-one}
+use Rattle.groups.specs.Laws.AddedBits.{adds-one}
 use Rattle.steps.proofs.PairBits.{pair-is, pair-lt, few-pairs}
 use Rattle.steps.proofs.PlaneOfPairs.{pair-in}
 use Rattle.steps.proofs.PointBits.{point-switch, point-port}
