@@ -123,29 +123,6 @@ fn take_in(work: &[u8], a: usize, to: usize, pitch: usize, first: usize, line: &
     }
 }
 
-// A copy of the pitch bytes of p from at on: where pitch is 128, by a copy of a known length.
-fn load(p: &[u8], at: usize, pitch: usize) -> [u8; 128]
-    requires { ⌜ (at + pitch ≤ length (now p)) × (pitch ≤ 128) ⌝ }
-    ensures { λ r. ⌜ Loaded at pitch (now (p .entry)) r ⌝ }
-{
-    if pitch == 128 {
-        return planes::load_line(p, at, 128);
-    }
-    planes::load_line(p, at, pitch)
-}
-
-// Stores the first pitch bytes of line from byte at of p on, likewise.
-fn store(p: &mut [u8], at: usize, line: &[u8; 128], pitch: usize)
-    requires { ⌜ (at + pitch ≤ length (now p)) × (pitch ≤ 128) ⌝ }
-    ensures { λ _. ⌜ Put (now (line .entry)) at pitch (now (p .entry)) (now (p .exit)) ⌝ }
-{
-    if pitch == 128 {
-        planes::put_line(p, at, line, 128);
-    } else {
-        planes::put_line(p, at, line, pitch);
-    }
-}
-
 // Line x of the plane at to takes in the lines of the states that x is related to by the plane at from; whether it changed.
 fn settle(work: &mut [u8], from: usize, to: usize, pitch: usize, x: usize) -> bool
     requires { ⌜ Apart from to pitch (length (now work)) ⌝ }
@@ -158,13 +135,13 @@ fn settle(work: &mut [u8], from: usize, to: usize, pitch: usize, x: usize) -> bo
         return false;
     }
     let b = to + x * pitch;
-    let old = load(work, b, pitch);
+    let old = planes::load_line(work, b, pitch);
     let mut line = old;
     take_in(work, a, to, pitch, first, &mut line);
     if same(&line, &old) {
         return false;
     }
-    store(work, b, &line, pitch);
+    planes::put_line(work, b, &line, pitch);
     true
 }
 

@@ -26,7 +26,7 @@ use Rattle.groups.specs.Adds.{lineBytes}
 use Rattle.steps.specs.Step.{next, Step}
 use Rattle.steps.specs.Filled.{Filled}
 use Rattle.verdict.specs.Judge.{Judgeable}
-use Rattle.truth.specs.Laws.NodePlanes.{plane-after}
+use Rattle.nodes.specs.Laws.NodePlanes.{plane-after}
 use Rattle.verdict.proofs.JudgedWork.{needed}
 use Rattle.calls.specs.Check.{cleared}
 use Rattle.calls.specs.Bytes.{WorkBytes}

@@ -12,7 +12,7 @@ use Rattle.planes.specs.Plane.{bit, cell, planeSize}
 use Rattle.planes.specs.Lines.{BitSet, Cleared}
 use Rattle.planes.specs.Laws.Places.{byte-at, same-place}
 use Rattle.planes.specs.Laws.Lines.{plane-kept}
-use Rattle.truth.specs.Laws.PlaneShapes.{made-cleared}
+use Rattle.planes.specs.Laws.Planes.{made-cleared}
 use Rattle.route.specs.Turned.{Turned}
 use Rattle.route.proofs.StepPlane.{line-in, no-step, step-bit}
 

@@ -1,8 +1,6 @@
--- The truth of a formula, and the plane of a node.
+-- The truth of a formula.
 pub mod Truth
 pub mod Computed
 pub mod Even
 pub mod EvenTest
-pub mod Shapes
-pub mod Node
 pub mod Laws

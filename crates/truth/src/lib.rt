@@ -1,4 +1,1 @@
-// The truth of a formula, and the plane of a node.
-pub mod lines;
-pub mod node;
-mod shapes;
+// The truth of a formula: specifications only.

@@ -1,6 +1,7 @@
 -- The step plane and the row of external states give the network's model; what is left of the work buffer.
 use mathlib.Core.Path.{_≡_, refl, sym, ap, ap₂, subst, _∙_}
-use mathlib.Core.Bool.{true}
+use mathlib.Core.Bool.{Bool, true, false, false≢true}
+use mathlib.Core.Logic.{inl, inr, ⊎-elim}
 use mathlib.Core.List.{List, _++_}
 use Prim.Native.Nat.{ℕ, _+_, _-_, _*_, _/_, _^_, _≤_, _<_}
 use native.Mathlib.Nat.{mul-assoc, mul-one, mul-le-mul-left, mul-le-mul-right}
@@ -9,8 +10,11 @@ use native.Mathlib.Omega.{arith}
 use lib.ListN.{length, getD, drop, replicate, length-append, length-drop, length-replicate, getD-replicate, List·getD-append}
 use lib.Pow.{pow-add, pow-mono}
 use lib.Seq.{ext-getD, getD-append-add, getD-drop}
-use Rattle.planes.specs.Plane.{planeSize}
+use Rattle.planes.specs.Plane.{cell, planeSize}
 use Rattle.planes.specs.Lines.{Cleared}
+use Rattle.planes.specs.Laws.Lines.{plane-kept}
+use Rattle.closure.specs.Laws.Walks.{map-walk}
+use Rattle.passes.specs.Into.{ClosedInto}
 use Rattle.records.specs.Record.{Net, records}
 use Rattle.records.specs.Widths.{width, states, planeBytes, withinLimits, widthsOf}
 use Rattle.records.specs.Policy.{longest}
@@ -23,9 +27,10 @@ use Rattle.steps.specs.Step.{Step, external}
 use Rattle.groups.specs.Adds.{lineBytes}
 use Rattle.steps.specs.Filled.{Filled}
 use Rattle.verdict.specs.declared.judge.Judged.{Judged}
-use Rattle.truth.specs.Shapes.{Line}
-use Rattle.truth.specs.Node.{planeAt}
-use Rattle.verdict.specs.Judge.{verdictOf, CleanStore, Testable, Searched, Judgeable, Judges}
+use Rattle.nodes.specs.Shapes.{Line, Plane}
+use Rattle.nodes.specs.Node.{planeAt}
+use Rattle.nodes.specs.Laws.NodePlanes.{plane-after}
+use Rattle.verdict.specs.Judge.{verdictOf, CleanStore, Testable, StepsClosed, Searched, Judgeable, Judges}
 use Rattle.verdict.specs.Judgement.{verdict, verdict-meant, only}
 
 -- a plane has a row for each state
@@ -59,6 +64,42 @@ behind-zeros k i a h =
     ∙ getD-drop k a (i - k) 0
     ∙ ap (λ (j : ℕ). getD a j 0) f
 
+-- the step plane was closed into the second plane
+pub steps-closed : (pitch : ℕ) (a b : List ℕ) → ClosedInto 0 (planeSize pitch) pitch a b → StepsClosed pitch a true b
+steps-closed pitch a b C = record {
+  len = C .len;
+  reached = λ t x y hx hy. let r = C .reaches x y hx hy in (λ u. map-walk (λ i j hi hj s. stays i j hi hj ∙ s) (r .0 u), λ w. r .1 (map-walk (λ i j hi hj s. sym (stays i j hi hj) ∙ s) w));
+  rest = λ m o. ⊎-elim (λ h. C .under m h) (λ h. C .over m h) o;
+}
+  where
+    stays : (i j : ℕ) → i < pitch * 8 → j < pitch * 8 → cell b 0 pitch i j ≡ cell a 0 pitch i j
+    stays = plane-kept 0 pitch a b (λ m lo hi. C .under m (omega arith))
+
+-- the steps are closed in the second plane, and the policies can be tested as before
+module _ (end : ℕ) (l : Layout) (bytes : ℕ) (b : List ℕ) (closed : Bool) (c : List ℕ) (S : StepsClosed bytes b closed c) where
+  pub closing : (store ext : List ℕ) → Testable end l bytes store ext false b → Testable end l bytes store ext closed c
+  closing store ext T = record {
+    clean = T .clean;
+    small = T .small;
+    room = omega (arith, T .room, S .len);
+    model = record {
+      counts = T .model .counts;
+      steps = λ x y hx hy.
+          let e = plane-kept 0 bytes b c (λ m lo hi. S .rest m (inl (omega arith))) x y hx hy in
+          let s = T .model .steps x y hx hy in
+          (λ t. s .0 (sym e ∙ t), λ t. e ∙ s .1 t);
+      externals = T .model .externals;
+    };
+    reached = S .reached;
+  }
+
+  pub searched-from : (net : Net) (r : Judged) (d : List ℕ) → Searched net bytes c r d → Searched net bytes b r d
+  searched-from net r d K = record {
+    len = K .len ∙ S .len;
+    meant = K .meant;
+    behind = λ m h. K .behind m h ∙ S .rest m (inr (omega (arith, plane-after bytes (longest net))));
+  }
+
 module _ (end : ℕ) (l : Layout) (store : List ℕ) where
   abbrev net : Net
   net = records end store
@@ -74,7 +115,7 @@ module _ (end : ℕ) (l : Layout) (store : List ℕ) where
     bits = sym (whole-bytes own within)
 
     pub testable : (ext a b : List ℕ) → workNeeded net ≤ length a → Line (external net) (states own) ext → Filled net 0 a b
-        → Testable end l (lineBytes own) store ext b
+        → Testable end l (lineBytes own) store ext false b
     unfolding Step
     testable ext a b h R F = record {
       clean = C;
@@ -87,6 +128,7 @@ module _ (end : ℕ) (l : Layout) (store : List ℕ) where
             (λ t. sym e ∙ t, λ t. e ∙ t);
         externals = λ x hx. let e = R .is x (omega (arith, bits)) in (λ t. sym e ∙ t, λ t. e ∙ t);
       };
+      reached = λ t. absurd (false≢true t);
     }
 
     abbrev k : ℕ
@@ -153,14 +195,29 @@ module _ (end : ℕ) (l : Layout) (store work : List ℕ) (J : Judgeable end l s
     row-is : n / 8 ≡ lineBytes (widthsOf network)
     row-is = ap (λ (m : ℕ). m / 8) e ∙ ap lineBytes widths-are
 
-    pub search-ready : (ext b : List ℕ) → Line (external network) n ext → Filled network 0 work b → Testable end l (n / 8) store ext b
-    search-ready ext b R F =
-        subst (λ (m : ℕ). Testable end l m store ext b) (sym row-is)
-        (testable end l store (J .clean) ext work b (J .room) (subst (λ (m : ℕ). Line (external network) m ext) (e ∙ ap states widths-are) R) F)
+    -- there is a second plane
+    pub second-plane : (b : List ℕ) → length b ≡ length work → Plane b (n / 8) (planeSize (n / 8))
+    second-plane b s =
+        subst (λ (m : ℕ). Plane b m (planeSize m)) (sym (ap (λ (m : ℕ). m / 8) e))
+        (record {
+          small = omega (arith, few-states (l .widths) (J .clean .laid .limits));
+          within = omega (
+            arith,
+            enough (planeSize (lineBytes (l .widths))) (sym (plane-bytes (l .widths) (J .clean .laid .limits))),
+            plane-after (lineBytes (l .widths)) (l .longest),
+          );
+        })
 
-    pub judged : (k pb : ℕ) (r : Judged) (b c d : List ℕ) → k ≡ (l .longest + 2) * pb → pb ≡ planeBytes (l .widths) → Filled network 0 work b
-        → Searched network (n / 8) b r c → Cleared 0 k c d → Judges network work r d
-    judged k pb r b c d q p F S K = record {
+    pub search-ready : (ext b : List ℕ) (closed : Bool) (c : List ℕ) → Line (external network) n ext → Filled network 0 work b → StepsClosed (n / 8) b closed c
+        → Testable end l (n / 8) store ext closed c
+    search-ready ext b closed c R F S =
+        closing end l (n / 8) b closed c S store ext
+        (subst (λ (m : ℕ). Testable end l m store ext false b) (sym row-is)
+        (testable end l store (J .clean) ext work b (J .room) (subst (λ (m : ℕ). Line (external network) m ext) (e ∙ ap states widths-are) R) F))
+
+    pub judged : (k pb : ℕ) (r : Judged) (b : List ℕ) (closed : Bool) (b2 c d : List ℕ) → k ≡ (l .longest + 2) * pb → pb ≡ planeBytes (l .widths) → Filled network 0 work b
+        → StepsClosed (n / 8) b closed b2 → Searched network (n / 8) b2 r c → Cleared 0 k c d → Judges network work r d
+    judged k pb r b closed b2 c d q p F E S2 K = let S = searched-from end l (n / 8) b closed b2 E network r c S2 in record {
       answer = only network (verdictOf r) (verdict network) (S .meant) (verdict-meant network);
       work =
           left end l store (J .clean) r work b c d (J .room) F (subst (λ (m : ℕ). Searched network m b r c) row-is S)

@@ -1,7 +1,7 @@
 -- Laws that several proofs of this crate use.
 pub mod JudgedWork
 pub mod LowestState
-pub mod MarkedNodes
+pub mod MadeNodes
 pub mod NodeFields
 pub mod PassedRecords
 pub mod PolicyRuns

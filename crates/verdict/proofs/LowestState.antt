@@ -1,17 +1,18 @@
--- The lowest state whose bit is set, and what it says of a formula.
+-- The lowest state that passes, and what it says of a formula.
 use mathlib.Core.Path.{_≡_, sym, ap, subst, _∙_}
 use mathlib.Core.Bool.{Bool, true, false}
 use mathlib.Core.List.{List}
 use mathlib.Core.Option.{none, some}
 use Prim.Native.Nat.{ℕ, suc, _+_, _-_, _*_, _≤_, _<_}
 use native.Mathlib.Omega.{arith}
-use Rattle.planes.specs.Plane.{cell}
 use Rattle.records.specs.Policy.{Formula}
 use Rattle.verdict.specs.declared.policy.Offender.{Offender}
 use Rattle.verdict.specs.declared.policy.Offender.the-variants.{State, None}
 use Rattle.verdict.specs.Computed.{firstFrom}
 use Rattle.verdict.specs.Laws.FirstState.{FirstPassing, first-is}
-use Rattle.truth.specs.Node.{modelAt, Shows}
+use Rattle.nodes.specs.declared.forms.Form.{Form}
+use Rattle.nodes.specs.Forms.{tests}
+use Rattle.nodes.specs.Node.{modelAt, Shows}
 use Rattle.verdict.specs.Evaluated.{stateOf, LowestTrue}
 
 -- the first number below n that passes is sought from x on
@@ -42,10 +43,10 @@ module _ (n x : ℕ) (f : ℕ → Bool) where
 pub sought-first : (n : ℕ) (f : ℕ → Bool) → firstFrom n 0 f ≡ firstFrom (n - 0) 0 f
 sought-first n f = let e : n ≡ n - 0 = omega arith in ap (λ (k : ℕ). firstFrom k 0 f) e
 
--- of a plane that is the truth of a formula
-module _ (pitch base : ℕ) (ext model work : List ℕ) (f : Formula) (S : Shows (modelAt pitch ext model) pitch base work f) where
+-- of a form that is the truth of a formula
+module _ (pitch : ℕ) (form : Form) (ext model work : List ℕ) (f : Formula) (S : Shows (modelAt pitch ext model) pitch form work f) where
   abbrev column : ℕ → Bool
-  column x = cell work base pitch x 0
+  column x = tests form work pitch x 0
 
   meant : (r : Offender) → FirstPassing column 0 (pitch * 8) (stateOf r) → LowestTrue (modelAt pitch ext model) f r
   meant (State x) t =
@@ -56,5 +57,11 @@ module _ (pitch base : ℕ) (ext model work : List ℕ) (f : Formula) (S : Shows
       )
   meant None t = λ z h u. t z (omega arith) (omega arith) (S .at z 0 h (omega arith) .1 u)
 
-  pub lowest-true : (r : Offender) → stateOf r ≡ firstFrom (pitch * 8) 0 column → LowestTrue (modelAt pitch ext model) f r
-  lowest-true r e = meant r (subst (FirstPassing column 0 (pitch * 8)) (sym e) (first-is (pitch * 8) 0 column))
+  sought : (r : Offender) → stateOf r ≡ firstFrom (pitch * 8) 0 column → LowestTrue (modelAt pitch ext model) f r
+  sought r e = meant r (subst (FirstPassing column 0 (pitch * 8)) (sym e) (first-is (pitch * 8) 0 column))
+
+-- and of the same form under another name
+pub lowest-true : (pitch : ℕ) (g form : Form) (ext model work : List ℕ) (f : Formula) → g ≡ form → Shows (modelAt pitch ext model) pitch form work f
+    → (r : Offender) → stateOf r ≡ firstFrom (pitch * 8) 0 (λ x. tests g work pitch x 0) → LowestTrue (modelAt pitch ext model) f r
+lowest-true pitch g form ext model work f q S r e =
+    sought pitch form ext model work f S r (subst (λ (h : Form). stateOf r ≡ firstFrom (pitch * 8) 0 (λ x. tests h work pitch x 0)) q e)

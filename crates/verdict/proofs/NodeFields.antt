@@ -14,7 +14,7 @@ use Rattle.rows.specs.Rows.{operandsGood}
 use Rattle.records.specs.Fields.{nodeGood, fieldsGood, zeros}
 use Rattle.records.specs.Laws.Fields.{node-fields}
 use Rattle.records.specs.declared.Widths.{Widths}
-use Rattle.truth.specs.Node.{Operand}
+use Rattle.nodes.specs.Node.{Operand}
 
 -- operands that are earlier, by the kind of the node
 pub earlier-operand : (k a b i : ℕ) → operandsGood k a b i ≡ true → (j : ℕ) → Operand (nodeKind k) a b j → j < i

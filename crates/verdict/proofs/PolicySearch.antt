@@ -1,5 +1,6 @@
 -- Policies tested one after the other, in ascending order.
 use mathlib.Core.Path.{_≡_, refl, sym, ap, subst, _∙_}
+use mathlib.Core.Bool.{Bool}
 use mathlib.Core.List.{List}
 use mathlib.Core.Logic.{_↔_}
 use Prim.Native.Nat.{ℕ, _+_, _-_, _*_, _≤_, _<_}
@@ -17,16 +18,16 @@ use Rattle.verdict.specs.declared.policy.Offender.{Offender}
 use Rattle.verdict.specs.declared.policy.Offender.the-variants.{State, None}
 use Rattle.truth.specs.Truth.{Truth}
 use Rattle.verdict.specs.Verdict.{Breaks, Holds, Lowest}
-use Rattle.truth.specs.Node.{planeAt, modelAt}
+use Rattle.nodes.specs.Node.{planeAt, modelAt}
 use Rattle.verdict.specs.Evaluated.{nodesAt, PolicyReady, Tested}
 use Rattle.verdict.specs.Judge.{policyAt, CleanStore, Run, Testable}
 use Rattle.verdict.specs.Laws.Same.{same-truth}
-use Rattle.verdict.proofs.MarkedNodes.{same-model}
+use Rattle.verdict.proofs.MadeNodes.{same-model, still-reached}
 use Rattle.verdict.proofs.PassedRecords.{up-to}
 use Rattle.verdict.proofs.PolicyRuns.{counted-end, counted-first, first-named, counted-stop, next-named, nodes-are, few-nodes, a-policy, sound-nodes, at-most-longest}
 use Rattle.verdict.specs.Model.{modelOf}
 
--- the policies below p, whose nodes stand before record start, are not broken; the buffer keeps its steps and what lies behind its planes
+-- the policies below p, whose nodes stand before record start, are not broken; the buffer keeps its first two planes and what lies behind its planes
 pub record Passed (store : List ℕ) (first last end bytes start p : ℕ) (before after : List ℕ) : Type 0 where
   pub from : first ≤ start
   pub upTo : start ≤ last
@@ -34,7 +35,7 @@ pub record Passed (store : List ℕ) (first last end bytes start p : ℕ) (befor
   pub fresh : start < last → policyAt store start ≡ p
   pub unbroken : (q : ℕ) → q < p → (z : ℕ) → z < states (widthsOf (records end store)) → Breaks (records end store) q z → ⊥
   pub len : length after ≡ length before
-  pub steps : (m : ℕ) → m < planeSize bytes → getD after m 0 ≡ getD before m 0
+  pub planes : (m : ℕ) → m < planeAt bytes 0 → getD after m 0 ≡ getD before m 0
   pub behind : (m : ℕ) → planeAt bytes (longest (records end store)) ≤ m → getD after m 0 ≡ getD before m 0
 
 -- the answer of a test, in other words
@@ -45,7 +46,7 @@ tested-as {nodes} {w} {ext} {b} {c} e D = subst (λ (r : Offender). Tested nodes
 plane-mono : (w j k : ℕ) → j ≤ k → planeAt w j ≤ planeAt w k
 plane-mono w j k h = let l : j + 2 ≤ k + 2 = omega arith in mul-le-mul-right (planeSize w) l
 
-module _ (end : ℕ) (l : Layout) (bytes : ℕ) (store ext work : List ℕ) (T : Testable end l bytes store ext work) where
+module _ (end : ℕ) (l : Layout) (bytes : ℕ) (store ext : List ℕ) (closed : Bool) (work : List ℕ) (T : Testable end l bytes store ext closed work) where
   abbrev net : Net
   net = records (end) store
 
@@ -60,7 +61,7 @@ module _ (end : ℕ) (l : Layout) (bytes : ℕ) (store ext work : List ℕ) (T :
     fresh = first-named end l store C;
     unbroken = λ q h. absurd (omega arith);
     len = refl;
-    steps = λ m h. refl;
+    planes = λ m h. refl;
     behind = λ m h. refl;
   }
 
@@ -82,13 +83,14 @@ module _ (end : ℕ) (l : Layout) (bytes : ℕ) (store ext work : List ℕ) (T :
         plane-mono bytes (length nodes) (longest net)
         (omega (arith, ap length are, at-most-longest net p (a-policy end l store C start stop p R (P .from) (P .count) (P .fresh h))))
 
-    pub ready : PolicyReady store start (stop - start) bytes b
+    pub ready : PolicyReady store start (stop - start) bytes closed b
     ready = record {
       stored = omega (arith, stored, R .some, R .upTo, up-to end l store C);
       sound = sound-nodes end l store C start stop p R (P .from) (P .count) (P .fresh h);
       few = few-nodes end l store C start stop p R (P .from) (P .count) (P .fresh h);
       small = T .small;
       room = omega (arith, short, ap (planeAt bytes) many, T .room, P .len);
+      reached = λ t. still-reached bytes ext work b (P .planes) (T .reached t);
     }
 
     -- the truth of the forbidden condition, in the buffer's model and in the network's
@@ -97,7 +99,7 @@ module _ (end : ℕ) (l : Layout) (bytes : ℕ) (store ext work : List ℕ) (T :
     breaks x hx =
         subst (λ (ns : Net). Truth (modelAt bytes ext b) (formula nodes (length nodes - 1)) x 0 ↔ Truth (modelOf net) (formula ns (length ns - 1)) x 0) (sym are)
         (let f = formula nodes (length nodes - 1) in
-        let s = same-truth (modelAt bytes ext work) (modelAt bytes ext b) (same-model bytes ext work b (P .steps)) f x 0 hx (omega arith) in
+        let s = same-truth (modelAt bytes ext work) (modelAt bytes ext b) (same-model bytes ext work b (P .planes)) f x 0 hx (omega arith) in
         let t = same-truth (modelAt bytes ext work) (modelOf net) (T .model) f x 0 hx (omega arith) in
         (λ u. t .0 (s .1 u), λ u. s .0 (t .1 u)))
 
@@ -121,7 +123,7 @@ module _ (end : ℕ) (l : Layout) (bytes : ℕ) (store ext work : List ℕ) (T :
       unbroken = below-more (λ (q : ℕ). (z : ℕ) → z < states (widthsOf net) → Breaks net q z → ⊥) p (P .unbroken)
           (λ z k u. let m : z < bytes * 8 = omega (arith, same-count) in D .lowest z m (breaks z m .1 u));
       len = lens None c D;
-      steps = λ m k. D .steps m k ∙ P .steps m k;
+      planes = λ m k. D .planes m k ∙ P .planes m k;
       behind = kept-behind None c D;
     }
 

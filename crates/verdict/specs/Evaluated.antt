@@ -1,17 +1,16 @@
 -- What working out the nodes of a policy leaves. Its nodes are `count` records of a store, from number `start` on.
 use mathlib.Core.Path.{_≡_}
-use mathlib.Core.Bool.{true}
+use mathlib.Core.Bool.{Bool, true}
 use mathlib.Core.List.{List, []}
 use mathlib.Core.Option.{Option, none, some}
 use Prim.Native.Nat.{ℕ, _+_, _-_, _*_, _≤_, _<_}
 use lib.ListN.{length, getD, drop}
-use Rattle.planes.specs.Bit.{bitOf}
-use Rattle.planes.specs.Plane.{planeSize}
 use Rattle.records.specs.Record.{Rec, Net, at, records, mostNodes}
 use Rattle.records.specs.Policy.{Formula, nodeKind, formula}
 use Rattle.truth.specs.Truth.{Model, Truth}
-use Rattle.truth.specs.Node.{planeAt, arity, Operand, modelAt, Shows}
-use Rattle.truth.specs.declared.node.Node.{Node}
+use Rattle.nodes.specs.Forms.{Reached}
+use Rattle.nodes.specs.Node.{planeAt, arity, Operand, formAt, modelAt, Shows, NodeMade}
+use Rattle.nodes.specs.declared.node.Node.{Node}
 use Rattle.verdict.specs.declared.policy.Offender.{Offender}
 use Rattle.verdict.specs.declared.policy.Offender.the-variants.{State, None}
 
@@ -35,37 +34,44 @@ pub record SoundNodes (nodes : Net) : Type 0 where
   pub earlier : (i : ℕ) → i < length nodes → (j : ℕ) → OperandOf (getD nodes i []) j → j < i
   pub bits : (i : ℕ) → i < length nodes → at (getD nodes i []) 2 ≡ 0 → at (getD nodes i []) 4 < 64
 
--- the plane of each marked node is the truth of its formula, in the model that a buffer gives
-abbrev pub Held : Net → ℕ → List ℕ → List ℕ → ℕ → List ℕ → Type 0
-Held nodes pitch ext model marks work =
-    (j : ℕ) → j < length nodes → bitOf marks j ≡ true → Shows (modelAt pitch ext model) pitch (planeAt pitch j) work (formula nodes j)
+-- the form of each node that is made, whose code is not 0, is the truth of its formula, in the model that a buffer gives
+abbrev pub Held : Net → ℕ → List ℕ → List ℕ → List ℕ → List ℕ → Type 0
+Held nodes pitch ext model codes work =
+    (j : ℕ) → j < length nodes → 0 < getD codes j 0 → Shows (modelAt pitch ext model) pitch (formAt codes pitch j) work (formula nodes j)
 
--- a policy of sound nodes stands in a store, and a work buffer has room for their planes
-pub record PolicyReady (store : List ℕ) (start count pitch : ℕ) (work : List ℕ) : Type 0 where
+-- a policy of sound nodes stands in a store, a work buffer has room for their planes, and its second plane is the closure of the
+-- first if that is said
+pub record PolicyReady (store : List ℕ) (start count pitch : ℕ) (closed : Bool) (work : List ℕ) : Type 0 where
   pub stored : (start + count) * 24 ≤ length store
   pub sound : SoundNodes (nodesAt store start count)
   pub few : count ≤ mostNodes
   pub small : pitch ≤ 128
   pub room : planeAt pitch count ≤ length work
+  pub reached : closed ≡ true → Reached pitch work
 
--- node k is asked for, where the marked nodes are held
-pub record Asked (store : List ℕ) (start count : ℕ) (ext work : List ℕ) (pitch k marks : ℕ) : Type 0 where
-  pub ready : PolicyReady store start count pitch work
+-- node k is asked for, where the nodes that are made are held
+pub record Asked (store : List ℕ) (start count : ℕ) (ext : List ℕ) (closed : Bool) (work : List ℕ) (pitch k : ℕ) (codes : List ℕ) : Type 0 where
+  pub ready : PolicyReady store start count pitch closed work
   pub inside : k < count
-  pub held : Held (nodesAt store start count) pitch ext work marks work
+  pub held : Held (nodesAt store start count) pitch ext work codes work
 
--- the marks stay, and all that are marked are held; the step plane and every byte behind the nodes' planes are as before
-pub record Worked (nodes : Net) (pitch : ℕ) (ext : List ℕ) (marks : ℕ) (before : List ℕ) (marks′ : ℕ) (after : List ℕ) : Type 0 where
+-- what is made stays made, and all of it is held; the first two planes and every byte behind the nodes' planes are as before
+pub record Worked (nodes : Net) (pitch : ℕ) (ext codes before codes′ after : List ℕ) : Type 0 where
   pub len : length after ≡ length before
-  pub kept : (j : ℕ) → bitOf marks j ≡ true → bitOf marks′ j ≡ true
-  pub held : Held nodes pitch ext before marks′ after
-  pub steps : (m : ℕ) → m < planeSize pitch → getD after m 0 ≡ getD before m 0
+  pub kept : (j : ℕ) → 0 < getD codes j 0 → 0 < getD codes′ j 0
+  pub held : Held nodes pitch ext before codes′ after
+  pub planes : (m : ℕ) → m < planeAt pitch 0 → getD after m 0 ≡ getD before m 0
   pub behind : (m : ℕ) → planeAt pitch (length nodes) ≤ m → getD after m 0 ≡ getD before m 0
 
--- and node k is marked
-pub record Given (nodes : Net) (pitch : ℕ) (ext : List ℕ) (k marks : ℕ) (before : List ℕ) (marks′ : ℕ) (after : List ℕ) : Type 0 where
-  pub worked : Worked nodes pitch ext marks before marks′ after
-  pub marked : bitOf marks′ k ≡ true
+-- and node k is made
+pub record Given (nodes : Net) (pitch : ℕ) (ext : List ℕ) (k : ℕ) (codes before codes′ after : List ℕ) : Type 0 where
+  pub worked : Worked nodes pitch ext codes before codes′ after
+  pub made : 0 < getD codes′ k 0
+
+-- node k was made, and has a code; every other code is as before
+pub record Settled (codes : List ℕ) (n : Node) (k pitch : ℕ) (ext before codes′ after : List ℕ) : Type 0 where
+  pub made : NodeMade codes (n .kind) (n .a) (n .b) k pitch ext before (getD codes′ k 0) after
+  pub others : (j : ℕ) → (j ≡ k → ⊥) → getD codes′ j 0 ≡ getD codes j 0
 
 -- the state that an answer names
 abbrev pub stateOf : Offender → Option ℕ
@@ -81,5 +87,5 @@ LowestTrue m f None = (z : ℕ) → z < m .count → Truth m f z 0 → ⊥
 pub record Tested (nodes : Net) (pitch : ℕ) (ext before : List ℕ) (r : Offender) (after : List ℕ) : Type 0 where
   pub len : length after ≡ length before
   pub lowest : LowestTrue (modelAt pitch ext before) (formula nodes (length nodes - 1)) r
-  pub steps : (m : ℕ) → m < planeSize pitch → getD after m 0 ≡ getD before m 0
+  pub planes : (m : ℕ) → m < planeAt pitch 0 → getD after m 0 ≡ getD before m 0
   pub behind : (m : ℕ) → planeAt pitch (length nodes) ≤ m → getD after m 0 ≡ getD before m 0

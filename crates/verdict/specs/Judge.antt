@@ -1,6 +1,6 @@
 -- What judging a network asks of the store and of the work buffer, and what it leaves.
 use mathlib.Core.Path.{_≡_}
-use mathlib.Core.Bool.{true}
+use mathlib.Core.Bool.{Bool, true}
 use mathlib.Core.List.{List, [], _++_}
 use mathlib.Core.Logic.{_⊎_}
 use mathlib.Core.Option.{none}
@@ -17,7 +17,10 @@ use Rattle.verdict.specs.declared.judge.Judged.the-variants.{Holds, Viol
 use Rattle.verdict.specs.Verdict.{Verdict, holds, violated, Is}
 use Rattle.verdict.specs.Judgement.{verdict}
 use Rattle.verdict.specs.Laws.Same.{SameModel}
-use Rattle.truth.specs.Node.{planeAt, modelAt}
+use Rattle.planes.specs.Plane.{planeSize}
+use Rattle.nodes.specs.Shapes.{Outside}
+use Rattle.nodes.specs.Forms.{Reached}
+use Rattle.nodes.specs.Node.{planeAt, modelAt}
 use Rattle.verdict.specs.Model.{modelOf}
 
 -- the verdict that an answer gives: the network holds, or its lowest broken policy and the lowest state that breaks it
@@ -48,12 +51,20 @@ pub record Run (store : List ℕ) (start end stop : ℕ) : Type 0 where
   pub same : (i : ℕ) → start ≤ i → i < stop → policyAt store i ≡ policyAt store start
   pub ends : stop < end → policyAt store stop ≡ policyAt store start → ⊥
 
--- the policies of a clean network are tested over its step plane, whose rows have so many bytes, and its row of external states
-pub record Testable (end : ℕ) (l : Layout) (bytes : ℕ) (store ext work : List ℕ) : Type 0 where
+-- the policies of a clean network are tested over its step plane, whose rows have so many bytes, and its row of external states;
+-- the second plane is the closure of the step plane if that is said
+pub record Testable (end : ℕ) (l : Layout) (bytes : ℕ) (store ext : List ℕ) (closed : Bool) (work : List ℕ) : Type 0 where
   pub clean : CleanStore end l store
   pub small : bytes ≤ 128
   pub room : planeAt bytes (longest (records end store)) ≤ length work
   pub model : SameModel (modelAt bytes ext work) (modelOf (records end store))
+  pub reached : closed ≡ true → Reached bytes work
+
+-- the second plane is the closure of the first if the answer says so; every byte outside of it is as before
+pub record StepsClosed (pitch : ℕ) (before : List ℕ) (closed : Bool) (after : List ℕ) : Type 0 where
+  pub len : length after ≡ length before
+  pub reached : closed ≡ true → Reached pitch after
+  pub rest : (m : ℕ) → Outside pitch (planeSize pitch) m → getD after m 0 ≡ getD before m 0
 
 -- the answer is the verdict that is meant; every byte behind the planes of the longest policy is as before
 pub record Searched (net : Net) (bytes : ℕ) (before : List ℕ) (r : Judged) (after : List ℕ) : Type 0 where

@@ -5,12 +5,13 @@ ghost use lib.ListN.{length};
 ghost use Rattle.records.specs.Record.{records};
 ghost use Rattle.scan.specs.Stored.{Stored};
 ghost use Rattle.steps.specs.Step.{external};
-ghost use Rattle.truth.specs.Shapes.{Line};
-ghost use Rattle.verdict.specs.Judge.{Run, Testable, Searched, Judgeable, Judges};
+ghost use Rattle.planes.specs.Plane.{planeSize};
+ghost use Rattle.nodes.specs.Shapes.{Line, Plane};
+ghost use Rattle.verdict.specs.Judge.{Run, Testable, StepsClosed, Searched, Judgeable, Judges};
 use crate::policy;
 use crate::policy::Offender;
+use nodes::lines;
 use scan::Layout;
-use truth::lines;
 
 // The answer on a network: it holds, or the lowest broken policy and the lowest state that breaks it.
 pub enum Judged {
@@ -39,10 +40,11 @@ fn search(
     end: usize,
     l: Layout,
     ext: [u8; 128],
+    closed: bool,
     work: &mut [u8],
     bytes: usize,
 ) -> Judged
-    requires { ⌜ Testable end l bytes (now store) ext (now work) ⌝ }
+    requires { ⌜ Testable end l bytes (now store) ext closed (now work) ⌝ }
     ensures { λ r. ⌜ Searched (records end (now (store .entry))) bytes (now (work .entry)) r (now (work .exit)) ⌝ }
 {
     let last = l.groups;
@@ -50,7 +52,7 @@ fn search(
     let mut p: usize = 0;
     while start < last {
         let stop = policy_end(store, start, last);
-        let found = policy::test(store, start, stop - start, ext, work, bytes);
+        let found = policy::test(store, start, stop - start, ext, closed, work, bytes);
         if let Offender::State(x) = found {
             return Judged::Violated {
                 policy: p,
@@ -81,6 +83,77 @@ fn externals(store: &[u8], end: usize, l: Layout, s: usize) -> [u8; 128]
     r
 }
 
+// Whether record i, of those before end, is an R of two variables; any answer will do.
+fn is_step(store: &[u8], i: usize, end: usize) -> bool
+    requires { ⌜ end * 24 ≤ length (now store) ⌝ }
+{
+    if end <= i {
+        return false;
+    }
+    if store[i * 24 + 2] != 1 {
+        return false;
+    }
+    store[i * 24 + 3] != store[i * 24 + 4]
+}
+
+// A byte as an index.
+fn index(b: u8) -> usize
+    ensures { λ r. ⌜ r < 256 ⌝ }
+{
+    b as usize
+}
+
+// Whether record i is a TC over an R of two variables, in a policy that begins at record start; any answer will do.
+fn closes_steps(store: &[u8], start: usize, i: usize, end: usize) -> bool
+    requires { ⌜ end * 24 ≤ length (now store) ⌝ }
+    requires { ⌜ (start ≤ i) × (i < end) ⌝ }
+{
+    if store[i * 24 + 2] != 8 {
+        return false;
+    }
+    is_step(store, start + index(store[i * 24 + 3]), end)
+}
+
+// Where the policy of record i begins, if that of the records before it began at start.
+fn policy_start(store: &[u8], start: usize, i: usize) -> usize
+    requires { ⌜ (i * 24 + 24 ≤ length (now store)) × (start ≤ i) ⌝ }
+    ensures { λ r. ⌜ r ≤ i ⌝ }
+{
+    if store[i * 24 + 1] != store[start * 24 + 1] {
+        return i;
+    }
+    start
+}
+
+// Whether some TC among the nodes from record first up to end closes the steps; any answer will do.
+fn wants_closure(store: &[u8], first: usize, end: usize) -> bool
+    requires { ⌜ end * 24 ≤ length (now store) ⌝ }
+{
+    let mut start = first;
+    let mut i = first;
+    while i < end {
+        start = policy_start(store, start, i);
+        if closes_steps(store, start, i, end) {
+            return true;
+        }
+        i += 1;
+    }
+    false
+}
+
+// The second plane becomes the closure of the step plane, if some TC closes it; answers whether it did.
+fn close_steps(store: &[u8], l: Layout, work: &mut [u8], pitch: usize) -> bool
+    requires { ⌜ l .groups * 24 ≤ length (now store) ⌝ }
+    requires { ⌜ Plane (now work) pitch (planeSize pitch) ⌝ }
+    ensures { λ r. ⌜ StepsClosed pitch (now (work .entry)) r (now (work .exit)) ⌝ }
+{
+    if wants_closure(store, l.nodes, l.groups) {
+        passes::close_into(work, 0, pitch * 8 * pitch, pitch);
+        return true;
+    }
+    false
+}
+
 // The bytes of work that a verdict needs: a plane for each node of the longest policy, and two more.
 fn work_bytes(most: usize, plane: usize) -> usize
     requires { ⌜ (most + 2 < 2 ^ 64) × ((most + 2) * plane < 2 ^ 64) ⌝ }
@@ -98,7 +171,8 @@ pub fn judge(store: &[u8], end: usize, l: Layout, work: &mut [u8]) -> Judged
     let states = w.states();
     let ext = externals(store, end, l, states);
     steps::fill_steps(work, 0, store, end, l);
-    let r = search(store, end, l, ext, work, states / 8);
+    let closed = close_steps(store, l, work, states / 8);
+    let r = search(store, end, l, ext, closed, work, states / 8);
     let needed = work_bytes(l.longest, w.plane_bytes());
     planes::clear(work, 0, needed);
     r

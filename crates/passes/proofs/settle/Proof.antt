@@ -25,8 +25,8 @@ mul-b c = omega (arith, line-fits _ _ _ _ (c .before .before .before .before .pr
 add-b : tie.Need-add-b
 add-b c = omega (arith, line-fits _ _ _ _ (c .before .before .before .before .pre .0 .second) (c .before .before .before .before .pre .1 .1))
 
-load-requires : tie.Need-load-requires
-load-requires c κs =
+load-line-requires : tie.Need-load-line-requires
+load-line-requires c κs =
     let at-start = c .before .before .before .before .before in
     (line-fits _ _ _ _ (at-start .pre .0 .second) (at-start .pre .1 .1), at-start .pre .0 .narrow)
 
@@ -40,10 +40,10 @@ returns-2 c =
     let loaded = c .before .before .before .before .before .before .before in
     let at-start = loaded .before .before .before .before .before .before in
     let told = c .before .same .ensures (c .if2 .taken) in
-    turned-same _ _ _ _ _ (at-start .pre .1 .1) _ _ (loaded .load .ensures) (c .before .before .before .before .take-in .ensures) (λ j h. told j (omega arith))
+    turned-same _ _ _ _ _ (at-start .pre .1 .1) _ _ (loaded .load-line .ensures) (c .before .before .before .before .take-in .ensures) (λ j h. told j (omega arith))
 
-store-requires : tie.Need-store-requires
-store-requires c κs =
+put-line-requires : tie.Need-put-line-requires
+put-line-requires c κs =
     let at-start = c .before .before .before .before .before .before .before .before .before .before .before .before .before .before .before in
     (line-fits _ _ _ _ (at-start .pre .0 .second) (at-start .pre .1 .1), at-start .pre .0 .narrow)
 
@@ -52,7 +52,7 @@ returns-3 c =
     let taken = c .before .before .before .before .before .before .before .before .before in
     let loaded = taken .before .before .before in
     let at-start = loaded .before .before .before .before .before .before in
-    turned-put _ _ _ _ _ (at-start .pre .1 .1) _ _ (loaded .load .ensures) (taken .take-in .ensures) _ (c .before .before .store .ensures) (at-start .pre .0)
+    turned-put _ _ _ _ _ (at-start .pre .1 .1) _ _ (loaded .load-line .ensures) (taken .take-in .ensures) _ (c .before .before .put-line .ensures) (at-start .pre .0)
 
 pub settle-spec : {M : Type 1} → statement M
 settle-spec =
@@ -66,11 +66,11 @@ settle-spec =
     returns
     mul-b
     add-b
-    load-requires
+    load-line-requires
     take-in-requires
     (λ c. search needs)
     (λ c. search needs)
     returns-2
-    store-requires
+    put-line-requires
     (λ c. search needs)
     returns-3)

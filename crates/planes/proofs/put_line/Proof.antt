@@ -1,16 +1,12 @@
 -- `planes::put_line` meets its contract.
-use native.Mathlib.Nat.{zero-add}
-use native.Mathlib.Omega.{arith}
 use borrow.Author.Needs.{needs}
-use Rattle.planes.proofs.LaidBytes.{part-put}
 use Rattle.planes.proofs.put_line.Statement.{statement}
 use Rattle.planes.proofs.put_line.Tie as tie
 
 returns : tie.Need-returns
-returns c =
-    let at-start = c .before .before .before .before .before .before .before in
-    let pitch = at-start .args .pitch in
-    simp zero-add at (part-put (at-start .args .line .now) 0 pitch pitch _ _ _ (zero-add pitch) (omega arith) (c .before .before .put .ensures))
+returns c = rw (c .before .before .before .before .if1 .taken) (c .before .before .put-bytes .ensures)
 
 pub put-line-spec : {M : Type 1} → statement M
-put-line-spec = tie.close (tie.spec (λ c. search needs) (λ c. search needs) (λ c. search needs) (λ c κs. search needs) (λ c. search needs) returns)
+put-line-spec =
+    tie.close
+    (tie.spec (λ c. search needs) (λ c. search needs) (λ c. search needs) returns (λ c. search needs) (λ c. search needs))

@@ -1,0 +1,101 @@
+-- Operations on the bits of a byte and of a line; a line that is made bit by bit.
+use mathlib.Core.Path.{_≡_, refl, sym, ap, _∙_}
+use mathlib.Core.Bool.{Bool, true, false, not, _||_, or-true, or-false}
+use mathlib.Core.List.{List}
+use mathlib.Core.Logic.{_⊎_, inl, inr}
+use Prim.Native.Nat.{ℕ, _+_, _/_, _%_, _^_, _≤_, _<_}
+use native.Mathlib.Nat.{not-suc-le-zero}
+use native.Mathlib.Omega.{arith}
+use borrow.Author.Count.{below-more}
+use borrow.Author.Tests.{eqb-true}
+use lib.Dec.{eqb}
+use lib.ListN.{length, getD, set, replicate, getD-replicate}
+use lib.Seq.{getD-set-same, getD-set-other, set-getD}
+use lib.Bits.{bitOr, bitXor, xor-shr, xor-mod, or-zero-r}
+use Rattle.planes.specs.Bit.{bitOf}
+use Rattle.planes.specs.Plane.{bit}
+use Rattle.planes.specs.Laws.Lines.{no-bit}
+use Rattle.planes.specs.Laws.Bits.{bit-and, bit-or, bit-not, bit-zero, digit-cases}
+use Rattle.planes.proofs.StoredBit.{bit-set}
+use Rattle.nodes.specs.declared.lines.Op.{Op}
+use Rattle.nodes.specs.declared.lines.Op.the-variants.{Not, And, Or}
+use Rattle.nodes.specs.Shapes.{opBool, opByte, fullByte, weightIf, Line, Joined, Pushed}
+
+pub full-bit : (t : Bool) (i : ℕ) → i < 8 → bitOf (fullByte t) i ≡ t
+full-bit true i h = bit-not 8 0 i (omega arith) h ∙ ap not (bit-zero i)
+full-bit false i h = bit-zero i
+
+flip-digit : (d e : ℕ) → (d ≡ 0) ⊎ (d ≡ 1) → e ≡ 1 → eqb (bitXor d e) 1 ≡ not (eqb d 1)
+flip-digit d e (inl p) q = rw (p, q) refl
+flip-digit d e (inr p) q = rw (p, q) refl
+
+bit-flip : (a i : ℕ) → i < 8 → bitOf (bitXor a 255) i ≡ not (bitOf a i)
+unfolding bitOf
+bit-flip a i h =
+    ap (λ (m : ℕ). eqb (m % 2) 1) (xor-shr a 255 i)
+    ∙ ap (λ (m : ℕ). eqb m 1) (xor-mod (a / 2 ^ i) (255 / 2 ^ i) 1)
+    ∙ flip-digit (a / 2 ^ i % 2) (255 / 2 ^ i % 2) (digit-cases (a / 2 ^ i)) (eqb-true (255 / 2 ^ i % 2) 1 (full-bit true i h))
+
+-- an operation at a bit of a byte
+pub op-bit : (o : Op) (a b i : ℕ) → i < 8 → bitOf (opByte o a b) i ≡ opBool o (bitOf a i) (bitOf b i)
+op-bit Not a b i h = bit-flip a i h
+op-bit And a b i h = bit-and a b i
+op-bit Or a b i h = bit-or a b i
+
+-- and at a bit of a line
+pub joined-bit : (o : Op) (p q r : List ℕ) → Joined o p q r 128 → (y : ℕ) → y < 1024 → bit r y ≡ opBool o (bit p y) (bit q y)
+unfolding bit
+joined-bit o p q r J y h =
+    ap (λ (b : ℕ). bitOf b (y % 8)) (J .is (y / 8) (omega arith))
+    ∙ op-bit o (getD p (y / 8) 0) (getD q (y / 8) 0) (y % 8) (omega arith)
+
+pub joined-none : (o : Op) (p q r : List ℕ) → Joined o p q r 0
+joined-none o p q r = record { is = λ j h. absurd (not-suc-le-zero h) }
+
+pub joined-more : (o : Op) (p q r : List ℕ) (j v : ℕ) → Joined o p q r j → j < length r → v ≡ opByte o (getD p j 0) (getD q j 0)
+    → Joined o p q (set r j v) (j + 1)
+joined-more o p q r j v I h e = record {
+  is = below-more (λ (m : ℕ). getD (set r j v) m 0 ≡ opByte o (getD p m 0) (getD q m 0)) j
+      (λ m hm. getD-set-other r j m v 0 (λ s. omega arith) ∙ I .is m hm)
+      (getD-set-same r j v 0 h ∙ e);
+}
+
+-- a line that is one full byte over and over
+pub full-line : (t : Bool) (b y : ℕ) → b ≡ fullByte t → y < 1024 → bit (replicate 128 b) y ≡ t
+unfolding bit
+full-line t b y e h =
+    ap (λ (c : ℕ). bitOf c (y % 8)) (getD-replicate 128 (y / 8) b 0 (omega arith) ∙ e)
+    ∙ full-bit t (y % 8) (omega arith)
+
+-- the first z bits of a line are f, and the others are not set
+pub record Upto (f : ℕ → Bool) (z : ℕ) (r : List ℕ) : Type 0 where
+  pub done : (y : ℕ) → y < z → bit r y ≡ f y
+  pub blank : (y : ℕ) → z ≤ y → bit r y ≡ false
+
+pub upto-none : (f : ℕ → Bool) → Upto f 0 (replicate 128 0)
+upto-none f = record { done = λ y h. absurd (not-suc-le-zero h); blank = λ y h. no-bit 128 y }
+
+pub upto-more : (f : ℕ → Bool) (z : ℕ) (r e : List ℕ) (t : Bool) → Upto f z r → Pushed z t r e → t ≡ f z → Upto f (z + 1) e
+upto-more f z r e t U P q = record {
+  done = below-more (λ (y : ℕ). bit e y ≡ f y) z
+      (λ y h. P .others y (λ s. omega arith) ∙ U .done y h)
+      (P .here ∙ ap (λ (b : Bool). b || t) (U .blank z (omega arith)) ∙ q);
+  blank = λ y h. P .others y (λ s. omega arith) ∙ U .blank y (omega arith);
+}
+
+-- the line is done
+pub upto-all : (f : ℕ → Bool) (z n : ℕ) (r : List ℕ) → z ≡ n → Upto f z r → Line f n r
+upto-all f z n r e U = record { is = λ y h. U .done y (omega arith) }
+
+pub line-as : (f g : ℕ → Bool) (n : ℕ) (r : List ℕ) → ((z : ℕ) → z < n → f z ≡ g z) → Line f n r → Line g n r
+line-as f g n r h R = record { is = λ z l. R .is z l ∙ h z l }
+
+-- the store that sets bit z where t is true
+pub pushed : (r : List ℕ) (z : ℕ) (t : Bool) → z / 8 < length r → Pushed z t r (set r (z / 8) (bitOr (getD r (z / 8) 0) (weightIf t (z % 8))))
+pushed r z true h =
+    let s = bit-set r z (z / 8) (z % 8) refl refl h in
+    record { here = s .here ∙ sym (or-true (bit r z)); others = s .others }
+pushed r z false h =
+    let e : set r (z / 8) (bitOr (getD r (z / 8) 0) 0) ≡ r =
+    ap (λ (b : ℕ). set r (z / 8) b) (or-zero-r (getD r (z / 8) 0)) ∙ set-getD r (z / 8) 0 in
+    record { here = ap (λ (l : List ℕ). bit l z) e ∙ sym (or-false (bit r z)); others = λ m n. ap (λ (l : List ℕ). bit l m) e }

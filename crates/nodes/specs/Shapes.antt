@@ -1,0 +1,83 @@
+-- What the functions on lines and planes leave. A line of 128 bytes tests each state below 1024; a plane of pitch * 8 states has pitch * 8 lines of pitch bytes.
+use mathlib.Core.Path.{_≡_}
+use mathlib.Core.Bool.{Bool, true, false, not, _&&_, _||_}
+use mathlib.Core.List.{List}
+use mathlib.Core.Logic.{_⊎_}
+use Prim.Native.Nat.{ℕ, _+_, _*_, _^_, _≤_, _<_}
+use lib.ListN.{length, getD}
+use lib.Bits.{bitAnd, bitOr, bitXor}
+use Rattle.planes.specs.Plane.{bit, planeSize}
+use Rattle.truth.specs.Computed.{anyBelow, allBelow}
+use Rattle.nodes.specs.declared.lines.Op.{Op}
+use Rattle.nodes.specs.declared.lines.Op.the-variants.{Not, And, Or}
+
+-- an operation on tests; NOT is of the first
+abbrev pub opBool : Op → Bool → Bool → Bool
+opBool Not p q = not p
+opBool And p q = p && q
+opBool Or p q = p || q
+
+-- the operation on the eight tests of a byte
+abbrev pub opByte : Op → ℕ → ℕ → ℕ
+opByte Not a b = bitXor a 255
+opByte And a b = bitAnd a b
+opByte Or a b = bitOr a b
+
+-- the operation over the tests of the numbers below n: for all, for some
+unfoldable pub over : Op → ℕ → (ℕ → Bool) → Bool
+over Not n g = false
+over And n g = allBelow n g
+over Or n g = anyBelow n g
+
+-- the operations that are for all, and for some
+abbrev pub Quantifies : Op → Type 0
+Quantifies Not = ⊥
+Quantifies And = Unit {0}
+Quantifies Or = Unit {0}
+
+-- a byte of eight equal tests
+abbrev pub fullByte : Bool → ℕ
+fullByte true = 255
+fullByte false = 0
+
+-- what an operation gives of no test
+abbrev pub unit : Op → Bool
+unit Not = false
+unit And = true
+unit Or = false
+
+-- the same, in each bit of a byte
+abbrev pub unitByte : Op → ℕ
+unitByte o = fullByte (unit o)
+
+-- the weight of bit i where a test is true, else 0
+abbrev pub weightIf : Bool → ℕ → ℕ
+weightIf true i = 2 ^ i
+weightIf false i = 0
+
+-- the first n bits of a line are the tests f
+pub record Line (f : ℕ → Bool) (n : ℕ) (line : List ℕ) : Type 0 where
+  pub is : (y : ℕ) → y < n → bit line y ≡ f y
+
+-- the first n bytes of a line are those of p and q, by an operation
+pub record Joined (o : Op) (p q line : List ℕ) (n : ℕ) : Type 0 where
+  pub is : (j : ℕ) → j < n → getD line j 0 ≡ opByte o (getD p j 0) (getD q j 0)
+
+-- bit z is set where t is true; every other bit is as before
+pub record Pushed (z : ℕ) (t : Bool) (before after : List ℕ) : Type 0 where
+  pub here : bit after z ≡ (bit before z || t)
+  pub others : (m : ℕ) → (m ≡ z → ⊥) → bit after m ≡ bit before m
+
+-- there is a plane at byte base
+pub record Plane (bytes : List ℕ) (pitch base : ℕ) : Type 0 where
+  pub small : pitch ≤ 128
+  pub within : base + planeSize pitch ≤ length bytes
+
+-- there is a plane at byte a, and it shares no byte with the one at base
+pub record Source (bytes : List ℕ) (pitch base a : ℕ) : Type 0 where
+  pub within : a + planeSize pitch ≤ length bytes
+  pub apart : (a + planeSize pitch ≤ base) ⊎ (base + planeSize pitch ≤ a)
+
+-- a byte lies outside of the plane at base
+abbrev pub Outside : ℕ → ℕ → ℕ → Type 0
+Outside pitch base m = (m < base) ⊎ (base + planeSize pitch ≤ m)

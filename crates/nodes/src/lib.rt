@@ -1,0 +1,5 @@
+// The tests of a policy's node, in the work buffer.
+pub mod forms;
+pub mod lines;
+pub mod node;
+mod shapes;

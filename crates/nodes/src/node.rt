@@ -1,0 +1,76 @@
+// The tests of a policy's node, made of those of its operands.
+ghost use mathlib.Core.Path.{_≡_};
+ghost use Prim.Native.Nat.{_≤_, _<_};
+ghost use Rattle.records.specs.Policy.{nodeKind};
+ghost use Rattle.nodes.specs.Node.{arity, formAt, Makeable, NodeMade};
+use crate::forms;
+use crate::forms::Form;
+use crate::lines::Op;
+use crate::shapes;
+
+// A node of a policy: its kind, bytes 3 and 4 of its record, and the number of its operands.
+pub struct Node {
+    pub kind: u8,
+    pub a: u8,
+    pub b: u8,
+    pub arity: u8,
+}
+
+// The number of operands of a node.
+pub fn operands(kind: u8) -> u8
+    ensures { λ r. ⌜ r ≡ arity (nodeKind kind) ⌝ }
+{
+    match kind {
+        0..=2 => 0,
+        3 => 1,
+        4..=5 => 2,
+        6..=8 => 1,
+        9..=255 => 0,
+    }
+}
+
+// The form of node j, by the codes of the nodes.
+pub fn form_at(codes: &[u8], j: usize, pitch: usize) -> Form
+    requires { ⌜ (j < 256) × (pitch ≤ 128) ⌝ }
+    ensures { λ r. ⌜ r ≡ formAt (now (codes .entry)) pitch j ⌝ }
+{
+    let size = pitch * 8 * pitch;
+    let own = (j + 2) * size;
+    if j < codes.len() {
+        return forms::form_of(codes[j], own, size);
+    }
+    forms::form_of(0, own, size)
+}
+
+// Makes node k, in its own plane or by reference to the first two; answers the code of its form. a and b are bytes 3 and 4 of
+// its record, ext the line of external states; closed: the second plane is the closure of the first.
+pub fn make(
+    work: &mut [u8],
+    ext: [u8; 128],
+    closed: bool,
+    codes: &[u8],
+    kind: u8,
+    a: u8,
+    b: u8,
+    k: usize,
+    pitch: usize,
+) -> u8
+    requires { ⌜ Makeable kind a b k pitch closed (now work) ⌝ }
+    ensures { λ r. ⌜ NodeMade (now (codes .entry)) kind a b k pitch ext (now (work .entry)) r (now (work .exit)) ⌝ }
+{
+    let base = (k + 2) * (pitch * 8 * pitch);
+    let first = form_at(codes, a as usize, pitch);
+    let second = form_at(codes, b as usize, pitch);
+    match kind {
+        0 => shapes::bit_line(work, a, b as usize, base, pitch),
+        1 => shapes::arrange(work, 5, a, b, base, pitch),
+        2 => shapes::keep(work, ext, a, base, pitch),
+        3 => shapes::apply(work, Op::Not, first, first, base, pitch),
+        4 => shapes::apply(work, Op::And, first, second, base, pitch),
+        5 => shapes::apply(work, Op::Or, first, second, base, pitch),
+        6 => shapes::range(work, Op::Or, first, b, base, pitch),
+        7 => shapes::range(work, Op::And, first, b, base, pitch),
+        8 => shapes::reach(work, closed, first, b / 2, b % 2, base, pitch),
+        9..=255 => shapes::keep(work, [0u8; 128], 0, base, pitch),
+    }
+}

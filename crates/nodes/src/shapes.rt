@@ -1,0 +1,306 @@
+// Forms made of other forms of the same buffer. A plane of pitch * 8 states has pitch * 8 lines of pitch bytes.
+ghost use mathlib.Core.Path.{_≡_};
+ghost use mathlib.Core.Bool.{true};
+ghost use Prim.Native.Nat.{ℕ, _+_, _*_, _/_, _≤_, _<_};
+ghost use lib.ListN.{length};
+ghost use Rattle.planes.specs.Bit.{bitOf};
+ghost use Rattle.planes.specs.Plane.{bit, cell, planeSize};
+ghost use Rattle.planes.specs.Lines.{Made};
+ghost use Rattle.records.specs.Policy.{varOf};
+ghost use Rattle.truth.specs.Truth.{value};
+ghost use Rattle.nodes.specs.Shapes.{opBool, over, Quantifies, Line, Plane, Source};
+ghost use Rattle.nodes.specs.declared.forms.Form.the-variants.{Both};
+ghost use Rattle.nodes.specs.Forms.{tests, place, Stands, ranged, arranged, Reached, Closes, Reaches};
+use crate::forms;
+use crate::forms::Form;
+use crate::forms::Way;
+use crate::lines;
+use crate::lines::Op;
+
+// Bits first, first + step, .. of the plane at a, as a line of s bits.
+fn stride(work: &[u8], a: usize, first: usize, step: usize, s: usize) -> [u8; 128]
+    requires { ⌜ (s ≤ 1024) × (step ≤ 1025) × (first ≤ 1024) ⌝ }
+    requires { ⌜ ((z : ℕ) → z < s → a + (first + z * step) / 8 < length (now work)) ⌝ }
+    ensures { λ r. ⌜ Line (λ z. bit (now (work .entry)) (a * 8 + (first + z * step))) s r ⌝ }
+{
+    let mut r = [0u8; 128];
+    let mut z: usize = 0;
+    let mut n: usize = first;
+    while z < s {
+        let t = planes::get_at(work, a, n);
+        lines::push(&mut r, z, t);
+        z += 1;
+        n += step;
+    }
+    r
+}
+
+// Line x of a form.
+fn line_of(work: &[u8], f: Form, x: usize, pitch: usize) -> [u8; 128]
+    requires { ⌜ Plane (now work) pitch (place f) ⌝ }
+    requires { ⌜ x < pitch * 8 ⌝ }
+    ensures { λ e. ⌜ Line (tests f (now (work .entry)) pitch x) (pitch * 8) e ⌝ }
+{
+    match f {
+        Form::OfX(at) => lines::whole(planes::get_at(work, at, x)),
+        Form::OfY(at) => planes::load_line(work, at, pitch),
+        Form::Both(at) => planes::load_line(work, at + x * pitch, pitch),
+        Form::Turned(at) => stride(work, at, x, pitch * 8, pitch * 8),
+    }
+}
+
+// Line x of the operation on two forms.
+fn joined(work: &[u8], o: Op, a: Form, b: Form, x: usize, pitch: usize) -> [u8; 128]
+    requires { ⌜ Plane (now work) pitch (place a) ⌝ }
+    requires { ⌜ Plane (now work) pitch (place b) ⌝ }
+    requires { ⌜ x < pitch * 8 ⌝ }
+    ensures { λ e. ⌜ Line (λ y. opBool o (tests a (now (work .entry)) pitch x y) (tests b (now (work .entry)) pitch x y)) (pitch * 8) e ⌝ }
+{
+    let p = line_of(work, a, x, pitch);
+    let q = line_of(work, b, x, pitch);
+    lines::join(o, &p, &q)
+}
+
+// The plane at base becomes the operation on two forms.
+fn combine(work: &mut [u8], o: Op, a: Form, b: Form, base: usize, pitch: usize)
+    requires { ⌜ Plane (now work) pitch base ⌝ }
+    requires { ⌜ Source (now work) pitch base (place a) ⌝ }
+    requires { ⌜ Source (now work) pitch base (place b) ⌝ }
+    ensures { λ _. ⌜ Made (λ x y. opBool o (tests a (now (work .entry)) pitch x y) (tests b (now (work .entry)) pitch x y)) pitch base (pitch * 8) (now (work .entry)) (now (work .exit)) ⌝ }
+{
+    let mut x: usize = 0;
+    while x < pitch * 8 {
+        let e = joined(work, o, a, b, x, pitch);
+        planes::put_line(work, base + x * pitch, &e, pitch);
+        x += 1;
+    }
+}
+
+// The line of a node over the variable v is kept at base; answers the code of its form.
+pub fn keep(work: &mut [u8], e: [u8; 128], v: u8, base: usize, pitch: usize) -> u8
+    requires { ⌜ Plane (now work) pitch base ⌝ }
+    ensures { λ r. ⌜ Stands (λ x y. bit e (value (varOf v) x y)) r pitch base (now (work .entry)) (now (work .exit)) ⌝ }
+{
+    planes::put_line(work, base, &e, pitch);
+    if v == 0 { 1 } else { 2 }
+}
+
+// The operation on the lines at a and b.
+fn joined_lines(work: &[u8], o: Op, a: usize, b: usize, pitch: usize) -> [u8; 128]
+    requires { ⌜ Plane (now work) pitch a ⌝ }
+    requires { ⌜ Plane (now work) pitch b ⌝ }
+    ensures { λ e. ⌜ Line (λ z. opBool o (bit (now (work .entry)) (a * 8 + z)) (bit (now (work .entry)) (b * 8 + z))) (pitch * 8) e ⌝ }
+{
+    let p = planes::load_line(work, a, pitch);
+    let q = planes::load_line(work, b, pitch);
+    lines::join(o, &p, &q)
+}
+
+// NOT, AND, OR: the operation on two forms stands at base; answers the code of its form.
+pub fn apply(work: &mut [u8], o: Op, a: Form, b: Form, base: usize, pitch: usize) -> u8
+    requires { ⌜ Plane (now work) pitch base ⌝ }
+    requires { ⌜ Source (now work) pitch base (place a) ⌝ }
+    requires { ⌜ Source (now work) pitch base (place b) ⌝ }
+    ensures { λ r. ⌜ Stands (λ x y. opBool o (tests a (now (work .entry)) pitch x y) (tests b (now (work .entry)) pitch x y)) r pitch base (now (work .entry)) (now (work .exit)) ⌝ }
+{
+    let way = forms::pairing(a, b);
+    match way {
+        Way::OverX => {
+            let e = joined_lines(work, o, forms::start(a), forms::start(b), pitch);
+            keep(work, e, 0, base, pitch)
+        }
+        Way::OverY => {
+            let e = joined_lines(work, o, forms::start(a), forms::start(b), pitch);
+            keep(work, e, 1, base, pitch)
+        }
+        Way::Straight => {
+            combine(work, o, a, b, base, pitch);
+            3
+        }
+        Way::Exchanged => {
+            combine(work, o, forms::turn(a), forms::turn(b), base, pitch);
+            4
+        }
+    }
+}
+
+// BIT: the test of bit i of the variable v stands at base; answers the code of its form.
+pub fn bit_line(work: &mut [u8], v: u8, i: usize, base: usize, pitch: usize) -> u8
+    requires { ⌜ Plane (now work) pitch base ⌝ }
+    requires { ⌜ i < 64 ⌝ }
+    ensures { λ r. ⌜ Stands (λ x y. bitOf (value (varOf v) x y) i) r pitch base (now (work .entry)) (now (work .exit)) ⌝ }
+{
+    let e = lines::bits(i, pitch * 8);
+    keep(work, e, v, base, pitch)
+}
+
+// The states y that are true with every x (And), or with some x (Or).
+fn gather_x(work: &[u8], o: Op, a: usize, pitch: usize) -> [u8; 128]
+    requires { ⌜ Plane (now work) pitch a ⌝ }
+    requires { ⌜ Quantifies o ⌝ }
+    ensures { λ r. ⌜ Line (λ y. over o (pitch * 8) (λ x. cell (now (work .entry)) a pitch x y)) (pitch * 8) r ⌝ }
+{
+    let u = lines::units(o);
+    let mut acc = [u; 128];
+    let mut x: usize = 0;
+    while x < pitch * 8 {
+        let p = planes::load_line(work, a + x * pitch, pitch);
+        acc = lines::join(o, &acc, &p);
+        x += 1;
+    }
+    acc
+}
+
+// The states x that are true with every y (And), or with some y (Or).
+fn gather_y(work: &[u8], o: Op, a: usize, pitch: usize) -> [u8; 128]
+    requires { ⌜ Plane (now work) pitch a ⌝ }
+    requires { ⌜ Quantifies o ⌝ }
+    ensures { λ r. ⌜ Line (λ x. over o (pitch * 8) (λ y. cell (now (work .entry)) a pitch x y)) (pitch * 8) r ⌝ }
+{
+    let mut r = [0u8; 128];
+    let mut x: usize = 0;
+    while x < pitch * 8 {
+        let p = planes::load_line(work, a + x * pitch, pitch);
+        let t = lines::line_over(o, &p, pitch);
+        lines::push(&mut r, x, t);
+        x += 1;
+    }
+    r
+}
+
+// The states x for which a form passes with every y (And), or with some y (Or).
+fn range_line(work: &[u8], o: Op, f: Form, pitch: usize) -> [u8; 128]
+    requires { ⌜ Plane (now work) pitch (place f) ⌝ }
+    requires { ⌜ Quantifies o ⌝ }
+    ensures { λ r. ⌜ Line (λ x. over o (pitch * 8) (λ y. tests f (now (work .entry)) pitch x y)) (pitch * 8) r ⌝ }
+{
+    match f {
+        Form::OfX(at) => planes::load_line(work, at, pitch),
+        Form::OfY(at) => {
+            let e = planes::load_line(work, at, pitch);
+            lines::whole(lines::line_over(o, &e, pitch))
+        }
+        Form::Both(at) => gather_y(work, o, at, pitch),
+        Form::Turned(at) => gather_x(work, o, at, pitch),
+    }
+}
+
+// SOME, ALL: a form with v running over every state, by Or and by And, stands at base; answers the code of its form.
+pub fn range(work: &mut [u8], o: Op, f: Form, v: u8, base: usize, pitch: usize) -> u8
+    requires { ⌜ Plane (now work) pitch base ⌝ }
+    requires { ⌜ Source (now work) pitch base (place f) ⌝ }
+    requires { ⌜ Quantifies o ⌝ }
+    ensures { λ r. ⌜ Stands (ranged o (varOf v) f (now (work .entry)) pitch) r pitch base (now (work .entry)) (now (work .exit)) ⌝ }
+{
+    if v != 0 {
+        let e = range_line(work, o, f, pitch);
+        keep(work, e, 0, base, pitch)
+    } else {
+        let e = range_line(work, o, forms::turn(f), pitch);
+        keep(work, e, 1, base, pitch)
+    }
+}
+
+// The states that the plane at a relates to themselves.
+fn diagonal(work: &[u8], a: usize, pitch: usize) -> [u8; 128]
+    requires { ⌜ Plane (now work) pitch a ⌝ }
+    ensures { λ r. ⌜ Line (λ z. cell (now (work .entry)) a pitch z z) (pitch * 8) r ⌝ }
+{
+    let s = pitch * 8;
+    stride(work, a, 0, s + 1, s)
+}
+
+// The states that a form relates to themselves.
+fn diagonal_of(work: &[u8], f: Form, pitch: usize) -> [u8; 128]
+    requires { ⌜ Plane (now work) pitch (place f) ⌝ }
+    ensures { λ r. ⌜ Line (λ z. tests f (now (work .entry)) pitch z z) (pitch * 8) r ⌝ }
+{
+    match f {
+        Form::OfX(at) => planes::load_line(work, at, pitch),
+        Form::OfY(at) => planes::load_line(work, at, pitch),
+        Form::Both(at) => diagonal(work, at, pitch),
+        Form::Turned(at) => diagonal(work, at, pitch),
+    }
+}
+
+// R, and the pair of a TC: the form that a code names, with the variables (u, v) for (X, Y); answers the code of its form.
+pub fn arrange(work: &mut [u8], code: u8, u: u8, v: u8, base: usize, pitch: usize) -> u8
+    requires { ⌜ Plane (now work) pitch base ⌝ }
+    requires { ⌜ planeSize pitch + planeSize pitch ≤ base ⌝ }
+    requires { ⌜ 0 < code ⌝ }
+    ensures { λ r. ⌜ Stands (arranged (varOf u) (varOf v) code base (now (work .entry)) pitch) r pitch base (now (work .entry)) (now (work .exit)) ⌝ }
+{
+    let f = forms::form_of(code, base, pitch * 8 * pitch);
+    if u == 0 {
+        if v == 0 {
+            let e = diagonal_of(work, f, pitch);
+            keep(work, e, 0, base, pitch)
+        } else {
+            code
+        }
+    } else {
+        if v == 0 {
+            forms::turn_code(code)
+        } else {
+            let e = diagonal_of(work, f, pitch);
+            keep(work, e, 1, base, pitch)
+        }
+    }
+}
+
+// Whether the second plane is the closure of the plane at byte `at`: that of the step plane, if it is said to be there.
+fn known(closed: bool, at: usize) -> bool
+    ensures { λ r. ⌜ (r ≡ true → (closed ≡ true) × (at ≡ 0)) ⌝ }
+{
+    if closed { at == 0 } else { false }
+}
+
+// The closure of the plane at byte `at` stands at base, or in the second plane; answers the code of its form.
+fn shut_plane(work: &mut [u8], closed: bool, at: usize, base: usize, pitch: usize) -> u8
+    requires { ⌜ Plane (now work) pitch base ⌝ }
+    requires { ⌜ Source (now work) pitch base at ⌝ }
+    requires { ⌜ (closed ≡ true → Reached pitch (now work)) ⌝ }
+    ensures { λ r. ⌜ Closes (Both at) r pitch base (now (work .entry)) (now (work .exit)) ⌝ }
+{
+    if known(closed, at) {
+        return 7;
+    }
+    passes::close_into(work, at, base, pitch);
+    3
+}
+
+// The closure of a form stands at base or in the second plane; answers the code of its form. A line is its own closure.
+fn shut(work: &mut [u8], closed: bool, f: Form, base: usize, pitch: usize) -> u8
+    requires { ⌜ Plane (now work) pitch base ⌝ }
+    requires { ⌜ Source (now work) pitch base (place f) ⌝ }
+    requires { ⌜ (closed ≡ true → Reached pitch (now work)) ⌝ }
+    ensures { λ r. ⌜ Closes f r pitch base (now (work .entry)) (now (work .exit)) ⌝ }
+{
+    match f {
+        Form::OfX(at) => {
+            let e = planes::load_line(work, at, pitch);
+            keep(work, e, 0, base, pitch)
+        }
+        Form::OfY(at) => {
+            let e = planes::load_line(work, at, pitch);
+            keep(work, e, 1, base, pitch)
+        }
+        Form::Both(at) => shut_plane(work, closed, at, base, pitch),
+        Form::Turned(at) => {
+            let code = shut_plane(work, closed, at, base, pitch);
+            forms::turn_code(code)
+        }
+    }
+}
+
+// TC: the closure of a form, arranged, stands at base or in the second plane; answers the code of its form.
+pub fn reach(work: &mut [u8], closed: bool, f: Form, u: u8, v: u8, base: usize, pitch: usize) -> u8
+    requires { ⌜ Plane (now work) pitch base ⌝ }
+    requires { ⌜ Source (now work) pitch base (place f) ⌝ }
+    requires { ⌜ planeSize pitch + planeSize pitch ≤ base ⌝ }
+    requires { ⌜ (closed ≡ true → Reached pitch (now work)) ⌝ }
+    ensures { λ r. ⌜ Reaches (varOf u) (varOf v) f r pitch base (now (work .entry)) (now (work .exit)) ⌝ }
+{
+    let code = shut(work, closed, f, base, pitch);
+    arrange(work, code, u, v, base, pitch)
+}
