@@ -1,7 +1,8 @@
 //! The gate executed: a second implementation, generators, and cases for any gate.
 //!
 //! A gate to be tested implements [`gate::Gate`]. [`cases`] holds calls with answers written by hand;
-//! [`compare`] runs a gate against another one on generated networks, commands and inputs.
+//! [`compare`] runs a gate against another one on generated networks, commands and inputs. [`words`]
+//! is the gate by whose times the proved library's are measured.
 //!
 //! [`reading`] finds the definitions that a promise rests on, and reads `docs/READING.md`.
 
@@ -24,3 +25,4 @@ pub mod reordered;
 pub mod second;
 pub mod unversioned;
 pub mod winding;
+pub mod words;
