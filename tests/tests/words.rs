@@ -4,10 +4,12 @@
 use wegbaro_tests::cases;
 use wegbaro_tests::commands::random_command;
 use wegbaro_tests::compare::{self, Tally};
-use wegbaro_tests::gate::Lent;
+use wegbaro_tests::formulas::{and, policy, push, push_is_state, r, some, tc, Node, X, Y};
+use wegbaro_tests::gate::{Checked, Lent};
 use wegbaro_tests::library::Library;
 use wegbaro_tests::networks::{all_widths, random_network, work_needed, Sizes, MODEST};
 use wegbaro_tests::random::Random;
+use wegbaro_tests::winding::winding;
 use wegbaro_tests::words::Words;
 
 /// Fails with every error, one per line.
@@ -63,6 +65,33 @@ fn commands_of_every_width() {
             let lent = compare::lend(&mut random, &records, work_needed(&records) + spare);
             let given = random_command(&mut random, &records);
             compare::same_command(&Words, &Library, &lent, &given).unwrap();
+        }
+    }
+}
+
+/// What leads to a state is forbidden, by steps and closure of a pair of variables.
+fn nothing_leads_to(end: usize, bits: u8, [from, to]: [u8; 2]) -> Vec<Node> {
+    let mut nodes = vec![r(from, to), tc(0, from, to)];
+    let is_end = push_is_state(&mut nodes, Y, end, bits);
+    let leads = push(&mut nodes, and(1, is_end));
+    push(&mut nodes, some(leads, Y));
+    nodes
+}
+
+/// On a route through every state at a linked point each state leads to each later one.
+#[test]
+fn long_routes_of_every_width() {
+    let mut random = Random::new(83);
+    for of in all_widths() {
+        let long = winding(of);
+        for pair in [[X, Y], [X, Y], [Y, X], [Y, X]] {
+            let place = 1 + random.below(long.route.len() - 1);
+            let nodes = nothing_leads_to(long.route[place], of.bits(), pair);
+            let records = [long.records.clone(), policy(0, &nodes)].concat();
+            let lent = compare::lend(&mut random, &records, work_needed(&records));
+            let state = long.route[..place].iter().copied().min().unwrap();
+            let answer = compare::same_check(&Words, &Library, &lent).unwrap();
+            assert_eq!(answer, Checked::Violated { policy: 0, state }, "{of:?}");
         }
     }
 }
