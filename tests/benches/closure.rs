@@ -54,6 +54,16 @@ fn cycle(states: &[usize]) -> Plane {
     plane
 }
 
+/// Each state is related to those before and behind it.
+fn line(states: &[usize]) -> Plane {
+    let mut plane = vec![0; STATES * BYTES];
+    for pair in states.windows(2) {
+        relate(&mut plane, pair[0], pair[1]);
+        relate(&mut plane, pair[1], pair[0]);
+    }
+    plane
+}
+
 fn random(degree: usize, r: &mut Random) -> Plane {
     let mut plane = vec![0; STATES * BYTES];
     for x in 0..STATES {
@@ -62,6 +72,15 @@ fn random(degree: usize, r: &mut Random) -> Plane {
         }
     }
     plane
+}
+
+/// So many states in random order.
+fn shuffled(count: usize, r: &mut Random) -> Vec<usize> {
+    let mut states: Vec<usize> = (0..count).collect();
+    for i in (1..count).rev() {
+        states.swap(i, r.below(i + 1));
+    }
+    states
 }
 
 fn words(plane: &Plane) -> Vec<u64> {
@@ -83,16 +102,13 @@ fn median(mut times: Vec<f64>) -> f64 {
 fn main() {
     let mut r = Random(88172645463325252);
     let ordered: Vec<usize> = (0..512).collect();
-    let mut shuffled = ordered.clone();
-    for i in (1..shuffled.len()).rev() {
-        shuffled.swap(i, r.below(i + 1));
-    }
     let cases = [
         ("cycle of 512, in order", cycle(&ordered)),
-        ("cycle of 512, shuffled", cycle(&shuffled)),
+        ("cycle of 512, shuffled", cycle(&shuffled(512, &mut r))),
         ("random, out-degree 1", random(1, &mut r)),
         ("random, out-degree 4", random(4, &mut r)),
         ("dense, 512 picks a state", random(512, &mut r)),
+        ("line both ways, shuffled", line(&shuffled(STATES, &mut r))),
     ];
     println!("| relation on {STATES} states | library, µs | Rust on 64-bit words, µs | ratio |");
     println!("|---|---|---|---|");

@@ -1,23 +1,18 @@
 //! Times the check call and a forwarded command at N = 4 to 10: the library, the second implementation,
 //! and decision diagrams on BuDDy (`bdd/check.cpp`) where its header is installed.
 
-use std::fs;
-use std::hint::black_box;
-use std::path::{Path, PathBuf};
-use std::process::{Command, Stdio};
-use std::time::Instant;
+use wegbaro_tests::diagrams::Diagrams;
 use wegbaro_tests::formulas::{and, bit, external, not, policy, r, some, tc, Node, X, Y};
-use wegbaro_tests::gate::{Checked, Commanded, Gate, RECORD, STORE};
+use wegbaro_tests::gate::Gate;
 use wegbaro_tests::library::Library;
 use wegbaro_tests::networks::{
-    all_widths, guarded_network, largest_without_policies, random_network, work_needed, Widths,
-    MODEST,
+    all_widths, guarded_network, largest_without_policies, random_network, Widths, MODEST,
 };
 use wegbaro_tests::random::Random;
 use wegbaro_tests::records::{add, link, miss, output, rule, set, widths, Record, ANY};
 use wegbaro_tests::second::Second;
+use wegbaro_tests::times::{check, command, Taken, RUNS};
 
-const RUNS: usize = 51;
 /// The widths of the chains, one for each N from 4 to 10.
 const CHAINS: [Widths; 7] = [
     Widths { h: 1, p: 2, w: 0 },
@@ -110,98 +105,6 @@ fn dropping(of: Widths) -> Record {
     add(rule(0, 20, [1, full], EVEN, &[output(0, full)]))
 }
 
-fn store_of(records: &[Record]) -> Vec<u8> {
-    let mut store = records.concat();
-    store.resize(STORE, 0);
-    store
-}
-
-/// Microseconds that a call takes.
-fn time<T>(call: impl FnOnce() -> T) -> f64 {
-    let start = Instant::now();
-    black_box(call());
-    start.elapsed().as_secs_f64() * 1e6
-}
-
-/// The medians of the times of both gates, taken in turn.
-fn medians(mut run: impl FnMut(&dyn Gate) -> f64) -> [f64; 2] {
-    let gates: [&dyn Gate; 2] = [&Library, &Second];
-    let times: Vec<[f64; 2]> = (0..RUNS).map(|_| gates.map(&mut run)).collect();
-    [0, 1].map(|which| {
-        let mut times: Vec<f64> = times.iter().map(|pair| pair[which]).collect();
-        times.sort_by(f64::total_cmp);
-        times[RUNS / 2]
-    })
-}
-
-/// The check call on a network that holds.
-fn check(records: &[Record]) -> [f64; 2] {
-    let (store, n) = (store_of(records), records.len());
-    let mut work = vec![0; work_needed(records)];
-    medians(|gate| {
-        let mut answer = None;
-        let taken = time(|| answer = Some(gate.check(black_box(&store), n, &mut work)));
-        assert_eq!(answer, Some(Checked::Holds));
-        taken
-    })
-}
-
-/// The command call with an add that is forwarded, and the network it leaves.
-fn command(records: &[Record], given: &Record) -> ([f64; 2], Vec<Record>) {
-    let (before, n) = (store_of(records), records.len());
-    let mut work = vec![0; work_needed(records)];
-    let mut store = vec![];
-    let times = medians(|gate| {
-        store = before.clone();
-        let mut answer = None;
-        let taken = time(|| answer = Some(gate.command(&mut store, n, &mut work, given)));
-        assert_eq!(answer, Some(Commanded::Forwarded { count: n + 1 }));
-        taken
-    });
-    let left = store.chunks_exact(RECORD).take(n + 1);
-    (times, left.map(|record| record.try_into().unwrap()).collect())
-}
-
-/// The program of decision diagrams, compiled if BuDDy's header is found.
-fn compile() -> Option<PathBuf> {
-    let mut probe = Command::new("c++");
-    probe.args(["-fsyntax-only", "-include", "bdd.h", "-x", "c++", "-"]);
-    let found = probe.stdin(Stdio::null()).stderr(Stdio::null()).status();
-    if !found.is_ok_and(|status| status.success()) {
-        return None;
-    }
-    let source = Path::new(env!("CARGO_MANIFEST_DIR")).join("bdd/check.cpp");
-    let program = Path::new(env!("CARGO_TARGET_TMPDIR")).join("bdd-check");
-    let mut compiler = Command::new("c++");
-    compiler.args(["-std=c++17", "-O2", "-Wall"]).arg(source).arg("-o").arg(&program).arg("-lbdd");
-    assert!(compiler.status().unwrap().success(), "bdd/check.cpp is compiled");
-    Some(program)
-}
-
-/// The medians of the program's times on networks, each verdict compared with the library's.
-fn diagrams(program: &Path, networks: &[Vec<Record>], runs: usize) -> Vec<f64> {
-    let file = Path::new(env!("CARGO_TARGET_TMPDIR")).join("bdd-networks");
-    fs::write(&file, networks.concat().concat()).unwrap();
-    let output = Command::new(program).arg(runs.to_string()).arg(&file).output().unwrap();
-    assert!(output.status.success());
-    let lines = String::from_utf8(output.stdout).unwrap();
-    assert_eq!(lines.lines().count(), networks.len());
-    let judged = lines.lines().zip(networks);
-    judged
-        .map(|(line, records)| {
-            let (verdict, median) = line.rsplit_once(' ').unwrap();
-            let mut work = vec![0; work_needed(records)];
-            let expected = match Library.check(&store_of(records), records.len(), &mut work) {
-                Checked::Holds => "holds".to_string(),
-                Checked::Violated { policy, state } => format!("violated {policy} {state}"),
-                refused => panic!("{refused:?}"),
-            };
-            assert_eq!(verdict, expected, "{records:?}");
-            median.parse().unwrap()
-        })
-        .collect()
-}
-
 /// Ten random networks of every width, on which the verdicts are compared.
 fn random_networks() -> Vec<Vec<Record>> {
     let random = &mut Random::new(4);
@@ -215,7 +118,8 @@ fn random_networks() -> Vec<Vec<Record>> {
     networks
 }
 
-fn print(row: &str, [library, second]: [f64; 2], bdd: Option<f64>) {
+fn print(row: &str, times: [Taken; 2], bdd: Option<f64>) {
+    let [library, second] = times.map(|taken| taken.median);
     let beside = match bdd {
         Some(bdd) => format!("{bdd:.1} | {:.3}", library / bdd),
         None => "– | –".to_string(),
@@ -224,9 +128,10 @@ fn print(row: &str, [library, second]: [f64; 2], bdd: Option<f64>) {
 }
 
 fn main() {
-    let program = compile();
-    if let Some(program) = &program {
-        diagrams(program, &random_networks(), 1);
+    let gates: [&dyn Gate; 2] = [&Library, &Second];
+    let diagrams = Diagrams::compiled(env!("CARGO_TARGET_TMPDIR"));
+    if let Some(diagrams) = &diagrams {
+        diagrams.medians(&random_networks(), 1);
     }
     println!(
         "| N | H, P, W | network | links | rules | call | \
@@ -239,9 +144,9 @@ fn main() {
         let Widths { h, p, w } = of;
         let count = |kind| records.iter().filter(|record| record[0] == kind).count();
         let row = format!("{} | {h}, {p}, {w} | {name} | {} | {}", of.bits(), count(2), count(4));
-        let checked = check(&records);
-        let (commanded, left) = command(&records, &dropping(of));
-        let beside = program.as_ref().map(|program| diagrams(program, &[records, left], RUNS));
+        let checked = check(gates, &records);
+        let (commanded, left) = command(gates, &records, &dropping(of));
+        let beside = diagrams.as_ref().map(|diagrams| diagrams.medians(&[records, left], RUNS));
         let bdd = |call| beside.as_ref().map(|times: &Vec<f64>| times[call]);
         print(&format!("{row} | check"), checked, bdd(0));
         print(&format!("{row} | command"), commanded, bdd(1));

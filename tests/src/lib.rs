@@ -8,9 +8,11 @@
 
 pub mod build;
 pub mod cases;
+pub mod closing;
 pub mod commands;
 pub mod compare;
 pub mod damage;
+pub mod diagrams;
 pub mod even;
 pub mod formulas;
 pub mod gate;
@@ -23,6 +25,7 @@ pub mod reading;
 pub mod records;
 pub mod reordered;
 pub mod second;
+pub mod times;
 pub mod unversioned;
 pub mod winding;
 pub mod words;

@@ -170,6 +170,18 @@ pub fn largest_without_policies(random: &mut Random) -> Vec<Record> {
     before_policies(random, LARGEST, 112, MOST_RULES, &[])
 }
 
+/// A network without policies and groups, with so many rules and with one in seven points not linked,
+/// whose SETs change no bit.
+pub fn scattered(random: &mut Random, of: Widths, rules: usize) -> Vec<Record> {
+    let mut records = before_policies(random, of, most_links(of) * 6 / 7, rules, &[]);
+    for record in records.iter_mut().filter(|record| record[0] > 2) {
+        for action in record[9..21].chunks_exact_mut(3).filter(|action| action[0] == 2) {
+            action.copy_from_slice(&set(0, 0));
+        }
+    }
+    records
+}
+
 /// The widths of a largest network.
 pub const LARGEST: Widths = Widths { h: 1, p: 4, w: 4 };
 
