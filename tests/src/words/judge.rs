@@ -1,7 +1,7 @@
 //! The verdict on a network: every node of a policy as a plane.
 
 use super::network::Network;
-use super::planes::{close, collect, exchange, first, has_bit, none, whole, zip, Row};
+use super::planes::{close, collect, exchange, first, has_bit, none, whole, with_bit, zip, Row};
 use super::steps;
 use crate::records::Record;
 use crate::second::judge::Breach;
@@ -58,7 +58,7 @@ impl<const W: usize> Known<'_, W> {
         let all = first(states);
         let [_, _, kind, one, other, ..] = *node;
         match kind {
-            0 => spread(&collect(states, |state| state >> other & 1 == 1), one, plane),
+            0 => spread(&with_bit(other, states), one, plane),
             1 => {
                 plane.copy_from_slice(self.steps);
                 take_of([one, other], plane);

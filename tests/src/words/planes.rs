@@ -24,6 +24,16 @@ pub fn whole<const W: usize>(is_true: bool, states: usize) -> Row<W> {
     }
 }
 
+/// Those of so many states whose number has a bit: 2^bit in turn have it not and have it.
+pub fn with_bit<const W: usize>(bit: u8, states: usize) -> Row<W> {
+    let row = std::array::from_fn(|place| match bit {
+        ..6 => (u64::MAX / ((1 << (1 << bit)) + 1)) << (1 << bit),
+        _ if place >> (bit - 6) & 1 == 1 => u64::MAX,
+        _ => 0,
+    });
+    zip(&row, &first(states), |mine, all| mine & all)
+}
+
 /// The states below a number that are so.
 pub fn collect<const W: usize>(states: usize, is_so: impl Fn(usize) -> bool) -> Row<W> {
     let mut row = none();
@@ -60,11 +70,11 @@ pub fn close<const W: usize>(plane: &mut [Row<W>]) {
 pub fn exchange<const W: usize>(plane: &mut [Row<W>]) {
     for one in 0..W {
         for other in 0..=one {
-            let [mut upper, mut lower] = [block(plane, one, other), block(plane, other, one)];
-            transpose(&mut upper);
-            transpose(&mut lower);
-            put_block(plane, other, one, &upper);
-            put_block(plane, one, other, &lower);
+            let exchanged = transposed(block(plane, one, other));
+            if one != other {
+                put_block(plane, one, other, &transposed(block(plane, other, one)));
+            }
+            put_block(plane, other, one, &exchanged);
         }
     }
 }
@@ -84,8 +94,8 @@ fn put_block<const W: usize>(plane: &mut [Row<W>], rows: usize, word: usize, blo
     }
 }
 
-/// Exchanges rows and columns of 64 times 64 bits: halves first, then quarters, down to single bits.
-fn transpose(block: &mut [u64; 64]) {
+/// Rows and columns of 64 times 64 bits exchanged: halves first, then quarters, down to single bits.
+fn transposed(mut block: [u64; 64]) -> [u64; 64] {
     let mut mask = u64::MAX;
     for width in [32, 16, 8, 4, 2, 1] {
         mask ^= mask << width;
@@ -98,4 +108,5 @@ fn transpose(block: &mut [u64; 64]) {
             }
         }
     }
+    block
 }
