@@ -1,3 +1,4 @@
 -- Laws that several proofs of this crate use.
+pub mod Exchanging
 pub mod LinesLaid
 pub mod Quantified

@@ -2,19 +2,19 @@
 use mathlib.Core.Path.{_≡_}
 use mathlib.Core.Bool.{Bool, true}
 use mathlib.Core.List.{List, [], _∷_}
-use mathlib.Core.Logic.{_↔_}
+use mathlib.Core.Logic.{_↔_, _⊎_}
 use Prim.Native.Nat.{ℕ, _+_, _*_, _<_}
 use lib.ListN.{length, getD}
 use Rattle.planes.specs.Plane.{bit, cell, On, planeSize}
 use Rattle.records.specs.Policy.{Var, X, Y}
 use Rattle.closure.specs.Walk.{Walk}
 use Rattle.truth.specs.Truth.{value, withX, withY}
-use Rattle.nodes.specs.Shapes.{over, Outside}
+use Rattle.nodes.specs.Shapes.{over, Outside, Source}
 use Rattle.nodes.specs.declared.lines.Op.{Op}
 use Rattle.nodes.specs.declared.forms.Form.{Form}
 use Rattle.nodes.specs.declared.forms.Form.the-variants.{OfX, OfY, Both, Turned}
 use Rattle.nodes.specs.declared.forms.Way.{Way}
-use Rattle.nodes.specs.declared.forms.Way.the-variants.{OverX, OverY, Straight, Exchanged}
+use Rattle.nodes.specs.declared.forms.Way.the-variants.{OverX, OverY, Straight, Exchanged, FirstTurned, SecondTurned}
 
 -- the test of a form with X = x, Y = y: a bit of a line over X, of a line over Y, of a plane, of a plane with X and Y exchanged
 abbrev pub tests : Form → List ℕ → ℕ → ℕ → ℕ → Bool
@@ -45,12 +45,18 @@ formOf code own size = getD (OfX own ∷ OfX own ∷ OfY own ∷ Both own ∷ Tu
 unfoldable pub turnCode : ℕ → ℕ
 turnCode code = getD (2 ∷ 2 ∷ 1 ∷ 4 ∷ 3 ∷ 6 ∷ 5 ∷ 8 ∷ []) code 7
 
--- two forms are taken as lines over X, or over Y, only if both are
+-- two forms are taken as lines over X, or over Y, only if both are, and one is exchanged only if it stands exchanged
 abbrev pub Pairs : Form → Form → Way → Type 0
 Pairs a b OverX = (a ≡ OfX (place a)) × (b ≡ OfX (place b))
 Pairs a b OverY = (a ≡ OfY (place a)) × (b ≡ OfY (place b))
 Pairs a b Straight = Unit {0}
 Pairs a b Exchanged = Unit {0}
+Pairs a b FirstTurned = a ≡ Turned (place a)
+Pairs a b SecondTurned = b ≡ Turned (place b)
+
+-- a form is read while the plane at base is laid line by line: it shares no byte with it, or is the plane itself
+abbrev pub Readable : List ℕ → ℕ → ℕ → Form → Type 0
+Readable bytes pitch base f = Source bytes pitch base (place f) ⊎ (f ≡ Both base)
 
 -- a form with the variable v running over every state
 abbrev pub ranged : Op → Var → Form → List ℕ → ℕ → ℕ → ℕ → Bool

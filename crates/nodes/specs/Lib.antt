@@ -2,4 +2,5 @@
 pub mod Shapes
 pub mod Forms
 pub mod Node
+pub mod Swapped
 pub mod Laws

@@ -2,7 +2,7 @@
 ghost use mathlib.Core.Path.{_≡_};
 ghost use Prim.Native.Nat.{ℕ, _*_, _<_};
 ghost use Rattle.nodes.specs.Shapes.{Plane};
-ghost use Rattle.nodes.specs.declared.forms.Form.the-variants.{OfX, OfY, Turned};
+ghost use Rattle.nodes.specs.declared.forms.Form.the-variants.{OfX, OfY, Both, Turned};
 ghost use Rattle.nodes.specs.Forms.{turned, formOf, turnCode, tests, place, Pairs};
 
 // A line over X, a line over Y, a plane, a plane with X and Y exchanged; with the byte at which it starts.
@@ -85,12 +85,15 @@ pub fn test(work: &[u8], f: Form, x: usize, y: usize, pitch: usize) -> bool
     }
 }
 
-// How two forms are taken together: as lines over X, as lines over Y, as planes, as planes with X and Y exchanged.
+// How two forms are taken together: as lines over X, as lines over Y, as planes, as planes with X and Y exchanged, as planes
+// of which the first, or the second, is to be exchanged before.
 pub enum Way {
     OverX,
     OverY,
     Straight,
     Exchanged,
+    FirstTurned,
+    SecondTurned,
 }
 
 // A line over X beside another form.
@@ -117,6 +120,18 @@ fn beside_y(b: Form) -> Way
     }
 }
 
+// A plane beside another form.
+fn beside_plane(b: Form) -> Way
+    ensures { λ r. ⌜ ((at : ℕ) → Pairs (Both at) b r) ⌝ }
+{
+    match b {
+        Form::OfX(_) => Way::Straight,
+        Form::OfY(_) => Way::Straight,
+        Form::Both(_) => Way::Straight,
+        Form::Turned(_) => Way::SecondTurned,
+    }
+}
+
 // A plane with X and Y exchanged beside another form.
 fn beside_turned(b: Form) -> Way
     ensures { λ r. ⌜ ((at : ℕ) → Pairs (Turned at) b r) ⌝ }
@@ -124,7 +139,7 @@ fn beside_turned(b: Form) -> Way
     match b {
         Form::OfX(_) => Way::Exchanged,
         Form::OfY(_) => Way::Exchanged,
-        Form::Both(_) => Way::Straight,
+        Form::Both(_) => Way::FirstTurned,
         Form::Turned(_) => Way::Exchanged,
     }
 }
@@ -136,7 +151,7 @@ pub fn pairing(a: Form, b: Form) -> Way
     match a {
         Form::OfX(_) => beside_x(b),
         Form::OfY(_) => beside_y(b),
-        Form::Both(_) => Way::Straight,
+        Form::Both(_) => beside_plane(b),
         Form::Turned(_) => beside_turned(b),
     }
 }

@@ -1,4 +1,5 @@
 // The tests of a policy's node, in the work buffer.
+pub mod exchange;
 pub mod forms;
 pub mod lines;
 pub mod node;

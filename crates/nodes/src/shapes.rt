@@ -10,7 +10,8 @@ ghost use Rattle.records.specs.Policy.{varOf};
 ghost use Rattle.truth.specs.Truth.{value};
 ghost use Rattle.nodes.specs.Shapes.{opBool, over, Quantifies, Line, Plane, Source};
 ghost use Rattle.nodes.specs.declared.forms.Form.the-variants.{Both};
-ghost use Rattle.nodes.specs.Forms.{tests, place, Stands, ranged, arranged, Reached, Closes, Reaches};
+ghost use Rattle.nodes.specs.Forms.{tests, place, Readable, Stands, ranged, arranged, Reached, Closes, Reaches};
+use crate::exchange;
 use crate::forms;
 use crate::forms::Form;
 use crate::forms::Way;
@@ -61,11 +62,11 @@ fn joined(work: &[u8], o: Op, a: Form, b: Form, x: usize, pitch: usize) -> [u8; 
     lines::join(o, &p, &q)
 }
 
-// The plane at base becomes the operation on two forms.
+// The plane at base becomes the operation on two forms, of which one may be that plane.
 fn combine(work: &mut [u8], o: Op, a: Form, b: Form, base: usize, pitch: usize)
     requires { ⌜ Plane (now work) pitch base ⌝ }
-    requires { ⌜ Source (now work) pitch base (place a) ⌝ }
-    requires { ⌜ Source (now work) pitch base (place b) ⌝ }
+    requires { ⌜ Readable (now work) pitch base a ⌝ }
+    requires { ⌜ Readable (now work) pitch base b ⌝ }
     ensures { λ _. ⌜ Made (λ x y. opBool o (tests a (now (work .entry)) pitch x y) (tests b (now (work .entry)) pitch x y)) pitch base (pitch * 8) (now (work .entry)) (now (work .exit)) ⌝ }
 {
     let mut x: usize = 0;
@@ -120,6 +121,16 @@ pub fn apply(work: &mut [u8], o: Op, a: Form, b: Form, base: usize, pitch: usize
         Way::Exchanged => {
             combine(work, o, forms::turn(a), forms::turn(b), base, pitch);
             4
+        }
+        Way::FirstTurned => {
+            exchange::exchange(work, forms::start(a), base, pitch);
+            combine(work, o, Form::Both(base), b, base, pitch);
+            3
+        }
+        Way::SecondTurned => {
+            exchange::exchange(work, forms::start(b), base, pitch);
+            combine(work, o, a, Form::Both(base), base, pitch);
+            3
         }
     }
 }

@@ -41,7 +41,7 @@ fn lowest(v: u64) -> usize
 }
 
 // The first state from k on of the line of pitch bytes at a.
-fn next_at(p: &[u8], a: usize, pitch: usize, k: usize) -> usize
+pub fn next_at(p: &[u8], a: usize, pitch: usize, k: usize) -> usize
     requires { ⌜ (a + pitch ≤ length (now p)) × (pitch ≤ 128) × (pitch % 8 ≡ 0) ⌝ }
     ensures { λ r. ⌜ First (now (p .entry)) a pitch k r ⌝ }
 {

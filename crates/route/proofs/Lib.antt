@@ -6,4 +6,3 @@ pub mod Reading
 pub mod Rounds
 pub mod Showing
 pub mod StepPlane
-pub mod Turning

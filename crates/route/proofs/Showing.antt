@@ -12,7 +12,8 @@ use native.Mathlib.Omega.{arith}
 use lib.ListN.{length, getD}
 use lib.Seq.{ext-getD}
 use Rattle.planes.specs.Plane.{cell, planeSize}
-use Rattle.planes.specs.Lines.{Cleared}
+use Rattle.planes.specs.Lines.{Cleared, Made}
+use Rattle.planes.specs.Laws.Lines.{plane-kept}
 use Rattle.records.specs.Lists.{member}
 use Rattle.records.specs.Record.{Net, records}
 use Rattle.records.specs.Widths.{states, withinLimits, widthsOf, planeBytes}
@@ -22,6 +23,7 @@ use Rattle.records.specs.Laws.States.{whole-bytes, few-states}
 use Rattle.rows.specs.Rows.{workNeeded}
 use Rattle.rows.specs.Refusal.{checkRefusal}
 use Rattle.scan.specs.declared.Layout.{Layout}
+use Rattle.passes.specs.Into.{Apart}
 use Rattle.groups.specs.Adds.{lineBytes}
 use Rattle.steps.specs.Step.{next, Step}
 use Rattle.steps.specs.Filled.{Filled}
@@ -38,9 +40,7 @@ use Rattle.route.specs.Route.{Is}
 use Rattle.route.specs.Laws.Meant.{is-same}
 use Rattle.route.specs.Answer.{found, noRoute, refused, routeAnswerOf}
 use Rattle.route.specs.Call.{ofRoute, withRoute, RouteCall, networkOf, row14, row15, routeRow, routeRefusal, routeFor, routeAnswer, listAfter, workAfter, RoutePromised}
-use Rattle.route.specs.Turned.{TwoPlanes, Turned}
 use Rattle.route.specs.Search.{Searchable, Steps, Drawn, entries, Shown}
-use Rattle.route.proofs.Turning.{same-steps}
 
 -- two lists with the same bytes
 same-bytes : (k : ℕ) (a b c : List ℕ) → WorkBytes k a b → WorkBytes k a c → b ≡ c
@@ -89,17 +89,21 @@ module _ (n : ℕ) (l : Layout) (store work : List ℕ) (J : Judgeable n l store
     small = omega (arith, states-are, few-states w within)
 
     -- the steps that were filled can be exchanged
-    pub turnable : TwoPlanes pitch b
-    turnable = record { small = small; room = omega (arith, room, J .room, F .len) }
+    pub exchangeable : Apart 0 (planeSize pitch) pitch (length b)
+    exchangeable = record { narrow = small; first = omega (arith, room, J .room, F .len); second = omega (arith, room, J .room, F .len); apart = inl (omega arith) }
 
-    module _ (c : List ℕ) (T : Turned pitch (pitch * 8) 0 b c) where
+    module _ (c : List ℕ) (T : Made (λ x y. cell b 0 pitch y x) pitch (planeSize pitch) (pitch * 8) b c) where
+      -- the steps are still those of before
+      same-steps : (x y : ℕ) → x < pitch * 8 → y < pitch * 8 → cell c 0 pitch x y ≡ cell b 0 pitch x y
+      same-steps = plane-kept 0 pitch b c (λ m lo hi. T .under m (omega arith))
+
       -- and then be searched
       searchable : Searchable pitch c
       searchable =
           record {
             small = small;
             room = omega (arith, room, J .room, F .len, T .len);
-            turned = λ x y hx hy. T .done x y hx hy (inl hy) ∙ sym (same-steps pitch (pitch * 8) 0 b c T y x hy hx);
+            turned = λ x y hx hy. T .here x y hx hy ∙ sym (same-steps y x hy hx);
           }
 
       -- from one state to another, into a list with room for the longest route
@@ -113,7 +117,7 @@ module _ (n : ℕ) (l : Layout) (store work : List ℕ) (J : Judgeable n l store
       steps-are : (x y : ℕ) → x < pitch * 8 → y < pitch * 8 → Steps c pitch x y ↔ Step net x y
       unfolding Step
       steps-are x y hx hy =
-          let q = same-steps pitch (pitch * 8) 0 b c T x y hx hy in
+          let q = same-steps x y hx hy in
           let s = subst (λ (k : ℕ). Steps b k x y ↔ (member y (next net x) ≡ true)) (sym line-is) (λ t. sym f ∙ t, λ t. f ∙ t) in
           (λ t. s .0 (sym q ∙ t), λ t. q ∙ s .1 t)
         where
@@ -147,7 +151,7 @@ module _ (n : ℕ) (l : Layout) (store work : List ℕ) (J : Judgeable n l store
                   within = λ j h. ap (λ (m : ℕ). getD d m 0) (sym (zero-add j)) ∙ C .inside j (omega (arith, h, q));
                   behind = λ j h.
                       C .over j (omega (arith, h, q))
-                      ∙ T .behind j (omega (arith, h, room))
+                      ∙ T .over j (omega (arith, h, room))
                       ∙ F .over j (omega (arith, h, two-planes, ap (λ (m : ℕ). m * lineBytes w) bits));
                 }
 

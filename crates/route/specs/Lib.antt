@@ -7,6 +7,5 @@ pub mod InNet
 pub mod Answer
 pub mod Call
 pub mod Told
-pub mod Turned
 pub mod Search
 pub mod Example

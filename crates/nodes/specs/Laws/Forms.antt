@@ -7,7 +7,7 @@ use Prim.Native.Nat.{ℕ, zero, suc, _+_, _*_, _≤_, _<_}
 use native.Mathlib.Omega.{arith}
 use lib.ListN.{length, getD, List·getD-eq-default}
 use Rattle.planes.specs.Lines.{Made, Put}
-use Rattle.planes.specs.Plane.{bit, planeSize}
+use Rattle.planes.specs.Plane.{bit, cell, planeSize}
 use Rattle.planes.specs.Laws.Places.{line-before}
 use Rattle.planes.specs.Laws.Lines.{line-kept, plane-kept, put-bit}
 use Rattle.records.specs.Policy.{Var, X, Y, varOf}
@@ -237,3 +237,20 @@ source-plane bytes pitch base p h S = record { small = h; within = S .within }
 -- two planes that share no byte
 pub lie-apart : (bytes : List ℕ) (pitch base p : ℕ) → Plane bytes pitch base → Source bytes pitch base p → Apart p base pitch (length bytes)
 lie-apart bytes pitch base p P S = record { narrow = P .small; first = S .within; second = P .within; apart = S .apart }
+
+-- the plane at p was laid exchanged at base: a form that stood exchanged is the plane at base, and another is as before
+module _ (p pitch base : ℕ) (a m : List ℕ) (E : Made (λ x y. cell a p pitch y x) pitch base (pitch * 8) a m) where
+  pub turned-here : (f : Form) → p ≡ place f → f ≡ Turned (place f) → (x y : ℕ) → x < pitch * 8 → y < pitch * 8 → tests (Both base) m pitch x y ≡ tests f a pitch x y
+  turned-here f q e x y hx hy = E .here x y hx hy ∙ ap (λ (n : ℕ). cell a n pitch y x) q ∙ sym (ap (λ (g : Form). tests g a pitch x y) e)
+
+  pub other-same : (g : Form) → Source a pitch base (place g) → (x y : ℕ) → x < pitch * 8 → y < pitch * 8 → tests g m pitch x y ≡ tests g a pitch x y
+  other-same g S = tests-kept pitch a m g (λ n lo hi. ⊎-elim (λ q. E .under n (omega arith)) (λ q. E .over n (omega arith)) (S .apart))
+
+  pub then-made : (h g : ℕ → ℕ → Bool) (b : List ℕ) → ((x y : ℕ) → x < pitch * 8 → y < pitch * 8 → h x y ≡ g x y) → Made h pitch base (pitch * 8) m b → Stands g 3 pitch base a b
+  unfolding formOf
+  then-made h g b e M = record {
+    len = M .len ∙ E .len;
+    named = omega arith;
+    here = λ x y hx hy. M .here x y hx hy ∙ e x y hx hy;
+    rest = λ n o. beside-plane h pitch base m b M n o ∙ beside-plane (λ x y. cell a p pitch y x) pitch base a m E n o;
+  }

@@ -1,13 +1,15 @@
 -- `nodes::shapes::apply` meets its contract.
 use borrow.Author.Needs.{needs}
-use mathlib.Core.Path.{sym, ap, ap₂, _∙_}
+use mathlib.Core.Path.{refl, sym, ap, ap₂, _∙_}
+use mathlib.Core.Logic.{inl, inr}
 use denote.Ref.{now}
 use Rattle.planes.specs.Plane.{bit}
 use Prim.Native.Nat.{ℕ, _+_, _*_}
 use Rattle.nodes.specs.declared.forms.Form.{Form}
 use Rattle.nodes.specs.Shapes.{opBool}
 use Rattle.nodes.specs.Forms.{tests}
-use Rattle.nodes.specs.Laws.Forms.{source-plane, stands-as, made-straight, made-exchanged, turned-tests, turned-place}
+use Rattle.nodes.specs.Laws.PlaneShapes.{plane-in, source-in}
+use Rattle.nodes.specs.Laws.Forms.{source-plane, lie-apart, stands-as, made-straight, made-exchanged, turned-tests, turned-place, turned-here, other-same, then-made}
 use Rattle.nodes.proofs.shapes.apply.Statement.{statement}
 use Rattle.nodes.proofs.shapes.apply.Tie as tie
 
@@ -25,10 +27,31 @@ joined-lines-requires-2 c κs =
       rw (c .start4 .ensures) (source-plane _ _ _ _ (P .0 .small) (P .1 .1)),
     )
 
+combine-requires : tie.Need-combine-requires
+combine-requires c κs = let P = c .before .before .before .before .before .pre in (P .0, (inl (P .1 .0), inl (P .1 .1)))
+
 combine-requires-2 : tie.Need-combine-requires-2
 combine-requires-2 c κs =
     let P = c .before .before .before .before .before .before .before .pre in
-    (P .0, (rw (c .before .turn .ensures, turned-place) (P .1 .0), rw (c .turn2 .ensures, turned-place) (P .1 .1)))
+    (P .0, (inl (rw (c .before .turn .ensures, turned-place) (P .1 .0)), inl (rw (c .turn2 .ensures, turned-place) (P .1 .1))))
+
+exchange-requires : tie.Need-exchange-requires
+exchange-requires c κs = let P = c .before .before .before .before .before .before .pre in rw (c .start5 .ensures) (lie-apart _ _ _ _ (P .0) (P .1 .0))
+
+combine-requires-3 : tie.Need-combine-requires-3
+combine-requires-3 c κs =
+    let P = c .before .before .before .before .before .before .before .before .before .before .pre in
+    let e = c .before .before .before .exchange .ensures .len in
+    (plane-in _ _ _ _ e (P .0), (inr refl, inl (source-in _ _ _ _ _ e (P .1 .1))))
+
+exchange-requires-2 : tie.Need-exchange-requires-2
+exchange-requires-2 c κs = let P = c .before .before .before .before .before .before .pre in rw (c .start6 .ensures) (lie-apart _ _ _ _ (P .0) (P .1 .1))
+
+combine-requires-4 : tie.Need-combine-requires-4
+combine-requires-4 c κs =
+    let P = c .before .before .before .before .before .before .before .before .before .before .pre in
+    let e = c .before .before .before .exchange2 .ensures .len in
+    (plane-in _ _ _ _ e (P .0), (inl (source-in _ _ _ _ _ e (P .1 .0)), inr refl))
 
 returns : tie.Need-returns
 returns c =
@@ -73,5 +96,23 @@ returns-4 c =
     (ap (λ (f : Form). tests f bytes pitch y x) (c .before .before .before .turn2 .ensures) ∙ turned-tests (at-start .args .b) bytes pitch y x))
     (made-exchanged _ _ _ _ _ (c .before .before .combine2 .ensures))
 
+returns-5 : tie.Need-returns-5
+returns-5 c =
+    let at-start = c .before .before .before .before .before .before .before .before .before .before .before .before .before in
+    let turned = rw (c .before .before .before .before .before .before .before .before .before .enum-told5 .given .1) at (c .before .before .before .before .before .before .before .before .before .before .before .pairing .ensures) in
+    let E = c .before .before .before .before .before .before .exchange .ensures in
+    then-made _ _ _ _ _ E _ _ _
+    (λ x y hx hy. ap₂ (opBool (at-start .args .o)) (turned-here _ _ _ _ _ E (at-start .args .a) (c .before .before .before .before .before .before .before .start5 .ensures) turned x y hx hy) (other-same _ _ _ _ _ E (at-start .args .b) (at-start .pre .1 .1) x y hx hy))
+    (c .before .before .combine3 .ensures)
+
+returns-6 : tie.Need-returns-6
+returns-6 c =
+    let at-start = c .before .before .before .before .before .before .before .before .before .before .before .before .before in
+    let turned = rw (c .before .before .before .before .before .before .before .before .before .enum-told6 .given .1) at (c .before .before .before .before .before .before .before .before .before .before .before .pairing .ensures) in
+    let E = c .before .before .before .before .before .before .exchange2 .ensures in
+    then-made _ _ _ _ _ E _ _ _
+    (λ x y hx hy. ap₂ (opBool (at-start .args .o)) (other-same _ _ _ _ _ E (at-start .args .a) (at-start .pre .1 .0) x y hx hy) (turned-here _ _ _ _ _ E (at-start .args .b) (c .before .before .before .before .before .before .before .start6 .ensures) turned x y hx hy))
+    (c .before .before .combine4 .ensures)
+
 pub apply-spec : {M : Type 1} → statement M
-apply-spec = tie.close (tie.spec (λ c κs. search needs) (λ c. search needs) (λ c κs. search needs) (λ c κs. search needs) joined-lines-requires (λ c κs. search needs) (λ c. search needs) (λ c κs. search needs) (λ c κs. search needs) joined-lines-requires-2 (λ c κs. search needs) (λ c. search needs) (λ c κs. search needs) (λ c. search needs) (λ c κs. search needs) (λ c κs. search needs) combine-requires-2 (λ c. search needs) returns (λ c. search needs) returns-2 (λ c. search needs) returns-3 (λ c. search needs) returns-4)
+apply-spec = tie.close (tie.spec (λ c κs. search needs) (λ c. search needs) (λ c κs. search needs) (λ c κs. search needs) joined-lines-requires (λ c κs. search needs) (λ c. search needs) (λ c κs. search needs) (λ c κs. search needs) joined-lines-requires-2 (λ c κs. search needs) (λ c. search needs) combine-requires (λ c. search needs) (λ c κs. search needs) (λ c κs. search needs) combine-requires-2 (λ c. search needs) (λ c κs. search needs) exchange-requires combine-requires-3 (λ c. search needs) (λ c κs. search needs) exchange-requires-2 combine-requires-4 (λ c. search needs) returns (λ c. search needs) returns-2 (λ c. search needs) returns-3 (λ c. search needs) returns-4 (λ c. search needs) returns-5 (λ c. search needs) returns-6)

@@ -9,7 +9,7 @@ use Rattle.planes.specs.Laws.Planes.{made-none}
 use Rattle.nodes.specs.Shapes.{opBool}
 use Rattle.nodes.specs.Forms.{tests}
 use Rattle.nodes.specs.Laws.LineBits.{line-as}
-use Rattle.nodes.proofs.LinesLaid.{laid-more, source-there, form-kept}
+use Rattle.nodes.proofs.LinesLaid.{laid-more, readable-there, form-kept}
 use Rattle.nodes.proofs.shapes.combine.Statement.{statement}
 use Rattle.nodes.proofs.shapes.combine.Tie as tie
 
@@ -30,10 +30,10 @@ joined-requires : tie.Need-joined-requires Inv-loop μ-loop
 joined-requires c κs =
     let at-loop = c .before .before in
     let at-start = at-loop .before .before in
-    let small = at-start .pre .0 .small in
+    let P = at-start .pre in
     let taken = c .before .loop-test .taken in (
-      source-there _ _ _ _ _ _ (at-loop .loop .inv .1) taken _ small (at-start .pre .1 .0),
-      (source-there _ _ _ _ _ _ (at-loop .loop .inv .1) taken _ small (at-start .pre .1 .1), taken),
+      readable-there _ _ _ _ _ _ (at-loop .loop .inv .1) taken (at-start .args .a) (P .0) (P .1 .0),
+      (readable-there _ _ _ _ _ _ (at-loop .loop .inv .1) taken (at-start .args .b) (P .0) (P .1 .1), taken),
     )
 
 loop-again : tie.Need-loop-again Inv-loop μ-loop
@@ -45,7 +45,7 @@ loop-again c =
       omega (arith, taken),
       laid-more _ _ _ _ _ _ _ _ M (c .before .before .put-line .ensures)
           (line-as _ _ _ _
-          (λ y hy. ap₂ (opBool (at-start .args .o)) (form-kept _ _ _ _ _ _ M taken (at-start .args .a) (at-start .pre .1 .0) _ y taken hy) (form-kept _ _ _ _ _ _ M taken (at-start .args .b) (at-start .pre .1 .1) _ y taken hy))
+          (λ y hy. ap₂ (opBool (at-start .args .o)) (form-kept _ _ _ _ _ _ M taken (at-start .args .a) (at-start .pre .1 .0) y hy) (form-kept _ _ _ _ _ _ M taken (at-start .args .b) (at-start .pre .1 .1) y hy))
           (c .before .before .before .before .before .joined .ensures)),
     )
 
