@@ -3,9 +3,10 @@ use mathlib.Core.Path.{_≡_}
 use mathlib.Core.Bool.{Bool, true, false, not, _&&_, _||_}
 use mathlib.Core.List.{List}
 use mathlib.Core.Logic.{_⊎_}
-use Prim.Native.Nat.{ℕ, _+_, _*_, _^_, _≤_, _<_}
+use Prim.Native.Nat.{ℕ, zero, suc, _+_, _*_, _^_, _≤_, _<_}
 use lib.ListN.{length, getD}
 use lib.Bits.{bitAnd, bitOr, bitXor}
+use Rattle.planes.specs.Bit.{bitOf}
 use Rattle.planes.specs.Plane.{bit, planeSize}
 use Rattle.truth.specs.Computed.{anyBelow, allBelow}
 use Rattle.nodes.specs.declared.lines.Op.{Op}
@@ -54,6 +55,13 @@ unitByte o = fullByte (unit o)
 abbrev pub weightIf : Bool → ℕ → ℕ
 weightIf true i = 2 ^ i
 weightIf false i = 0
+
+-- byte j of the line that tests bit i: the tests of the numbers from j * 8 on
+abbrev pub bitByte : ℕ → ℕ → ℕ
+bitByte zero j = 170
+bitByte (suc zero) j = 204
+bitByte (suc (suc zero)) j = 240
+bitByte (suc (suc (suc i))) j = fullByte (bitOf j i)
 
 -- the first n bits of a line are the tests f
 pub record Line (f : ℕ → Bool) (n : ℕ) (line : List ℕ) : Type 0 where

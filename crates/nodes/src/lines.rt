@@ -4,7 +4,7 @@ ghost use Prim.Native.Nat.{_*_, _/_, _≤_, _<_};
 ghost use lib.ListN.{length};
 ghost use Rattle.planes.specs.Bit.{bitOf};
 ghost use Rattle.planes.specs.Plane.{bit};
-ghost use Rattle.nodes.specs.Shapes.{opByte, unitByte, over, Quantifies, weightIf, fullByte, Line, Joined, Pushed};
+ghost use Rattle.nodes.specs.Shapes.{opByte, unitByte, over, Quantifies, weightIf, fullByte, bitByte, Line, Joined, Pushed};
 
 // An operation on tests.
 pub enum Op {
@@ -76,16 +76,29 @@ pub fn push(r: &mut [u8; 128], z: usize, t: bool)
     or_bit(r, z, t);
 }
 
+// Byte j of the line that tests bit i.
+fn bit_byte(i: usize, j: usize) -> u8
+    requires { ⌜ i < 64 ⌝ }
+    ensures { λ r. ⌜ r ≡ bitByte i j ⌝ }
+{
+    match i {
+        0 => 170,
+        1 => 204,
+        2 => 240,
+        3.. => full((j >> (i - 3)) % 2 == 1),
+    }
+}
+
 // Bit i of each of the first s states.
 pub fn bits(i: usize, s: usize) -> [u8; 128]
     requires { ⌜ (i < 64) × (s ≤ 1024) ⌝ }
     ensures { λ r. ⌜ Line (λ z. bitOf z i) s r ⌝ }
 {
     let mut r = [0u8; 128];
-    let mut z: usize = 0;
-    while z < s {
-        push(&mut r, z, (z >> i) % 2 == 1);
-        z += 1;
+    let mut j: usize = 0;
+    while j < (s + 7) / 8 {
+        r[j] = bit_byte(i, j);
+        j += 1;
     }
     r
 }

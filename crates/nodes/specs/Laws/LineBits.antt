@@ -1,10 +1,10 @@
--- Operations on the bits of a byte and of a line; a line that is made bit by bit.
+-- Operations on the bits of a byte and of a line; a line that is made byte by byte, or bit by bit.
 use mathlib.Core.Path.{_≡_, refl, sym, ap, _∙_}
 use mathlib.Core.Bool.{Bool, true, false, not, _||_, or-true, or-false}
 use mathlib.Core.List.{List}
 use mathlib.Core.Logic.{_⊎_, inl, inr}
-use Prim.Native.Nat.{ℕ, _+_, _/_, _%_, _^_, _≤_, _<_}
-use native.Mathlib.Nat.{not-suc-le-zero}
+use Prim.Native.Nat.{ℕ, zero, suc, _+_, _-_, _*_, _/_, _%_, _^_, _≤_, _<_}
+use native.Mathlib.Nat.{not-suc-le-zero, le-of-suc-le-suc}
 use native.Mathlib.Omega.{arith}
 use borrow.Author.Count.{below-more}
 use borrow.Author.Tests.{eqb-true}
@@ -15,11 +15,11 @@ use lib.Bits.{bitOr, bitXor, xor-shr, xor-mod, or-zero-r}
 use Rattle.planes.specs.Bit.{bitOf}
 use Rattle.planes.specs.Plane.{bit}
 use Rattle.planes.specs.Laws.Lines.{no-bit}
-use Rattle.planes.specs.Laws.Bits.{bit-and, bit-or, bit-not, bit-zero, digit-cases}
+use Rattle.planes.specs.Laws.Bits.{bit-and, bit-or, bit-not, bit-zero, bit-block, bit-high, digit-cases}
 use Rattle.planes.proofs.StoredBit.{bit-set}
 use Rattle.nodes.specs.declared.lines.Op.{Op}
 use Rattle.nodes.specs.declared.lines.Op.the-variants.{Not, And, Or}
-use Rattle.nodes.specs.Shapes.{opBool, opByte, fullByte, weightIf, Line, Joined, Pushed}
+use Rattle.nodes.specs.Shapes.{opBool, opByte, fullByte, weightIf, bitByte, Line, Joined, Pushed}
 
 pub full-bit : (t : Bool) (i : ℕ) → i < 8 → bitOf (fullByte t) i ≡ t
 full-bit true i h = bit-not 8 0 i (omega arith) h ∙ ap not (bit-zero i)
@@ -66,6 +66,60 @@ unfolding bit
 full-line t b y e h =
     ap (λ (c : ℕ). bitOf c (y % 8)) (getD-replicate 128 (y / 8) b 0 (omega arith) ∙ e)
     ∙ full-bit t (y % 8) (omega arith)
+
+-- the three lowest bits of a number are bits of three bytes
+abbrev Low : ℕ → Type 0
+Low t = (bitOf 170 t ≡ bitOf t 0) × (bitOf 204 t ≡ bitOf t 1) × (bitOf 240 t ≡ bitOf t 2)
+
+low-bytes : (t : ℕ) → t < 8 → Low t
+unfolding bitOf
+low-bytes =
+    more 7 (more 6 (more 5 (more 4 (more 3 (more 2 (more 1 (more 0 (λ m h. absurd (not-suc-le-zero h)) same) same) same) same) same) same) same) same
+  where
+    more : (n : ℕ) → ((m : ℕ) → m < n → Low m) → Low n → (m : ℕ) → m < n + 1 → Low m
+    more = below-more Low
+
+    same : {a b c : Bool} → (a ≡ a) × (b ≡ b) × (c ≡ c)
+    same = (refl, refl, refl)
+
+-- the tests of a byte of the line that tests bit i
+pub byte-tests : (i j t : ℕ) → t < 8 → bitOf (bitByte i j) t ≡ bitOf (j * 8 + t) i
+byte-tests zero j t h = low-bytes t h .0 ∙ sym (bit-block j 3 t 0 (omega arith))
+byte-tests (suc zero) j t h = low-bytes t h .1 ∙ sym (bit-block j 3 t 1 (omega arith))
+byte-tests (suc (suc zero)) j t h = low-bytes t h .2 ∙ sym (bit-block j 3 t 2 (omega arith))
+byte-tests (suc (suc (suc i))) j t h =
+    let e : 3 + i ≡ suc (suc (suc i)) = omega arith in
+    full-bit (bitOf j i) t h ∙ sym (bit-high j 3 t i h) ∙ ap (bitOf (j * 8 + t)) e
+
+pub high-byte : (i j : ℕ) → 2 < i → fullByte (bitOf j (i - 3)) ≡ bitByte i j
+high-byte zero j h = absurd (not-suc-le-zero h)
+high-byte (suc zero) j h = absurd (not-suc-le-zero (le-of-suc-le-suc h))
+high-byte (suc (suc zero)) j h = absurd (not-suc-le-zero (le-of-suc-le-suc (le-of-suc-le-suc h)))
+high-byte (suc (suc (suc i))) j h = let e : suc (suc (suc i)) - 3 ≡ i = omega arith in ap (λ (m : ℕ). fullByte (bitOf j m)) e
+
+-- the first n bytes of a line test bit i
+pub record Bits (i : ℕ) (line : List ℕ) (n : ℕ) : Type 0 where
+  pub is : (j : ℕ) → j < n → getD line j 0 ≡ bitByte i j
+
+pub bits-none : (i : ℕ) (r : List ℕ) → Bits i r 0
+bits-none i r = record { is = λ j h. absurd (not-suc-le-zero h) }
+
+pub bits-more : (i : ℕ) (r : List ℕ) (j v : ℕ) → Bits i r j → j < length r → v ≡ bitByte i j → Bits i (set r j v) (j + 1)
+bits-more i r j v B h e = record {
+  is = below-more (λ (m : ℕ). getD (set r j v) m 0 ≡ bitByte i m) j
+      (λ m hm. getD-set-other r j m v 0 (λ s. omega arith) ∙ B .is m hm)
+      (getD-set-same r j v 0 h ∙ e);
+}
+
+pub bits-line : (i s n : ℕ) (r : List ℕ) → s ≤ n * 8 → Bits i r n → Line (λ z. bitOf z i) s r
+unfolding bit
+bits-line i s n r l B = record {
+  is = λ y h.
+      let e : y / 8 * 8 + y % 8 ≡ y = omega arith in
+      ap (λ (b : ℕ). bitOf b (y % 8)) (B .is (y / 8) (omega arith))
+      ∙ byte-tests i (y / 8) (y % 8) (omega arith)
+      ∙ ap (λ (m : ℕ). bitOf m i) e;
+}
 
 -- the first z bits of a line are f, and the others are not set
 pub record Upto (f : ℕ → Bool) (z : ℕ) (r : List ℕ) : Type 0 where

@@ -1,34 +1,45 @@
--- `verdict::lines::bits` meets its contract. The loop's invariant: the first z bits are made, the others are not set.
+-- `verdict::lines::bits` meets its contract. The loop's invariant: the first j bytes are made.
 use mathlib.Core.Path.{_≡_, refl}
-use Prim.Native.Nat.{_-_, _≤_}
-use Rattle.planes.specs.Bit.{bitOf}
-use Rattle.nodes.specs.Laws.LineBits.{Upto, upto-none, upto-more, upto-all}
+use Prim.Native.Nat.{_+_, _/_, _-_, _≤_}
+use lib.ListN.{length, length-set}
+use Rattle.nodes.specs.Laws.LineBits.{Bits, bits-none, bits-more, bits-line}
 use native.Mathlib.Omega.{arith}
 use Rattle.nodes.proofs.lines.bits.Statement.{statement}
 use Rattle.nodes.proofs.lines.bits.Tie as tie
 
 abbrev Inv-loop : tie.InvT-loop
-Inv-loop i s r₀ z₀ r z = (z ≤ s) × Upto (λ n. bitOf n i) z r
+Inv-loop i s r₀ j₀ r j = (j ≤ (s + 7) / 8) × (length r ≡ 128) × Bits i r j
 
 abbrev μ-loop : tie.MeasureT-loop
-μ-loop i s r₀ z₀ r z = s - z
+μ-loop i s r₀ j₀ r j = (s + 7) / 8 - j
 
 loop-holds : tie.Need-loop-holds Inv-loop μ-loop
-loop-holds c = (omega arith, upto-none _)
+loop-holds c = (omega arith, refl, bits-none _ _)
 
 loop-again : tie.Need-loop-again Inv-loop μ-loop
-unfolding bitOf
 loop-again c =
-    let at-loop = c .before .before .before in
-    (omega arith, upto-more _ _ _ _ _ (at-loop .loop .inv .1) (c .push .ensures) refl)
+    let at-loop = c .before .before in (
+      omega arith,
+      simp length-set (at-loop .loop .inv .1),
+      bits-more _ _ _ _ (at-loop .loop .inv .2) (omega arith) (c .bit-byte .ensures),
+    )
 
 returns : tie.Need-returns Inv-loop μ-loop
 returns c =
     let at-loop = c .before in
-    let e : at-loop .loop .z ≡ at-loop .before .args .s = omega arith in
-    upto-all _ _ _ _ e (at-loop .loop .inv .1)
+    bits-line _ _ _ _ (omega arith) (at-loop .loop .inv .2)
 
 pub bits-spec : {M : Type 1} → statement M
 bits-spec =
     tie.close
-    (tie.spec Inv-loop μ-loop loop-holds (λ c. omega arith) (λ c κs. omega arith) (λ c. omega arith) (λ c. omega arith) loop-again returns)
+    (tie.spec
+    Inv-loop
+    μ-loop
+    loop-holds
+    (λ c. omega arith)
+    (λ c κs. omega arith)
+    (λ c. omega arith)
+    (λ c. omega arith)
+    (λ c. omega arith)
+    loop-again
+    returns)
