@@ -46,7 +46,7 @@ pub fn form_at(codes: &[u8], j: usize, pitch: usize) -> Form
 // its record, ext the line of external states; closed: the second plane is the closure of the first.
 pub fn make(
     work: &mut [u8],
-    ext: [u8; 128],
+    ext: &[u8; 128],
     closed: bool,
     codes: &[u8],
     kind: u8,
@@ -56,7 +56,7 @@ pub fn make(
     pitch: usize,
 ) -> u8
     requires { ⌜ Makeable kind a b k pitch closed (now work) ⌝ }
-    ensures { λ r. ⌜ NodeMade (now (codes .entry)) kind a b k pitch ext (now (work .entry)) r (now (work .exit)) ⌝ }
+    ensures { λ r. ⌜ NodeMade (now (codes .entry)) kind a b k pitch (now (ext .entry)) (now (work .entry)) r (now (work .exit)) ⌝ }
 {
     let base = (k + 2) * (pitch * 8 * pitch);
     let first = form_at(codes, a as usize, pitch);
@@ -64,7 +64,7 @@ pub fn make(
     match kind {
         0 => shapes::bit_line(work, a, b as usize, base, pitch),
         1 => shapes::arrange(work, 5, a, b, base, pitch),
-        2 => shapes::keep(work, ext, a, base, pitch),
+        2 => shapes::keep(work, *ext, a, base, pitch),
         3 => shapes::apply(work, Op::Not, first, first, base, pitch),
         4 => shapes::apply(work, Op::And, first, second, base, pitch),
         5 => shapes::apply(work, Op::Or, first, second, base, pitch),

@@ -39,12 +39,12 @@ fn search(
     store: &[u8],
     end: usize,
     l: Layout,
-    ext: [u8; 128],
+    ext: &[u8; 128],
     closed: bool,
     work: &mut [u8],
     bytes: usize,
 ) -> Judged
-    requires { ⌜ Testable end l bytes (now store) ext closed (now work) ⌝ }
+    requires { ⌜ Testable end l bytes (now store) (now ext) closed (now work) ⌝ }
     ensures { λ r. ⌜ Searched (records end (now (store .entry))) bytes (now (work .entry)) r (now (work .exit)) ⌝ }
 {
     let last = l.groups;
@@ -172,7 +172,7 @@ pub fn judge(store: &[u8], end: usize, l: Layout, work: &mut [u8]) -> Judged
     let ext = externals(store, end, l, states);
     steps::fill_steps(work, 0, store, end, l);
     let closed = close_steps(store, l, work, states / 8);
-    let r = search(store, end, l, ext, closed, work, states / 8);
+    let r = search(store, end, l, &ext, closed, work, states / 8);
     let needed = work_bytes(l.longest, w.plane_bytes());
     planes::clear(work, 0, needed);
     r

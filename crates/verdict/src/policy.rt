@@ -35,7 +35,7 @@ fn node_at(store: &[u8], i: usize) -> Node
 // Makes node k; answers the codes with that of its form.
 fn settle(
     work: &mut [u8],
-    ext: [u8; 128],
+    ext: &[u8; 128],
     closed: bool,
     n: Node,
     pitch: usize,
@@ -43,7 +43,7 @@ fn settle(
     codes: [u8; 32],
 ) -> [u8; 32]
     requires { ⌜ Makeable (n .kind) (n .a) (n .b) k pitch closed (now work) ⌝ }
-    ensures { λ r. ⌜ Settled codes n k pitch ext (now (work .entry)) r (now (work .exit)) ⌝ }
+    ensures { λ r. ⌜ Settled codes n k pitch (now (ext .entry)) (now (work .entry)) r (now (work .exit)) ⌝ }
 {
     let mut next = codes;
     next[k] = node::make(work, ext, closed, &codes, n.kind, n.a, n.b, k, pitch);
@@ -55,15 +55,15 @@ fn eval(
     store: &[u8],
     start: usize,
     count: usize,
-    ext: [u8; 128],
+    ext: &[u8; 128],
     closed: bool,
     work: &mut [u8],
     pitch: usize,
     k: usize,
     codes: [u8; 32],
 ) -> [u8; 32]
-    requires { ⌜ Asked (now store) start count ext closed (now work) pitch k codes ⌝ }
-    ensures { λ r. ⌜ Given (nodesAt (now (store .entry)) start count) pitch ext k codes (now (work .entry)) r (now (work .exit)) ⌝ }
+    requires { ⌜ Asked (now store) start count (now ext) closed (now work) pitch k codes ⌝ }
+    ensures { λ r. ⌜ Given (nodesAt (now (store .entry)) start count) pitch (now (ext .entry)) k codes (now (work .entry)) r (now (work .exit)) ⌝ }
 {
     if codes[k] != 0 {
         return codes;
@@ -107,14 +107,14 @@ pub fn test(
     store: &[u8],
     start: usize,
     count: usize,
-    ext: [u8; 128],
+    ext: &[u8; 128],
     closed: bool,
     work: &mut [u8],
     pitch: usize,
 ) -> Offender
     requires { ⌜ PolicyReady (now store) start count pitch closed (now work) ⌝ }
     requires { ⌜ 0 < count ⌝ }
-    ensures { λ r. ⌜ Tested (nodesAt (now (store .entry)) start count) pitch ext (now (work .entry)) r (now (work .exit)) ⌝ }
+    ensures { λ r. ⌜ Tested (nodesAt (now (store .entry)) start count) pitch (now (ext .entry)) (now (work .entry)) r (now (work .exit)) ⌝ }
 {
     let last = count - 1;
     let codes = eval(

@@ -21,7 +21,7 @@ arrange-requires : tie.Need-arrange-requires
 arrange-requires c κs = let M = c .before .before .before .before .before .before .pre in (own-plane _ _ _ _ _ _ _ M, (plane-after (c .before .before .before .before .before .before .args .pitch) (c .before .before .before .before .before .before .args .k), omega arith))
 
 keep-requires : tie.Need-keep-requires
-keep-requires c κs = own-plane _ _ _ _ _ _ _ (c .before .before .before .before .before .before .pre)
+keep-requires c κs = own-plane _ _ _ _ _ _ _ (c .before .before .before .before .before .before .before .pre)
 
 apply-requires : tie.Need-apply-requires
 unfolding nodeKind
@@ -75,7 +75,7 @@ returns-2 : tie.Need-returns-2
 returns-2 c = step-node _ _ _ _ _ _ _ _ _ _ (c .before .before .before .before .match .keys2) (c .before .before .arrange .ensures)
 
 returns-3 : tie.Need-returns-3
-returns-3 c = external-node _ _ _ _ _ _ _ _ _ _ (c .before .before .before .before .match .keys3) (c .before .before .keep .ensures)
+returns-3 c = external-node _ _ _ _ _ _ _ _ _ _ (c .before .before .before .before .before .match .keys3) (c .before .before .keep .ensures)
 
 returns-4 : tie.Need-returns-4
 returns-4 c = not-node _ _ _ _ _ _ _ _ _ _ (c .before .before .before .before .match .keys4) (rw (c .before .before .before .before .before .before .form-at .ensures) at (c .before .before .apply .ensures))

@@ -15,14 +15,14 @@ use Rattle.verdict.proofs.policy.settle.Reads as settle-reads
 use Rattle.verdict.proofs.policy.+eval.{statement}
 use Rattle.verdict.proofs.policy.+eval.Tie.{close}
 
-abbrev μ-eval : Measures 2 eval-kinds.ps ℕ
+abbrev μ-eval : Measures 3 eval-kinds.ps ℕ
 μ-eval κs a = a .1 .1 .1 .1 .1 .1 .1 .0
 
-abbrev eval-at : ℕ → In 2 eval-kinds.ps
-eval-at t = and 2 eval-kinds.ps (is 2 eval-kinds.ps μ-eval t) eval.Pre
+abbrev eval-at : ℕ → In 3 eval-kinds.ps
+eval-at t = and 3 eval-kinds.ps (is 3 eval-kinds.ps μ-eval t) eval.Pre
 
-abbrev eval-below : ℕ → In 2 eval-kinds.ps
-eval-below t = and 2 eval-kinds.ps (falls 2 eval-kinds.ps _<_ μ-eval t) eval.Pre
+abbrev eval-below : ℕ → In 3 eval-kinds.ps
+eval-below t = and 3 eval-kinds.ps (falls 3 eval-kinds.ps _<_ μ-eval t) eval.Pre
 
 -- the readings of the callees
 abbrev claims : ℕ → eval-lts.Claims

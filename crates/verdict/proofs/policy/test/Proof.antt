@@ -39,7 +39,7 @@ returns c =
     record {
       len = g .worked .len;
       lowest =
-          subst (λ (i : ℕ). LowestTrue (modelAt pitch (at-start .args .ext) (now (at-start .args .work))) (formula (nodesAt store start count) i) (c .lowest-state .result)) q
+          subst (λ (i : ℕ). LowestTrue (modelAt pitch (now (at-start .args .ext)) (now (at-start .args .work))) (formula (nodesAt store start count) i) (c .lowest-state .result)) q
           (lowest-true _ _ _ _ _ _ _ (c .before .before .form-at .ensures) (g .worked .held (count - 1) h (g .made)) (c .lowest-state .result) (c .lowest-state .ensures));
       planes = g .worked .planes;
       behind = g .worked .behind;
