@@ -45,8 +45,9 @@ fn settle(
     requires { ⌜ Makeable (n .kind) (n .a) (n .b) k pitch closed (now work) ⌝ }
     ensures { λ r. ⌜ Settled codes n k pitch (now (ext .entry)) (now (work .entry)) r (now (work .exit)) ⌝ }
 {
+    let code = node::make(work, ext, closed, &codes, n.kind, n.a, n.b, k, pitch);
     let mut next = codes;
-    next[k] = node::make(work, ext, closed, &codes, n.kind, n.a, n.b, k, pitch);
+    next[k] = code;
     next
 }
 
