@@ -1,10 +1,16 @@
-//! Times the library's closure against a plain Rust Warshall on 64-bit words, at 1024 states.
+//! Times the library's closures, by passes into a second plane and by rounds in place, against a plain
+//! Rust Warshall on 64-bit words, at 1024 states.
 use std::hint::black_box;
 use std::time::Instant;
 
 #[link(name = "closure", kind = "static")]
 extern "C" {
-    fn wegbaro_close(work: *mut u8, len: usize, base: usize, w: usize) -> bool;
+    fn wegbaro_close(work: *mut u8, len: usize, base: usize, pitch: usize) -> bool;
+}
+
+#[link(name = "passes", kind = "static")]
+extern "C" {
+    fn wegbaro_close_into(work: *mut u8, len: usize, from: usize, to: usize, pitch: usize) -> bool;
 }
 
 const STATES: usize = 1024;
@@ -110,22 +116,34 @@ fn main() {
         ("dense, 512 picks a state", random(512, &mut r)),
         ("line both ways, shuffled", line(&shuffled(STATES, &mut r))),
     ];
-    println!("| relation on {STATES} states | library, µs | Rust on 64-bit words, µs | ratio |");
-    println!("|---|---|---|---|");
+    println!("| relation on {STATES} states | passes, µs | rounds, µs | Rust on 64-bit words, µs | passes / Rust | rounds / Rust |");
+    println!("|---|---|---|---|---|---|");
     for (name, plane) in &cases {
-        let (mut library, mut rust) = (vec![], vec![]);
+        let (mut passes, mut rounds, mut rust) = (vec![], vec![], vec![]);
         for _ in 0..RUNS {
+            let mut both = black_box([plane.clone(), vec![0; plane.len()]].concat());
             let mut ours = black_box(plane.clone());
             let mut theirs = black_box(words(plane));
-            let mut closed = false;
-            library.push(time(|| {
+            let (mut into, mut closed) = (false, false);
+            passes.push(time(|| {
+                into = unsafe {
+                    wegbaro_close_into(both.as_mut_ptr(), both.len(), 0, plane.len(), BYTES)
+                }
+            }));
+            rounds.push(time(|| {
                 closed = unsafe { wegbaro_close(ours.as_mut_ptr(), ours.len(), 0, BYTES) }
             }));
             rust.push(time(|| warshall(&mut theirs)));
-            assert!(closed, "{name}: not within the buffer");
-            assert_eq!(words(&ours), theirs, "{name}: the two closures differ");
+            assert!(into && closed, "{name}: not within the buffer");
+            assert_eq!(&both[..plane.len()], &plane[..], "{name}: the relation changed");
+            assert_eq!(
+                words(&both[plane.len()..].to_vec()),
+                theirs,
+                "{name}: passes and Rust differ"
+            );
+            assert_eq!(words(&ours), theirs, "{name}: rounds and Rust differ");
         }
-        let (a, b) = (median(library), median(rust));
-        println!("| {name} | {a:.0} | {b:.0} | {:.2} |", a / b);
+        let [a, b, c] = [passes, rounds, rust].map(median);
+        println!("| {name} | {a:.0} | {b:.0} | {c:.0} | {:.2} | {:.2} |", a / c, b / c);
     }
 }

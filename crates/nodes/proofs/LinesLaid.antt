@@ -3,7 +3,7 @@ use mathlib.Core.Path.{_≡_, _∙_}
 use mathlib.Core.Bool.{Bool}
 use mathlib.Core.List.{List}
 use mathlib.Core.Logic.{inl, inr, ⊎-elim}
-use Prim.Native.Nat.{ℕ, _+_, _*_, _≤_, _<_}
+use Prim.Native.Nat.{ℕ, _+_, _*_, _<_}
 use native.Mathlib.Nat.{mul-le-mul-right}
 use native.Mathlib.Omega.{arith}
 use Rattle.planes.specs.Plane.{cell}
@@ -11,7 +11,7 @@ use Rattle.planes.specs.Lines.{Made, Put}
 use Rattle.planes.specs.Laws.Lines.{put-bit, line-kept}
 use Rattle.planes.specs.Laws.Planes.{made-more}
 use Rattle.nodes.specs.declared.forms.Form.{Form}
-use Rattle.nodes.specs.Shapes.{Line, Plane, Source}
+use Rattle.nodes.specs.Shapes.{Line, Plane}
 use Rattle.nodes.specs.Forms.{tests, place, Readable}
 use Rattle.nodes.specs.Laws.Forms.{tests-kept}
 

@@ -4,7 +4,7 @@ ghost use mathlib.Core.Bool.{true};
 ghost use Prim.Native.Nat.{ℕ, _+_, _*_, _%_, _≤_, _<_};
 ghost use lib.ListN.{length, getD};
 ghost use Rattle.planes.specs.Plane.{bit, planeSize};
-ghost use Rattle.planes.specs.Lines.{BitSet, Laid, Loaded, Put};
+ghost use Rattle.planes.specs.Lines.{BitSet, Laid};
 ghost use Rattle.passes.specs.Into.{Apart, ClosedInto, lieApart, ClosedApart};
 ghost use Rattle.passes.specs.Words.{Word, Lowest, First};
 ghost use Rattle.passes.specs.Turns.{Joined, Gathered, Turned, Met, Passed};

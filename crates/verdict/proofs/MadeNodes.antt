@@ -1,6 +1,6 @@
 -- Nodes worked out one after the other.
 use mathlib.Core.Path.{_≡_, refl, sym, ap, subst, _∙_}
-use mathlib.Core.Bool.{Bool, true}
+use mathlib.Core.Bool.{Bool}
 use mathlib.Core.List.{List, []}
 use mathlib.Core.Logic.{_↔_, _⊎_, inl, inr, ⊎-elim}
 use Prim.Native.Nat.{ℕ, _+_, _-_, _*_, _≤_, _<_}
@@ -14,7 +14,6 @@ use Rattle.records.specs.Record.{Rec, Net, at}
 use Rattle.records.specs.Policy.{Formula, nodeKind, nodeSays, firstNodes, formula}
 use Rattle.records.specs.Laws.Records.{length-records, byte-of}
 use Rattle.rows.specs.Laws.Formulas.{first-formula}
-use Rattle.closure.specs.Walk.{Walk}
 use Rattle.closure.specs.Laws.Walks.{map-walk}
 use Rattle.nodes.specs.declared.forms.Form.{Form}
 use Rattle.nodes.specs.declared.node.Node.{Node}

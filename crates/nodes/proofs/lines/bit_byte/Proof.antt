@@ -1,4 +1,4 @@
--- `verdict::lines::bit_byte` meets its contract.
+-- `nodes::lines::bit_byte` meets its contract.
 use mathlib.Core.Path.{_∙_}
 use Rattle.planes.specs.Bit.{bitOf}
 use Rattle.nodes.specs.Laws.LineBits.{high-byte}

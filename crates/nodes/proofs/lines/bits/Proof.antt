@@ -1,4 +1,4 @@
--- `verdict::lines::bits` meets its contract. The loop's invariant: the first j bytes are made.
+-- `nodes::lines::bits` meets its contract. The loop's invariant: the first j bytes are made.
 use mathlib.Core.Path.{_≡_, refl}
 use Prim.Native.Nat.{_+_, _/_, _-_, _≤_}
 use lib.ListN.{length, length-set}

@@ -1,4 +1,4 @@
--- `verdict::lines::byte_op` meets its contract.
+-- `nodes::lines::byte_op` meets its contract.
 use borrow.Author.Needs.{needs}
 use Rattle.nodes.proofs.lines.byte_op.Statement.{statement}
 use Rattle.nodes.proofs.lines.byte_op.Tie as tie

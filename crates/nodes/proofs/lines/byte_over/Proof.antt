@@ -1,4 +1,4 @@
--- `verdict::lines::byte_over` meets its contract.
+-- `nodes::lines::byte_over` meets its contract.
 use mathlib.Core.Path.{subst}
 use Rattle.nodes.specs.Shapes.{Quantifies}
 use Rattle.nodes.proofs.Quantified.{byte-all, byte-some}

@@ -1,4 +1,4 @@
--- `verdict::lines::join` meets its contract. The loop's invariant is the contract at the j bytes passed.
+-- `nodes::lines::join` meets its contract. The loop's invariant is the contract at the j bytes passed.
 use mathlib.Core.Path.{_≡_, refl}
 use Prim.Native.Nat.{_-_, _≤_}
 use lib.ListN.{length, length-set}

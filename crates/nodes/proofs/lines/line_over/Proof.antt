@@ -1,4 +1,4 @@
--- `verdict::lines::line_over` meets its contract. The loop's invariant: the bits of b test what the bits of the j bytes passed do.
+-- `nodes::lines::line_over` meets its contract. The loop's invariant: the bits of b test what the bits of the j bytes passed do.
 use mathlib.Core.Path.{_≡_, _∙_}
 use Prim.Native.Nat.{_*_, _-_, _≤_}
 use Rattle.planes.specs.Bit.{bitOf}

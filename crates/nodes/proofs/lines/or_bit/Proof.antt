@@ -1,4 +1,4 @@
--- `verdict::lines::or_bit` meets its contract.
+-- `nodes::lines::or_bit` meets its contract.
 use denote.Ref.{now}
 use Rattle.nodes.specs.Laws.LineBits.{pushed}
 use borrow.Author.Needs.{needs}

@@ -1,4 +1,4 @@
--- `verdict::lines::weight_if` meets its contract.
+-- `nodes::lines::weight_if` meets its contract.
 use mathlib.Core.Path.{_∙_}
 use native.Mathlib.Nat.{one-mul}
 use lib.Pow.{shl-exact}

@@ -1,4 +1,4 @@
--- `verdict::node::operands` meets its contract.
+-- `nodes::node::operands` meets its contract.
 use Rattle.records.specs.Policy.{nodeKind}
 use Rattle.nodes.specs.Laws.NodePlanes.{arity-none, arity-one, arity-two, arity-beyond}
 use native.Mathlib.Omega.{arith}

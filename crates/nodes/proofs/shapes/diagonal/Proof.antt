@@ -1,4 +1,4 @@
--- `verdict::shapes::diagonal` meets its contract.
+-- `nodes::shapes::diagonal` meets its contract.
 use mathlib.Core.Path.{ap, _∙_}
 use Prim.Native.Nat.{ℕ, _+_, _*_}
 use denote.Ref.{now}

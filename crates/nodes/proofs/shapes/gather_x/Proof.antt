@@ -1,4 +1,4 @@
--- `verdict::shapes::gather_x` meets its contract. The loop's invariant is the contract at the x lines passed.
+-- `nodes::shapes::gather_x` meets its contract. The loop's invariant is the contract at the x lines passed.
 use mathlib.Core.Path.{_≡_, sym, ap₂, subst, _∙_}
 use Prim.Native.Nat.{ℕ, _*_, _-_, _≤_}
 use denote.Ref.{now}

@@ -1,7 +1,4 @@
 -- `nodes::shapes::known` meets its contract.
-use borrow.Author.Needs.{needs}
-use native.Mathlib.Omega.{arith}
-use mathlib.Core.Path.{refl}
 use mathlib.Core.Bool.{false≢true}
 use borrow.Author.Tests.{eqb-true}
 use Rattle.nodes.proofs.shapes.known.Statement.{statement}

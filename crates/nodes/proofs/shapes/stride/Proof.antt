@@ -1,4 +1,4 @@
--- `verdict::shapes::stride` meets its contract. The loop's invariant: the first z bits are read, and n is the place of the next.
+-- `nodes::shapes::stride` meets its contract. The loop's invariant: the first z bits are read, and n is the place of the next.
 use mathlib.Core.Path.{_≡_, ap, _∙_}
 use Prim.Native.Nat.{_+_, _*_, _-_, _≤_}
 use native.Mathlib.Nat.{mul-le-mul-right}

@@ -1,7 +1,6 @@
 -- `verdict::judge::judge` meets its contract.
 use native.Mathlib.Omega.{arith}
 use borrow.Author.Needs.{needs}
-use mathlib.Core.Path.{_∙_}
 use Prim.Native.Nat.{_+_, _*_, _^_, _<_}
 use denote.Ref.{now}
 use Rattle.records.specs.Laws.Limits.{limits}
