@@ -70,6 +70,16 @@ fn line(states: &[usize]) -> Plane {
     plane
 }
 
+/// One half of the states all related to each other, the other half a line both ways.
+fn block_and_line(states: &[usize]) -> Plane {
+    let (block, rest) = states.split_at(STATES / 2);
+    let mut plane = line(rest);
+    for (x, y) in block.iter().flat_map(|x| block.iter().map(move |y| (*x, *y))) {
+        relate(&mut plane, x, y);
+    }
+    plane
+}
+
 fn random(degree: usize, r: &mut Random) -> Plane {
     let mut plane = vec![0; STATES * BYTES];
     for x in 0..STATES {
@@ -115,6 +125,7 @@ fn main() {
         ("random, out-degree 4", random(4, &mut r)),
         ("dense, 512 picks a state", random(512, &mut r)),
         ("line both ways, shuffled", line(&shuffled(STATES, &mut r))),
+        ("half a block, half such a line", block_and_line(&shuffled(STATES, &mut r))),
     ];
     println!("| relation on {STATES} states | passes, µs | rounds, µs | Rust on 64-bit words, µs | passes / Rust | rounds / Rust |");
     println!("|---|---|---|---|---|---|");

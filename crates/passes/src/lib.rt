@@ -303,14 +303,21 @@ fn copy_plane(work: &mut [u8], from: usize, to: usize, pitch: usize)
     }
 }
 
-// At most twelve passes; whether the last one was quiet.
-fn settle_all(work: &mut [u8], from: usize, to: usize, pitch: usize, order: &[u16; 1024]) -> bool
+// At most so many passes; whether the last one was quiet.
+fn settle_all(
+    work: &mut [u8],
+    from: usize,
+    to: usize,
+    pitch: usize,
+    order: &[u16; 1024],
+    most: usize,
+) -> bool
     requires { ⌜ Apart from to pitch (length (now work)) ⌝ }
     requires { ⌜ pitch % 8 ≡ 0 ⌝ }
     ensures { λ r. ⌜ Passed from to pitch (now (work .entry)) r (now (work .exit)) ⌝ }
 {
     let mut tries: usize = 0;
-    while tries < 12 {
+    while tries < most {
         if pass(work, from, to, pitch, order) {
             return true;
         }
@@ -319,15 +326,46 @@ fn settle_all(work: &mut [u8], from: usize, to: usize, pitch: usize, order: &[u1
     false
 }
 
-// The same, in the order of a search.
+// The bits of v that are set; any answer below 128 will do.
+fn ones(v: u64) -> usize
+    ensures { λ r. ⌜ r < 128 ⌝ }
+{
+    (u64::count_ones(v) % 128) as usize
+}
+
+// The pairs in every 65th word of the plane at from, which are words of all columns; any answer will do.
+fn sampled(work: &[u8], from: usize, pitch: usize) -> usize
+    requires { ⌜ (from + planeSize pitch ≤ length (now work)) × (pitch ≤ 128) ⌝ }
+{
+    let size = pitch * 8 * pitch;
+    let mut count: usize = 0;
+    let mut at: usize = 0;
+    while at + 8 <= size {
+        count += ones(eight(work, from + at));
+        at += 520;
+    }
+    count
+}
+
+// How many passes a relation with so many sampled pairs is worth: in each pass a line is taken in for each pair, and about half
+// a million of them are allowed in all. Any answer will do.
+fn worth(sample: usize) -> usize {
+    if sample < 672 {
+        return 12;
+    }
+    8066 / sample
+}
+
+// The same, in the order of a search: at most twelve, and fewer for a dense relation.
 fn by_search(work: &mut [u8], from: usize, to: usize, pitch: usize) -> bool
     requires { ⌜ Apart from to pitch (length (now work)) ⌝ }
     requires { ⌜ pitch % 8 ≡ 0 ⌝ }
     ensures { λ r. ⌜ Passed from to pitch (now (work .entry)) r (now (work .exit)) ⌝ }
 {
+    let most = worth(sampled(work, from, pitch));
     let mut order = [0u16; 1024];
     search_order(work, from, pitch, &mut order);
-    settle_all(work, from, to, pitch, &order)
+    settle_all(work, from, to, pitch, &order, most)
 }
 
 // The same, for lines of whole words and at least 16 bytes; where no pass was quiet, the plane at to is copied anew.

@@ -8,10 +8,10 @@ use Rattle.passes.proofs.settle_all.Statement.{statement}
 use Rattle.passes.proofs.settle_all.Tie as tie
 
 abbrev Inv-loop : tie.InvT-loop
-Inv-loop work₀ from to pitch order tries₀ work tries = Passed from to pitch work₀ false work × (tries ≤ 12)
+Inv-loop work₀ from to pitch order most tries₀ work tries = Passed from to pitch work₀ false work × (tries ≤ most)
 
 abbrev μ-loop : tie.MeasureT-loop
-μ-loop work₀ from to pitch order tries₀ work tries = 12 - tries
+μ-loop work₀ from to pitch order most tries₀ work tries = most - tries
 
 loop-holds : tie.Need-loop-holds Inv-loop μ-loop
 loop-holds c = (passed-none _ _ _ _, omega arith)
