@@ -1,12 +1,12 @@
 //! Times the check call and a forwarded command on networks of source document 001's three kinds at
-//! N = 10, with 256 rules and eight policies: the library, plain Rust on 64-bit words in turn, and
-//! decision diagrams on BuDDy where its header is installed. With the argument `--tsv`, only the times.
+//! N = 10, with 256 rules, and at N = 9, with 128, and eight policies: the library, plain Rust on 64-bit
+//! words in turn, and decision diagrams on BuDDy where its header is installed. With the argument
+//! `--tsv`, only the times.
 
-use std::slice;
 use wegbaro_tests::closing::Closing;
 use wegbaro_tests::diagrams::Diagrams;
 use wegbaro_tests::formulas::{and, bit, external, not, or, policy, push, some, tc, Node, X, Y};
-use wegbaro_tests::networks::{Widths, MOST_RULES};
+use wegbaro_tests::networks::Widths;
 use wegbaro_tests::records::{output, rule, Record};
 use wegbaro_tests::times::{both, Form};
 use wegbaro_tools::generate::{generate, Kind, Options};
@@ -14,8 +14,8 @@ use wegbaro_tools::parse::parse;
 use wegbaro_tools::print::whole_records;
 
 const SEED: u64 = 1;
-const SWITCHES: usize = 16;
-const FLOWS: usize = 64;
+/// Switches and flows: the generated networks have N = 10 and N = 9.
+const SIZES: [[usize; 2]; 2] = [[16, 64], [4, 8]];
 const MOST_NODES: usize = 32;
 
 /// A generated network: the records before its policies, and the nodes of these.
@@ -26,8 +26,8 @@ struct Network {
 }
 
 impl Network {
-    fn generated(kind: Kind) -> Network {
-        let options = Options::new(SWITCHES, FLOWS, 0).expect("a size within the limits");
+    fn generated(kind: Kind, [switches, flows]: [usize; 2]) -> Network {
+        let options = Options::new(switches, flows, 0).expect("a size within the limits");
         let parsed = parse(&generate(kind, options, SEED)).expect("a text without a fault");
         let (mut records, _) = whole_records(&parsed.bytes);
         let nodes = records.split_off(records.partition_point(|record| record[0] < 5));
@@ -63,20 +63,20 @@ impl Network {
         forms.into_iter().chain(longer.map(Formula::leaves)).collect()
     }
 
-    /// The network with 256 rules and these policies.
+    /// The network with all its rules and these policies.
     fn with_policies(&self, policies: Vec<Vec<Node>>) -> Vec<Record> {
         let numbered = (0..).zip(policies).flat_map(|(number, nodes)| policy(number, &nodes));
         self.with_all_rules().into_iter().chain(numbered).collect()
     }
 
-    /// The records with 256 rules that do the same: each rule in four, by the low bits of the port, then
-    /// rules of a lower priority that drop as the miss does.
+    /// The records with a quarter as many rules as states that do the same: each rule in four, by the low
+    /// bits of the port, then rules of a lower priority that drop as the miss does.
     fn with_all_rules(&self) -> Vec<Record> {
         let count = self.records.partition_point(|record| record[0] < 4);
         let (front, rules) = self.records.split_at(count);
         let parts = rules.iter().flat_map(|rule| (0..4).map(|value| part(rule, value)));
         let all: Vec<Record> = front.iter().copied().chain(parts).collect();
-        let missing = count + MOST_RULES - all.len();
+        let missing = (count + (1 << (self.of.bits() - 2))).saturating_sub(all.len());
         all.into_iter().chain(self.idle_rules().take(missing)).collect()
     }
 
@@ -206,15 +206,18 @@ fn print_sizes(networks: &[(String, Network)]) {
 fn main() {
     let form = Form::of_arguments();
     let diagrams = Diagrams::compiled(env!("CARGO_TARGET_TMPDIR"));
-    let networks = Kind::ALL.map(|kind| (kind.word().to_uppercase(), Network::generated(kind)));
+    let sized =
+        |size| Kind::ALL.map(|kind| (kind.word().to_uppercase(), Network::generated(kind, size)));
+    let networks: Vec<(String, Network)> = SIZES.into_iter().flat_map(sized).collect();
     if form == Form::Markdown {
         print_sizes(&networks);
     }
-    form.print_head(&[&["network"], &Closing::COLUMNS[..]].concat());
+    form.print_head(&[&["N", "network"], &Closing::COLUMNS[..]].concat());
     for (name, network) in &networks {
+        let first = [network.of.bits().to_string(), name.clone()];
         for (words, records) in timed(network) {
             let times = both(&records, diagrams.as_ref());
-            form.print_row(&[slice::from_ref(name), &words].concat(), &times);
+            form.print_row(&[&first, &words[..]].concat(), &times);
         }
     }
 }
