@@ -1,6 +1,5 @@
 -- From a copy of the relation to its closure.
 use mathlib.Core.Path.{_≡_, refl, sym, ap, subst, _∙_}
-use mathlib.Core.Bool.{Bool, true, false, false≢true}
 use mathlib.Core.List.{List}
 use mathlib.Core.Logic.{_⊎_, inl, inr}
 use Prim.Native.Nat.{ℕ, _+_, _*_, _<_, _≤_}
@@ -16,10 +15,10 @@ use Rattle.planes.specs.Laws.Lines.{line-bit}
 use Rattle.closure.specs.Walk.{Walk}
 use Rattle.closure.specs.Walk.Walk.{one, more}
 use Rattle.closure.specs.Closed.{Closed}
-use Rattle.closure.specs.Laws.Walks.{start, end, join, map-walk}
+use Rattle.closure.specs.Laws.Walks.{start, end, map-walk}
 use Rattle.passes.specs.Into.{Apart, ClosedInto}
-use Rattle.passes.specs.Turns.{Between, Stable, Passed}
-use Rattle.passes.proofs.Turning.{from-kept}
+use Rattle.passes.specs.Turns.{Between, Stable}
+use Rattle.passes.proofs.Turning.{from-kept, flat}
 
 -- the copy, byte by byte
 module _ (from to pitch j : ℕ) (a l : List ℕ) (A : Apart from to pitch (length a)) (I : Laid (λ i. getD a (from + i) 0) to j a l) (hj : j < planeSize pitch) where
@@ -70,7 +69,7 @@ module _ (from to pitch : ℕ) (a l : List ℕ) (C : Laid (λ i. getD a (from + 
   }
 
   -- so does the relation that was copied anew
-  copied-anew : (start : List ℕ) → Apart from to pitch (length start) → Between from to pitch start a → Between from to pitch start l
+  pub copied-anew : (start : List ℕ) → Apart from to pitch (length start) → Between from to pitch start a → Between from to pitch start l
   copied-anew start A B = record {
     len = C .len ∙ B .len;
     sound = λ x y hx hy t. one hx hy (sym (is x y hx hy) ∙ t);
@@ -82,20 +81,12 @@ module _ (from to pitch : ℕ) (a l : List ℕ) (C : Laid (λ i. getD a (from + 
       is : (x y : ℕ) → x < pitch * 8 → y < pitch * 8 → cell l to pitch x y ≡ cell start from pitch x y
       is x y hx hy = copied-cell x y hx hy ∙ from-kept from to pitch start a A B x y hx hy
 
-  -- passes in vain
-  pub passed-anew : (before : List ℕ) (q : Bool) → Apart from to pitch (length before) → Passed from to pitch before q a → Passed from to pitch before false l
-  passed-anew before q A P = record {
-    len = C .len ∙ P .len;
-    between = λ start B. copied-anew start (subst (λ (n : ℕ). Apart from to pitch n) (B .len) A) (P .between start B);
-    stable = λ e. absurd (false≢true e);
-  }
-
 -- a relation between R and its closure of which every line is stable is the closure
-module _ (from to pitch : ℕ) (a l : List ℕ) (A : Apart from to pitch (length a)) (B : Between from to pitch a l) (S : (x : ℕ) → x < pitch * 8 → Stable from to pitch l x) where
+module _ (from to pitch : ℕ) (a l : List ℕ) (B : Between from to pitch a l) (S : (x : ℕ) → x < pitch * 8 → Stable to pitch l x) where
   complete : {x y : ℕ} → Walk (pitch * 8) (On a from pitch) x y → On l to pitch x y
   complete (one {a = x} {b = y} hx hy r) = B .grows x y hx hy r
   complete (more {a = x} {b = z} {c = y} hx r p) =
-      S x hx z y (start p) (end p) (from-kept from to pitch a l A B x z hx (start p) ∙ r) (complete p)
+      S x hx z y (start p) (end p) (B .grows x z hx (start p) r) (complete p)
 
   pub stable-closed : ClosedInto from to pitch a l
   stable-closed = record {
@@ -104,11 +95,6 @@ module _ (from to pitch : ℕ) (a l : List ℕ) (A : Apart from to pitch (length
     under = B .under;
     over = B .over;
   }
-
--- a walk whose steps are walks
-flat : {s : ℕ} {R Q : ℕ → ℕ → Type 0} → ((x y : ℕ) → x < s → y < s → Q x y → Walk s R x y) → {x y : ℕ} → Walk s Q x y → Walk s R x y
-flat f (one {a = x} {b = y} hx hy r) = f x y hx hy r
-flat f (more {a = x} {b = z} hx r p) = join (f x z hx (start p) r) (flat f p)
 
 -- a relation between R and its closure has the closure of R
 pub between-closed : (from to pitch : ℕ) (a l m : List ℕ) → Between from to pitch a l → Closed to pitch l m → ClosedInto from to pitch a m

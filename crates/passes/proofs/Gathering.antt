@@ -1,23 +1,27 @@
--- A turn of the loop that ORs the lines of a line's states into a copy of another.
+-- The lines that a search takes in.
 use mathlib.Core.Path.{_≡_, refl, sym, ap, subst, _∙_}
 use mathlib.Core.Bool.{Bool, true, _||_}
 use mathlib.Core.List.{List}
 use mathlib.Core.Logic.{_⊎_, inl, inr, ⊎-elim}
 use Prim.Native.Nat.{ℕ, _+_, _*_, _/_, _%_, _<_, _≤_}
 use native.Mathlib.Nat.{not-suc-le-zero}
-use native.Mathlib.Decide.{decLt}
+use native.Mathlib.Decide.{ℕ-discrete}
 use native.Mathlib.Omega.{arith}
 use borrow.Author.Count.{below-more}
-use lib.ListN.{length, getD, set}
+use lib.ListN.{length, getD, set, replicate}
 use lib.Seq.{getD-set-same, getD-set-other}
-use lib.Bits.{bitOr, bitXor, bitAnd, or-add-and, and-le-l, and-le-r, xor-add-and}
+use lib.Bits.{bitOr}
 use Rattle.planes.specs.Bit.{bitOf}
 use Rattle.planes.specs.Plane.{bit, cell, On}
+use Rattle.planes.specs.Lines.{BitSet}
 use Rattle.planes.specs.Laws.Bits.{bit-or}
 use Rattle.planes.specs.Laws.Places.{bit-at, in-line}
+use Rattle.planes.specs.Laws.Lines.{no-bit}
 use Rattle.planes.specs.Laws.Tests.{not-both, or-left, or-right, or-cases}
-use Rattle.passes.specs.Words.{First}
-use Rattle.passes.specs.Turns.{Joined, Gathered}
+use Rattle.closure.specs.Walk.{Walk}
+use Rattle.closure.specs.Walk.Walk.{one}
+use Rattle.closure.specs.Laws.Walks.{join}
+use Rattle.passes.specs.Turns.{Joined, Open, Taken, Through, Searched}
 
 -- the bytes below j of a line have had those from at on ORed in, the others not yet
 pub record Joining (bytes : List ℕ) (at j : ℕ) (a l : List ℕ) : Type 0 where
@@ -43,72 +47,88 @@ pub joining-all : (bytes : List ℕ) (at pitch j : ℕ) (a l : List ℕ) → Joi
 joining-all bytes at pitch j a l I h = record { inside = λ i k. I .done i (omega arith) }
 
 -- the bits of a line that was ORed
-joined-bit : (bytes : List ℕ) (at pitch : ℕ) (a l : List ℕ) → Joined bytes at pitch a l → (y : ℕ) → y < pitch * 8 → bit l y ≡ (bit a y || bit bytes (at * 8 + y))
+pub joined-bit : (bytes : List ℕ) (at pitch : ℕ) (a l : List ℕ) → Joined bytes at pitch a l → (y : ℕ) → y < pitch * 8 → bit l y ≡ (bit a y || bit bytes (at * 8 + y))
 unfolding bit
 joined-bit bytes at pitch a l J y h =
     ap (λ (v : ℕ). bitOf v (y % 8)) (J .inside (y / 8) (in-line pitch y h))
     ∙ bit-or (getD a (y / 8) 0) (getD bytes (at + y / 8) 0) (y % 8)
     ∙ ap (λ (t : Bool). bitOf (getD a (y / 8) 0) (y % 8) || t) (sym (bit-at bytes at y))
 
-pub gathered-none : (bytes : List ℕ) (a to pitch first : ℕ) (line : List ℕ) → First bytes a pitch 0 first → Gathered bytes a to pitch first line line
-gathered-none bytes a to pitch first line F = record {
+-- line k is taken in
+module _ (bytes : List ℕ) (to pitch k : ℕ) (met line done line′ : List ℕ) (J : Joined bytes (to + k * pitch) pitch line line′) where
+  -- k is noted
+  pub taken-one : (done′ : List ℕ) → BitSet k done done′ → Taken bytes to pitch k met line done line′ done′
+  taken-one done′ S = record { joins = joined-bit bytes (to + k * pitch) pitch line line′ J; notes = λ j hj t. go j t (ℕ-discrete j k) }
+    where
+      go : (j : ℕ) → bit done′ j ≡ true → Dec (j ≡ k) → (bit done j ≡ true) ⊎ ((j ≡ k) ⊎ ((bit met k ≡ true) × On bytes to pitch k j))
+      go j t (yes e) = inr (inl e)
+      go j t (no g) = inl (sym (S .others j g) ∙ t)
+
+  -- where k is met, with all its states
+  pub taken-met : (noted done′ : List ℕ) → bit met k ≡ true → BitSet k done noted → Joined bytes (to + k * pitch) pitch noted done′ → Taken bytes to pitch k met line done line′ done′
+  taken-met noted done′ m S N =
+      let T = taken-one noted S in
+      record {
+        joins = T .joins;
+        notes = λ j hj t.
+            ⊎-elim
+            (λ p. T .notes j hj p)
+            (λ p. inr (inr (m, p)))
+            (or-cases (bit noted j) (cell bytes to pitch k j) (sym (joined-bit bytes (to + k * pitch) pitch noted done′ N j hj) ∙ t));
+      }
+
+-- line has kept its states and has got others that a walk leads to, and it has the lines of those that are done
+pub record Searching (bytes : List ℕ) (to pitch : ℕ) (line₀ line done : List ℕ) : Type 0 where
+  pub keeps : (y : ℕ) → y < pitch * 8 → bit line₀ y ≡ true → bit line y ≡ true
+  pub only : (y : ℕ) → y < pitch * 8 → bit line y ≡ true → (bit line₀ y ≡ true) ⊎ ((z : ℕ) × (bit line₀ z ≡ true) × Walk (pitch * 8) (On bytes to pitch) z y)
+  pub has : (z y : ℕ) → z < pitch * 8 → y < pitch * 8 → bit done z ≡ true → On bytes to pitch z y → bit line y ≡ true
+
+pub searching-none : (bytes : List ℕ) (to pitch n : ℕ) (line : List ℕ) → Searching bytes to pitch line line (replicate n 0)
+searching-none bytes to pitch n line = record {
   keeps = λ y h t. t;
   only = λ y h t. inl t;
-  all = λ z y h hz hy s t. not-both s (F .none z (omega arith) h);
+  has = λ z y hz hy s t. not-both s (no-bit n z);
 }
 
-pub gathered-all : (bytes : List ℕ) (a to pitch k : ℕ) (line l : List ℕ) → Gathered bytes a to pitch k line l → pitch * 8 ≤ k → Gathered bytes a to pitch (pitch * 8) line l
-gathered-all bytes a to pitch k line l G h = record { keeps = G .keeps; only = G .only; all = λ z y l hz hy s t. G .all z y (omega arith) hz hy s t }
+-- one more line is taken in
+module _ (bytes : List ℕ) (to pitch k : ℕ) (met line₀ line done line′ done′ : List ℕ) (hk : k < pitch * 8) (on : bit line k ≡ true)
+    (G : Through to pitch met bytes) (I : Searching bytes to pitch line₀ line done) (T : Taken bytes to pitch k met line done line′ done′) where
+  keep : (y : ℕ) → y < pitch * 8 → bit line y ≡ true → bit line′ y ≡ true
+  keep y h t = T .joins y h ∙ or-left (bit line y) (cell bytes to pitch k y) t
 
-module _ (bytes : List ℕ) (a to pitch k r : ℕ) (line l m : List ℕ) (hk : k < pitch * 8) (on : bit bytes (a * 8 + k) ≡ true)
-    (G : Gathered bytes a to pitch k line l) (J : Joined bytes (to + k * pitch) pitch l m) (F : First bytes a pitch (k + 1) r) where
-  now-bit : (y : ℕ) → y < pitch * 8 → bit m y ≡ (bit l y || cell bytes to pitch k y)
-  now-bit y h = joined-bit bytes (to + k * pitch) pitch l m J y h
+  get : (y : ℕ) → y < pitch * 8 → On bytes to pitch k y → bit line′ y ≡ true
+  get y h t = T .joins y h ∙ or-right (bit line y) (cell bytes to pitch k y) t
 
-  keep : (y : ℕ) → y < pitch * 8 → bit l y ≡ true → bit m y ≡ true
-  keep y h t = now-bit y h ∙ or-left (bit l y) (cell bytes to pitch k y) t
+  -- what line k adds is a step further
+  further : (y : ℕ) → y < pitch * 8 → On bytes to pitch k y → (bit line₀ k ≡ true) ⊎ ((z : ℕ) × (bit line₀ z ≡ true) × Walk (pitch * 8) (On bytes to pitch) z k)
+      → (z : ℕ) × (bit line₀ z ≡ true) × Walk (pitch * 8) (On bytes to pitch) z y
+  further y h t (inl p) = (k, p, one hk h t)
+  further y h t (inr p) = (p .0, p .1, join (p .2) (one hk h t))
 
-  more-all : (z y : ℕ) → z < r → z < pitch * 8 → y < pitch * 8 → bit bytes (a * 8 + z) ≡ true → On bytes to pitch z y → Dec (z < k) → Dec (k < z) → bit m y ≡ true
-  more-all z y h hz hy s t (yes p) q = keep y hy (G .all z y p hz hy s t)
-  more-all z y h hz hy s t (no p) (yes q) = not-both s (F .none z (omega arith) h)
-  more-all z y h hz hy s t (no p) (no q) =
-      let e : z ≡ k = omega arith in
-      now-bit y hy ∙ or-right (bit l y) (cell bytes to pitch k y) (subst (λ (n : ℕ). On bytes to pitch n y) e t)
-
-  pub gathered-more : Gathered bytes a to pitch r line m
-  gathered-more = record {
-    keeps = λ y h t. keep y h (G .keeps y h t);
+  pub searching-more : Searching bytes to pitch line₀ line′ done′
+  searching-more = record {
+    keeps = λ y h t. keep y h (I .keeps y h t);
     only = λ y h t.
         ⊎-elim
-        (λ p. G .only y h p)
-        (λ p. inr (k, hk, on, p))
-        (or-cases (bit l y) (cell bytes to pitch k y) (sym (now-bit y h) ∙ t));
-    all = λ z y h hz hy s t. more-all z y h hz hy s t (decLt z k) (decLt k z);
+        (λ p. I .only y h p)
+        (λ p. inr (further y h p (I .only k hk on)))
+        (or-cases (bit line y) (cell bytes to pitch k y) (sym (T .joins y h) ∙ t));
+    has = λ z y hz hy s t. more z y hz hy t (T .notes z hz s);
+  }
+    where
+      more : (z y : ℕ) → z < pitch * 8 → y < pitch * 8 → On bytes to pitch z y → (bit done z ≡ true) ⊎ ((z ≡ k) ⊎ ((bit met k ≡ true) × On bytes to pitch k z)) → bit line′ y ≡ true
+      more z y hz hy t (inl d) = keep y hy (I .has z y hz hy d t)
+      more z y hz hy t (inr (inl e)) = get y hy (subst (λ (n : ℕ). On bytes to pitch n y) e t)
+      more z y hz hy t (inr (inr (m, s))) = get y hy (G k hk m z y hz hy s t)
+
+-- nothing is left, or nothing more may be taken in
+module _ (bytes : List ℕ) (to pitch : ℕ) (line₀ line done : List ℕ) (I : Searching bytes to pitch line₀ line done) where
+  pub searched-all : (k left : ℕ) → Open line done line pitch k → pitch * 8 ≤ k → Searched bytes to pitch line₀ left line
+  searched-all k left O h = record {
+    keeps = I .keeps;
+    only = I .only;
+    closed = λ l z y hz hy s t. I .has z y hz hy (O .none h z hz s s) t;
   }
 
--- a comparison of bytes
-or-zero : (d e : ℕ) → bitOr d e ≡ 0 → (d ≡ 0) × (e ≡ 0)
-or-zero d e h =
-    let p : bitOr d e + bitAnd d e ≡ d + e = or-add-and d e in
-    let q : bitAnd d e ≤ d = and-le-l d e in
-    let r : bitAnd d e ≤ e = and-le-r d e in
-    (omega arith, omega arith)
-
-xor-zero : (d e : ℕ) → bitXor d e ≡ 0 → d ≡ e
-xor-zero d e h =
-    let p : bitXor d e + bitAnd d e * 2 ≡ d + e = xor-add-and d e in
-    let q : bitAnd d e ≤ d = and-le-l d e in
-    let r : bitAnd d e ≤ e = and-le-r d e in
-    omega arith
-
--- where no difference was met, the bytes below j are the same
-abbrev pub Alike : List ℕ → List ℕ → ℕ → ℕ → Type 0
-Alike a b d j = d ≡ 0 → (i : ℕ) → i < j → getD a i 0 ≡ getD b i 0
-
-pub alike-none : (a b : List ℕ) (d : ℕ) → Alike a b d 0
-alike-none a b d e i h = absurd (not-suc-le-zero h)
-
-pub alike-more : (a b : List ℕ) (d j : ℕ) → Alike a b d j → Alike a b (bitOr d (bitXor (getD a j 0) (getD b j 0))) (j + 1)
-alike-more a b d j I e =
-    let z = or-zero d (bitXor (getD a j 0) (getD b j 0)) e in
-    below-more (λ (i : ℕ). getD a i 0 ≡ getD b i 0) j (I (z .0)) (xor-zero (getD a j 0) (getD b j 0) (z .1))
+  pub searched-part : Searched bytes to pitch line₀ 0 line
+  searched-part = record { keeps = I .keeps; only = I .only; closed = λ l. absurd (not-suc-le-zero l) }

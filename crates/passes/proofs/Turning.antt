@@ -1,22 +1,23 @@
--- What a line's turn keeps.
-use mathlib.Core.Path.{_≡_, refl, sym, ap, subst, _∙_}
-use mathlib.Core.Bool.{Bool, true, false, true≢false, false≢true}
+-- What the search from a state keeps.
+use mathlib.Core.Path.{_≡_, refl, sym, subst, _∙_}
+use mathlib.Core.Bool.{Bool, true, false, false≢true}
 use mathlib.Core.List.{List}
 use mathlib.Core.Logic.{_⊎_, inl, inr, ⊎-elim}
-use Prim.Native.Nat.{ℕ, _+_, _*_, _/_, _%_, _<_, _≤_}
+use Prim.Native.Nat.{ℕ, _+_, _*_, _<_, _≤_}
 use native.Mathlib.Decide.{ℕ-discrete}
 use native.Mathlib.Omega.{arith}
-use lib.ListN.{length, getD}
-use Rattle.planes.specs.Bit.{bitOf}
+use lib.ListN.{length, replicate}
 use Rattle.planes.specs.Plane.{bit, cell, On, planeSize}
 use Rattle.planes.specs.Lines.{Put, Loaded, BitSet}
-use Rattle.planes.specs.Laws.Places.{line-before, in-line}
+use Rattle.planes.specs.Laws.Places.{line-before}
 use Rattle.planes.specs.Laws.Lines.{loaded-bit, put-bit, line-apart, plane-apart, no-bit}
 use Rattle.planes.specs.Laws.Tests.{not-both}
-use Rattle.closure.specs.Walk.Walk.{more}
+use Rattle.closure.specs.Walk.{Walk}
+use Rattle.closure.specs.Walk.Walk.{one, more}
+use Rattle.closure.specs.Laws.Walks.{start, join}
 use Rattle.passes.specs.Into.{Apart}
 use Rattle.passes.specs.Words.{First}
-use Rattle.passes.specs.Turns.{Gathered, Between, Stable, Turned, Passed, Passing, Met}
+use Rattle.passes.specs.Turns.{Between, Stable, Through, Searched, Met, MetAll}
 
 -- a line is within the bytes
 pub line-fits : (base pitch x len : ℕ) → base + planeSize pitch ≤ len → x < pitch * 8 → base + x * pitch + pitch ≤ len
@@ -27,120 +28,121 @@ pub from-kept : (from to pitch : ℕ) (a l : List ℕ) → Apart from to pitch (
     → (x y : ℕ) → x < pitch * 8 → y < pitch * 8 → cell l from pitch x y ≡ cell a from pitch x y
 from-kept from to pitch a l A B = plane-apart to (planeSize pitch) a l (B .under) (B .over) from pitch (A .apart)
 
-module _ (from to pitch x : ℕ) (l : List ℕ) (hx : x < pitch * 8) where
-  -- no state: nothing to take in
-  pub turned-none : (first : ℕ) → First l (from + x * pitch) pitch 0 first → pitch * 8 ≤ first → Turned from to pitch x l false l
-  turned-none first F h = record {
-    len = refl;
-    between = λ start B. B;
-    same = λ e. refl;
-    stable = λ e z y hz hy s t. not-both s (F .none z (omega arith) (omega arith));
-  }
+-- a walk whose steps are walks
+pub flat : {s : ℕ} {R Q : ℕ → ℕ → Type 0} → ((x y : ℕ) → x < s → y < s → Q x y → Walk s R x y) → {x y : ℕ} → Walk s Q x y → Walk s R x y
+flat f (one {a = x} {b = y} hx hy r) = f x y hx hy r
+flat f (more {a = x} {b = z} hx r p) = join (f x z hx (start p) r) (flat f p)
 
-  module _ (old line : List ℕ) (L : Loaded (to + x * pitch) pitch l old) (G : Gathered l (from + x * pitch) to pitch (pitch * 8) old line) where
-    -- nothing new
-    alike-bit : ((j : ℕ) → j < pitch → getD line j 0 ≡ getD old j 0) → (y : ℕ) → y < pitch * 8 → bit line y ≡ bit old y
-    unfolding bit
-    alike-bit h y hy = ap (λ (v : ℕ). bitOf v (y % 8)) (h (y / 8) (in-line pitch y hy))
+-- between a relation and its closure
+pub between-none : (to pitch : ℕ) (a : List ℕ) → Between to to pitch a a
+between-none to pitch a = record { len = refl; sound = λ x y hx hy t. one hx hy t; grows = λ x y hx hy t. t; under = λ m h. refl; over = λ m h. refl }
 
-    pub turned-same : ((j : ℕ) → j < pitch → getD line j 0 ≡ getD old j 0) → Turned from to pitch x l false l
-    turned-same h = record {
-      len = refl;
-      between = λ start B. B;
-      same = λ e. refl;
-      stable = λ e z y hz hy s t.
-          sym (loaded-bit (to + x * pitch) pitch l old L y hy) ∙ sym (alike-bit h y hy) ∙ G .all z y hz hz hy s t;
+pub between-more : (from to pitch : ℕ) (a l m : List ℕ) → Between from to pitch a l → Between to to pitch l m → Between from to pitch a m
+between-more from to pitch a l m B C = record {
+  len = C .len ∙ B .len;
+  sound = λ x y hx hy t. flat (B .sound) (C .sound x y hx hy t);
+  grows = λ x y hx hy t. C .grows x y hx hy (B .grows x y hx hy t);
+  under = λ n h. C .under n h ∙ B .under n h;
+  over = λ n h. C .over n h ∙ B .over n h;
+}
+
+-- a line that has the lines of its states has all that a walk leads to
+along : (to pitch k : ℕ) (l : List ℕ) → Stable to pitch l k → {z y : ℕ} → On l to pitch k z → Walk (pitch * 8) (On l to pitch) z y → On l to pitch k y
+along to pitch k l S s (one {a = z} {b = y} hz hy r) = S z y hz hy s r
+along to pitch k l S s (more {a = z} {b = w} hz r p) = along to pitch k l S (S z w hz (start p) s r) p
+
+module _ (to pitch x : ℕ) (met met′ l : List ℕ) (hx : x < pitch * 8) (G : Through to pitch met l) (M : BitSet x met met′) where
+  -- a line without a state
+  pub met-none : (first : ℕ) → First l (to + x * pitch) pitch 0 first → pitch * 8 ≤ first → Met to pitch l met′ l
+  met-none first F h = record { between = between-none to pitch l; through = λ k hk s. go k hk s (ℕ-discrete k x) }
+    where
+      go : (k : ℕ) → k < pitch * 8 → bit met′ k ≡ true → Dec (k ≡ x) → Stable to pitch l k
+      go k hk s (yes e) = λ z y hz hy p q. not-both (subst (λ (n : ℕ). On l to pitch n z) e p) (F .none z (omega arith) (omega arith))
+      go k hk s (no g) = G k hk (sym (M .others k g) ∙ s)
+
+  -- line x is stored
+  module _ (left : ℕ) (old line m : List ℕ) (some : 0 < left) (L : Loaded (to + x * pitch) pitch l old) (S : Searched l to pitch old left line)
+      (P : Put line (to + x * pitch) pitch l m) where
+    was : (y : ℕ) → y < pitch * 8 → bit old y ≡ cell l to pitch x y
+    was y hy = loaded-bit (to + x * pitch) pitch l old L y hy
+
+    here : (y : ℕ) → y < pitch * 8 → cell m to pitch x y ≡ bit line y
+    here y hy = put-bit line (to + x * pitch) pitch l m P y hy
+
+    away : (i y : ℕ) → (i ≡ x → ⊥) → y < pitch * 8 → cell m to pitch i y ≡ cell l to pitch i y
+    away i y g hy = line-apart _ to pitch x l m P i y g hy
+
+    -- line x has no other state than a walk leads to
+    walks : (y : ℕ) → y < pitch * 8 → bit line y ≡ true → On l to pitch x y ⊎ ((z : ℕ) × On l to pitch x z × Walk (pitch * 8) (On l to pitch) z y)
+    walks y hy t =
+        ⊎-elim
+        (λ p. inl (sym (was y hy) ∙ p))
+        (λ p. inr (p .0, sym (was (p .0) (start (p .2))) ∙ p .1, p .2))
+        (S .only y hy t)
+
+    sound : (i y : ℕ) → i < pitch * 8 → y < pitch * 8 → Dec (i ≡ x) → On m to pitch i y → Walk (pitch * 8) (On l to pitch) i y
+    sound i y hi hy (yes e) t =
+        subst (λ (n : ℕ). Walk (pitch * 8) (On l to pitch) n y) (sym e)
+        (⊎-elim
+        (λ p. one hx hy p)
+        (λ p. more hx (p .1) (p .2))
+        (walks y hy (sym (here y hy) ∙ subst (λ (n : ℕ). On m to pitch n y) e t)))
+    sound i y hi hy (no g) t = one hi hy (sym (away i y g hy) ∙ t)
+
+    grows : (i y : ℕ) → y < pitch * 8 → Dec (i ≡ x) → On l to pitch i y → On m to pitch i y
+    grows i y hy (yes e) t =
+        subst (λ (n : ℕ). On m to pitch n y) (sym e)
+        (here y hy ∙ S .keeps y hy (was y hy ∙ subst (λ (n : ℕ). On l to pitch n y) e t))
+    grows i y hy (no g) t = away i y g hy ∙ t
+
+    -- a line that was met has what line x got
+    reach : (k y : ℕ) → k < pitch * 8 → y < pitch * 8 → bit met k ≡ true → On l to pitch k x → bit line y ≡ true → On l to pitch k y
+    reach k y hk hy s p t =
+        ⊎-elim
+        (λ q. G k hk s x y hx hy p q)
+        (λ q. along to pitch k l (G k hk s) (G k hk s x (q .0) hx (start (q .2)) p (q .1)) (q .2))
+        (walks y hy t)
+
+    stable : (k : ℕ) → k < pitch * 8 → bit met′ k ≡ true → Dec (k ≡ x) → (z y : ℕ) → z < pitch * 8 → y < pitch * 8 → Dec (z ≡ x) → On m to pitch k z → On m to pitch z y → On m to pitch k y
+    stable k hk s (yes e) z y hz hy (yes f) p q = subst (λ (n : ℕ). On m to pitch n y) (f ∙ sym e) q
+    stable k hk s (yes e) z y hz hy (no g) p q =
+        subst (λ (n : ℕ). On m to pitch n y) (sym e)
+        (here y hy ∙ S .closed some z y hz hy (sym (here z hz) ∙ subst (λ (n : ℕ). On m to pitch n z) e p) (sym (away z y g hy) ∙ q))
+    stable k hk s (no f) z y hz hy (yes e) p q =
+        away k y f hy
+        ∙ reach k y hk hy (sym (M .others k f) ∙ s)
+        (sym (away k x f hx) ∙ subst (λ (n : ℕ). On m to pitch k n) e p)
+        (sym (here y hy) ∙ subst (λ (n : ℕ). On m to pitch n y) e q)
+    stable k hk s (no f) z y hz hy (no g) p q =
+        away k y f hy ∙ G k hk (sym (M .others k f) ∙ s) z y hz hy (sym (away k z f hz) ∙ p) (sym (away z y g hy) ∙ q)
+
+    pub met-more : Met to pitch l met′ m
+    met-more = record {
+      between = record {
+        len = P .len;
+        sound = λ i y hi hy t. sound i y hi hy (ℕ-discrete i x) t;
+        grows = λ i y hi hy t. grows i y hy (ℕ-discrete i x) t;
+        under = λ n h. P .under n (omega arith);
+        over = λ n h. P .over n (omega (arith, line-before x (pitch * 8) pitch hx));
+      };
+      through = λ k hk s z y hz hy. stable k hk s (ℕ-discrete k x) z y hz hy (ℕ-discrete z x);
     }
 
-    -- line x is stored
-    module _ (m : List ℕ) (P : Put line (to + x * pitch) pitch l m) where
-      keep : (i y : ℕ) → y < pitch * 8 → Dec (i ≡ x) → On l to pitch i y → On m to pitch i y
-      keep i y hy (yes e) t =
-          let s : On l to pitch x y = subst (λ (n : ℕ). On l to pitch n y) e t in
-          subst (λ (n : ℕ). On m to pitch n y) (sym e)
-          (put-bit line (to + x * pitch) pitch l m P y hy ∙ G .keeps y hy (loaded-bit (to + x * pitch) pitch l old L y hy ∙ s))
-      keep i y hy (no g) t = line-apart _ to pitch x l m P i y g hy ∙ t
+-- a search that was given up
+pub met-same : (to pitch : ℕ) (met l : List ℕ) → Through to pitch met l → Met to pitch l met l
+met-same to pitch met l G = record { between = between-none to pitch l; through = G }
 
-      only : (i y : ℕ) → y < pitch * 8 → Dec (i ≡ x) → On m to pitch i y
-          → On l to pitch i y ⊎ ((z : ℕ) × (z < pitch * 8) × On l from pitch i z × On l to pitch z y)
-      only i y hy (yes e) t =
-          let s : On m to pitch x y = subst (λ (n : ℕ). On m to pitch n y) e t in
-          ⊎-elim
-          (λ p. inl (subst (λ (n : ℕ). On l to pitch n y) (sym e) (sym (loaded-bit (to + x * pitch) pitch l old L y hy) ∙ p)))
-          (λ p. inr (p .0, p .1, subst (λ (n : ℕ). On l from pitch n (p .0)) (sym e) (p .2), p .3))
-          (G .only y hy (sym (put-bit line (to + x * pitch) pitch l m P y hy) ∙ s))
-      only i y hy (no g) t = inl (sym (line-apart _ to pitch x l m P i y g hy) ∙ t)
+-- no line is met yet
+pub met-start : (to pitch n : ℕ) (l : List ℕ) → Met to pitch l (replicate n 0) l
+met-start to pitch n l = record { between = between-none to pitch l; through = λ x hx s. not-both s (no-bit n x) }
 
-      pub turned-put : Apart from to pitch (length l) → Turned from to pitch x l true m
-      turned-put A = record {
-        len = P .len;
-        between = λ start B.
-            let A′ : Apart from to pitch (length start) = subst (λ (n : ℕ). Apart from to pitch n) (B .len) A in
-            record {
-              len = P .len ∙ B .len;
-              sound = λ i y hi hy t.
-                  ⊎-elim
-                  (λ p. B .sound i y hi hy p)
-                  (λ p. more hi (sym (from-kept from to pitch start l A′ B i (p .0) hi (p .1)) ∙ p .2) (B .sound (p .0) y (p .1) hy (p .3)))
-                  (only i y hy (ℕ-discrete i x) t);
-              grows = λ i y hi hy t. keep i y hy (ℕ-discrete i x) (B .grows i y hi hy t);
-              under = λ n h. P .under n (omega arith) ∙ B .under n h;
-              over = λ n h. P .over n (omega (arith, line-before x (pitch * 8) pitch hx)) ∙ B .over n h;
-            };
-        same = λ e. absurd (true≢false e);
-        stable = λ e. absurd (true≢false e);
-      }
+-- one line after another
+pub met-on : (to pitch : ℕ) (a met met′ l m : List ℕ) → Met to pitch a met l → Met to pitch l met′ m → Met to pitch a met′ m
+met-on to pitch a met met′ l m A B = record { between = between-more to to pitch a l m (A .between) (B .between); through = B .through }
 
--- a pass
-pub passing-none : (from to pitch n : ℕ) (a : List ℕ) → Passing from to pitch a true (lib.ListN.replicate n 0) a
-passing-none from to pitch n a = record {
-  len = refl;
-  between = λ start B. B;
-  stable = λ e x hx s. not-both s (no-bit n x);
-}
+-- all of them, or not
+pub met-all : (to pitch : ℕ) (a met l : List ℕ) (all : Bool) → Met to pitch a met l → (all ≡ true → (y : ℕ) → y < pitch * 8 → bit met y ≡ true) → MetAll to pitch a all l
+met-all to pitch a met l all A h = record { between = A .between; stable = λ t x hx. A .through x hx (h t x hx) }
 
-module _ (from to pitch x : ℕ) (a seen seen′ l m : List ℕ) (S : BitSet x seen seen′) where
-  pub passing-loud : (quiet : Bool) → Passing from to pitch a quiet seen l → Turned from to pitch x l true m → Passing from to pitch a false seen′ m
-  passing-loud quiet I T = record {
-    len = T .len ∙ I .len;
-    between = λ start B. T .between start (I .between start B);
-    stable = λ e. absurd (false≢true e);
-  }
-
-  pub passing-quiet : (quiet : Bool) → Passing from to pitch a quiet seen l → Turned from to pitch x l false m → Passing from to pitch a quiet seen′ m
-  passing-quiet quiet I T = record {
-    len = T .len ∙ I .len;
-    between = λ start B. T .between start (I .between start B);
-    stable = λ e i hi s. go e i hi s (ℕ-discrete i x);
-  }
-    where
-      go : quiet ≡ true → (i : ℕ) → i < pitch * 8 → bit seen′ i ≡ true → Dec (i ≡ x) → Stable from to pitch m i
-      go e i hi s (yes q) = subst (λ (n : ℕ). Stable from to pitch m n) (sym q) (T .stable refl)
-      go e i hi s (no g) = subst (λ (v : List ℕ). Stable from to pitch v i) (sym (T .same refl)) (I .stable e i hi (sym (S .others i g) ∙ s))
-
-pub met-none : (from to pitch : ℕ) (quiet : Bool) (seen l : List ℕ) → Met from to pitch quiet seen l quiet seen l
-met-none from to pitch quiet seen l = record { len = refl; keeps = λ a I. I }
-
-pub met-loud : (from to pitch x : ℕ) (quiet : Bool) (seen seen′ l m : List ℕ) → BitSet x seen seen′ → Turned from to pitch x l true m → Met from to pitch quiet seen l false seen′ m
-met-loud from to pitch x quiet seen seen′ l m S T = record { len = T .len; keeps = λ a I. passing-loud from to pitch x a seen seen′ l m S quiet I T }
-
-pub met-quiet : (from to pitch x : ℕ) (quiet : Bool) (seen seen′ l m : List ℕ) → BitSet x seen seen′ → Turned from to pitch x l false m → Met from to pitch quiet seen l quiet seen′ m
-met-quiet from to pitch x quiet seen seen′ l m S T = record { len = T .len; keeps = λ a I. passing-quiet from to pitch x a seen seen′ l m S quiet I T }
-
-pub passing-end : (from to pitch : ℕ) (a seen l : List ℕ) (quiet r : Bool) → quiet ≡ true → (r ≡ true → (y : ℕ) → y < pitch * 8 → bit seen y ≡ true)
-    → Passing from to pitch a quiet seen l → Passed from to pitch a r l
-passing-end from to pitch a seen l quiet r q h I = record { len = I .len; between = I .between; stable = λ e x hx. I .stable q x hx (h e x hx) }
-
-pub passing-vain : (from to pitch : ℕ) (a seen l : List ℕ) (quiet : Bool) → Passing from to pitch a quiet seen l → Passed from to pitch a false l
-passing-vain from to pitch a seen l quiet I = record { len = I .len; between = I .between; stable = λ e. absurd (false≢true e) }
-
--- passes
-pub passed-none : (from to pitch : ℕ) (a : List ℕ) → Passed from to pitch a false a
-passed-none from to pitch a = record { len = refl; between = λ start B. B; stable = λ e. absurd (false≢true e) }
-
-pub passed-more : (from to pitch : ℕ) (a l m : List ℕ) (q r : Bool) → Passed from to pitch a q l → Passed from to pitch l r m → Passed from to pitch a r m
-passed-more from to pitch a l m q r P Q = record {
-  len = Q .len ∙ P .len;
-  between = λ start B. Q .between start (P .between start B);
-  stable = Q .stable;
-}
+pub met-no-line : (to pitch : ℕ) (a : List ℕ) → MetAll to pitch a false a
+met-no-line to pitch a = record { between = between-none to pitch a; stable = λ t. absurd (false≢true t) }

@@ -1,23 +1,41 @@
--- What a line's turn, a pass and all passes leave.
+-- What the search from a state leaves, and that from all states.
 use mathlib.Core.Path.{_≡_}
-use mathlib.Core.Bool.{Bool, true, false}
+use mathlib.Core.Bool.{Bool, true, _||_}
 use mathlib.Core.List.{List}
 use mathlib.Core.Logic.{_⊎_}
 use Prim.Native.Nat.{ℕ, _+_, _*_, _<_, _≤_}
 use lib.ListN.{length, getD}
 use lib.Bits.{bitOr}
-use Rattle.planes.specs.Plane.{bit, On, planeSize}
+use Rattle.planes.specs.Plane.{bit, cell, On, planeSize}
 use Rattle.closure.specs.Walk.{Walk}
 
 -- the first pitch bytes of line have had the pitch bytes from at on ORed in
 pub record Joined (bytes : List ℕ) (at pitch : ℕ) (before after : List ℕ) : Type 0 where
   pub inside : (j : ℕ) → j < pitch → getD after j 0 ≡ bitOr (getD before j 0) (getD bytes (at + j) 0)
 
--- line has had the lines ORed in, of the plane at to, of the states below k of the line at a, and of no other
-pub record Gathered (bytes : List ℕ) (a to pitch k : ℕ) (before after : List ℕ) : Type 0 where
-  pub keeps : (y : ℕ) → y < pitch * 8 → bit before y ≡ true → bit after y ≡ true
-  pub only : (y : ℕ) → y < pitch * 8 → bit after y ≡ true → (bit before y ≡ true) ⊎ ((z : ℕ) × (z < pitch * 8) × (bit bytes (a * 8 + z) ≡ true) × On bytes to pitch z y)
-  pub all : (z y : ℕ) → z < k → z < pitch * 8 → y < pitch * 8 → bit bytes (a * 8 + z) ≡ true → On bytes to pitch z y → bit after y ≡ true
+-- r is a state of line that is in among and not in done; at least pitch * 8 where there is none
+pub record Open (line done among : List ℕ) (pitch r : ℕ) : Type 0 where
+  pub set : r < pitch * 8 → bit line r ≡ true
+  pub none : pitch * 8 ≤ r → (j : ℕ) → j < pitch * 8 → bit line j ≡ true → bit among j ≡ true → bit done j ≡ true
+
+-- line has line k of the plane at to; done has no more than k and, where k is met, the states of that line
+pub record Taken (bytes : List ℕ) (to pitch k : ℕ) (met line done line′ done′ : List ℕ) : Type 0 where
+  pub joins : (y : ℕ) → y < pitch * 8 → bit line′ y ≡ (bit line y || cell bytes to pitch k y)
+  pub notes : (j : ℕ) → j < pitch * 8 → bit done′ j ≡ true → (bit done j ≡ true) ⊎ ((j ≡ k) ⊎ ((bit met k ≡ true) × On bytes to pitch k j))
+
+-- line x of the plane at to has the lines of its states
+abbrev pub Stable : ℕ → ℕ → List ℕ → ℕ → Type 0
+Stable to pitch bytes x = (z y : ℕ) → z < pitch * 8 → y < pitch * 8 → On bytes to pitch x z → On bytes to pitch z y → On bytes to pitch x y
+
+-- the lines that are met have the lines of their states
+abbrev pub Through : ℕ → ℕ → List ℕ → List ℕ → Type 0
+Through to pitch met bytes = (x : ℕ) → x < pitch * 8 → bit met x ≡ true → Stable to pitch bytes x
+
+-- line has kept its states and has got others that a walk leads to from one of them; where left is not 0, it has the lines of all its states
+pub record Searched (bytes : List ℕ) (to pitch : ℕ) (line : List ℕ) (left : ℕ) (line′ : List ℕ) : Type 0 where
+  pub keeps : (y : ℕ) → y < pitch * 8 → bit line y ≡ true → bit line′ y ≡ true
+  pub only : (y : ℕ) → y < pitch * 8 → bit line′ y ≡ true → (bit line y ≡ true) ⊎ ((z : ℕ) × (bit line z ≡ true) × Walk (pitch * 8) (On bytes to pitch) z y)
+  pub closed : 0 < left → (z y : ℕ) → z < pitch * 8 → y < pitch * 8 → bit line′ z ≡ true → On bytes to pitch z y → bit line′ y ≡ true
 
 -- the plane at to of now lies between the plane at from of start and its closure; all other bytes are as at the start
 pub record Between (from to pitch : ℕ) (start now : List ℕ) : Type 0 where
@@ -27,30 +45,12 @@ pub record Between (from to pitch : ℕ) (start now : List ℕ) : Type 0 where
   pub under : (m : ℕ) → m < to → getD now m 0 ≡ getD start m 0
   pub over : (m : ℕ) → to + planeSize pitch ≤ m → getD now m 0 ≡ getD start m 0
 
--- line x of the plane at to has the lines of the states that x is related to by the plane at from
-abbrev pub Stable : ℕ → ℕ → ℕ → List ℕ → ℕ → Type 0
-Stable from to pitch bytes x = (z y : ℕ) → z < pitch * 8 → y < pitch * 8 → On bytes from pitch x z → On bytes to pitch z y → On bytes to pitch x y
+-- the plane at to lies between what it was and its closure, and the lines that are met have the lines of their states
+pub record Met (to pitch : ℕ) (before met after : List ℕ) : Type 0 where
+  pub between : Between to to pitch before after
+  pub through : Through to pitch met after
 
--- a turn of line x: where it changed nothing, the line is stable
-pub record Turned (from to pitch x : ℕ) (before : List ℕ) (changed : Bool) (after : List ℕ) : Type 0 where
-  pub len : length after ≡ length before
-  pub between : (start : List ℕ) → Between from to pitch start before → Between from to pitch start after
-  pub same : changed ≡ false → after ≡ before
-  pub stable : changed ≡ false → Stable from to pitch after x
-
--- turns of lines; where the answer is true, every line is stable
-pub record Passed (from to pitch : ℕ) (before : List ℕ) (quiet : Bool) (after : List ℕ) : Type 0 where
-  pub len : length after ≡ length before
-  pub between : (start : List ℕ) → Between from to pitch start before → Between from to pitch start after
-  pub stable : quiet ≡ true → (x : ℕ) → x < pitch * 8 → Stable from to pitch after x
-
--- the same, in the midst of a pass: where it was quiet so far, the lines seen are stable
-pub record Passing (from to pitch : ℕ) (before : List ℕ) (quiet : Bool) (seen after : List ℕ) : Type 0 where
-  pub len : length after ≡ length before
-  pub between : (start : List ℕ) → Between from to pitch start before → Between from to pitch start after
-  pub stable : quiet ≡ true → (x : ℕ) → x < pitch * 8 → bit seen x ≡ true → Stable from to pitch after x
-
--- the turn of a line in a pass
-pub record Met (from to pitch : ℕ) (quiet : Bool) (seen before : List ℕ) (still : Bool) (seen′ after : List ℕ) : Type 0 where
-  pub len : length after ≡ length before
-  pub keeps : (first : List ℕ) → Passing from to pitch first quiet seen before → Passing from to pitch first still seen′ after
+-- the same, with every line met where the answer is true
+pub record MetAll (to pitch : ℕ) (before : List ℕ) (all : Bool) (after : List ℕ) : Type 0 where
+  pub between : Between to to pitch before after
+  pub stable : all ≡ true → (x : ℕ) → x < pitch * 8 → Stable to pitch after x

@@ -1,4 +1,4 @@
-// The closure of one plane in another, by passes over its lines.
+// The closure of one plane in another, by a search from each state over the lines of those before.
 ghost use mathlib.Core.Path.{_≡_};
 ghost use mathlib.Core.Bool.{true};
 ghost use Prim.Native.Nat.{ℕ, _+_, _*_, _%_, _≤_, _<_};
@@ -7,7 +7,7 @@ ghost use Rattle.planes.specs.Plane.{bit, planeSize};
 ghost use Rattle.planes.specs.Lines.{BitSet, Laid};
 ghost use Rattle.passes.specs.Into.{Apart, ClosedInto, lieApart, ClosedApart};
 ghost use Rattle.passes.specs.Words.{Word, Lowest, First};
-ghost use Rattle.passes.specs.Turns.{Joined, Gathered, Turned, Met, Passed};
+ghost use Rattle.passes.specs.Turns.{Joined, Open, Taken, Through, Searched, Met, MetAll};
 
 // A byte as a word.
 fn wide(b: u8) -> u64
@@ -81,19 +81,6 @@ fn or_from(line: &mut [u8; 128], p: &[u8], at: usize, pitch: usize)
     }
 }
 
-// Whether two lines are the same.
-fn same(a: &[u8; 128], b: &[u8; 128]) -> bool
-    ensures { λ r. ⌜ (r ≡ true → (j : ℕ) → j < 128 → getD (now (a .entry)) j 0 ≡ getD (now (b .entry)) j 0) ⌝ }
-{
-    let mut d: u8 = 0;
-    let mut j: usize = 0;
-    while j < 128 {
-        d = d | (a[j] ^ b[j]);
-        j += 1;
-    }
-    d == 0
-}
-
 // Whether all bits of the first pitch bytes of r are set.
 fn all_of(r: &[u8; 128], pitch: usize) -> bool
     requires { ⌜ pitch ≤ 128 ⌝ }
@@ -106,42 +93,6 @@ fn all_of(r: &[u8; 128], pitch: usize) -> bool
         }
         j += 1;
     }
-    true
-}
-
-// ORs into line the lines, of the plane at to, of the states of the line at a, of which first is the first.
-fn take_in(work: &[u8], a: usize, to: usize, pitch: usize, first: usize, line: &mut [u8; 128])
-    requires { ⌜ (a + pitch ≤ length (now work)) × (pitch ≤ 128) × (pitch % 8 ≡ 0) × (to + planeSize pitch ≤ length (now work)) ⌝ }
-    requires { ⌜ First (now work) a pitch 0 first ⌝ }
-    ensures { λ _. ⌜ Gathered (now (work .entry)) a to pitch (pitch * 8) (now (line .entry)) (now (line .exit)) ⌝ }
-{
-    let states = pitch * 8;
-    let mut k = first;
-    while k < states {
-        or_from(line, work, to + k * pitch, pitch);
-        k = next_at(work, a, pitch, k + 1);
-    }
-}
-
-// Line x of the plane at to takes in the lines of the states that x is related to by the plane at from; whether it changed.
-fn settle(work: &mut [u8], from: usize, to: usize, pitch: usize, x: usize) -> bool
-    requires { ⌜ Apart from to pitch (length (now work)) ⌝ }
-    requires { ⌜ (pitch % 8 ≡ 0) × (x < pitch * 8) ⌝ }
-    ensures { λ r. ⌜ Turned from to pitch x (now (work .entry)) r (now (work .exit)) ⌝ }
-{
-    let a = from + x * pitch;
-    let first = next_at(work, a, pitch, 0);
-    if pitch * 8 <= first {
-        return false;
-    }
-    let b = to + x * pitch;
-    let old = planes::load_line(work, b, pitch);
-    let mut line = old;
-    take_in(work, a, to, pitch, first, &mut line);
-    if same(&line, &old) {
-        return false;
-    }
-    planes::put_line(work, b, &line, pitch);
     true
 }
 
@@ -168,49 +119,168 @@ fn entry(list: &[u16; 1024], i: usize) -> usize
     number(list[i])
 }
 
-// The turn of line x in a pass that was quiet so far, or not; whether it still is. Where x is no state, nothing is done.
-fn meet(
+// A state of line that is in among and not in done, or at least pitch * 8 where there is none.
+fn next_open(line: &[u8; 128], done: &[u8; 128], among: &[u8; 128], pitch: usize) -> usize
+    requires { ⌜ (pitch ≤ 128) × (pitch % 8 ≡ 0) ⌝ }
+    ensures { λ r. ⌜ Open (now (line .entry)) (now (done .entry)) (now (among .entry)) pitch r ⌝ }
+{
+    let mut j: usize = 0;
+    while j < pitch {
+        let open = eight(line, j) & eight(among, j) & !eight(done, j);
+        if open != 0 {
+            return j * 8 + lowest(open);
+        }
+        j += 8;
+    }
+    j * 8
+}
+
+// Whether k is a state of line that is not in done.
+fn is_open(line: &[u8; 128], done: &[u8; 128], k: usize, pitch: usize) -> bool
+    requires { ⌜ pitch ≤ 128 ⌝ }
+    ensures { λ r. ⌜ (r ≡ true → (k < pitch * 8) × (bit (now (line .entry)) k ≡ true)) ⌝ }
+{
+    if pitch * 8 <= k {
+        return false;
+    }
+    if planes::get_bit(line, k) {
+        return !planes::get_bit(done, k);
+    }
+    false
+}
+
+// A state of line that is not in done: the one met last or another one that is met, if there is one, since its line has all that
+// can be reached from it.
+fn pick(line: &[u8; 128], done: &[u8; 128], met: &[u8; 128], last: usize, pitch: usize) -> usize
+    requires { ⌜ (pitch ≤ 128) × (pitch % 8 ≡ 0) ⌝ }
+    ensures { λ r. ⌜ Open (now (line .entry)) (now (done .entry)) (now (line .entry)) pitch r ⌝ }
+{
+    if is_open(line, done, last, pitch) {
+        return last;
+    }
+    let k = next_open(line, done, met, pitch);
+    if k < pitch * 8 {
+        return k;
+    }
+    next_open(line, done, line, pitch)
+}
+
+// ORs line k of the plane at to into line. Done is k then, and where k is met, every state of its line.
+fn take(
+    work: &[u8],
+    to: usize,
+    pitch: usize,
+    met: &[u8; 128],
+    k: usize,
+    line: &mut [u8; 128],
+    done: &mut [u8; 128],
+)
+    requires { ⌜ (to + planeSize pitch ≤ length (now work)) × (pitch ≤ 128) × (k < pitch * 8) ⌝ }
+    ensures { λ _. ⌜ Taken (now (work .entry)) to pitch k (now (met .entry)) (now (line .entry)) (now (done .entry)) (now (line .exit)) (now (done .exit)) ⌝ }
+{
+    let at = to + k * pitch;
+    or_from(line, work, at, pitch);
+    mark(done, k);
+    if planes::get_bit(met, k) {
+        or_from(done, work, at, pitch);
+    }
+}
+
+// Takes into line the lines of its states, those that came with them too, at most so many; answers how many may still be taken
+// in, which is 0 where something may be left.
+fn search_line(
+    work: &[u8],
+    to: usize,
+    pitch: usize,
+    met: &[u8; 128],
+    last: usize,
+    line: &mut [u8; 128],
+    most: usize,
+) -> usize
+    requires { ⌜ (to + planeSize pitch ≤ length (now work)) × (pitch ≤ 128) × (pitch % 8 ≡ 0) ⌝ }
+    requires { ⌜ Through to pitch (now met) (now work) ⌝ }
+    ensures { λ r. ⌜ Searched (now (work .entry)) to pitch (now (line .entry)) r (now (line .exit)) ⌝ }
+{
+    let mut done = [0u8; 128];
+    let mut left = most;
+    while 0 < left {
+        let k = pick(line, &done, met, last, pitch);
+        if pitch * 8 <= k {
+            return left;
+        }
+        take(work, to, pitch, met, k, line, &mut done);
+        left -= 1;
+    }
+    0
+}
+
+// Line x of the plane at to gets all that can be reached from x, and x is met then, if enough lines may be taken in; answers how
+// many may still be.
+fn settle(
     work: &mut [u8],
-    from: usize,
     to: usize,
     pitch: usize,
     x: usize,
-    seen: &mut [u8; 128],
-    quiet: bool,
-) -> bool
-    requires { ⌜ Apart from to pitch (length (now work)) ⌝ }
-    requires { ⌜ pitch % 8 ≡ 0 ⌝ }
-    ensures { λ r. ⌜ Met from to pitch quiet (now (seen .entry)) (now (work .entry)) r (now (seen .exit)) (now (work .exit)) ⌝ }
+    last: usize,
+    met: &mut [u8; 128],
+    most: usize,
+) -> usize
+    requires { ⌜ (to + planeSize pitch ≤ length (now work)) × (pitch ≤ 128) × (pitch % 8 ≡ 0) × (x < pitch * 8) ⌝ }
+    requires { ⌜ Through to pitch (now met) (now work) ⌝ }
+    ensures { λ _. ⌜ Met to pitch (now (work .entry)) (now (met .exit)) (now (work .exit)) ⌝ }
 {
-    if pitch * 8 <= x {
-        return quiet;
+    let at = to + x * pitch;
+    if pitch * 8 <= next_at(work, at, pitch, 0) {
+        mark(met, x);
+        return most;
     }
-    if settle(work, from, to, pitch, x) {
-        mark(seen, x);
-        return false;
+    let mut line = planes::load_line(work, at, pitch);
+    let left = search_line(work, to, pitch, met, last, &mut line, most);
+    if left == 0 {
+        return 0;
     }
-    mark(seen, x);
-    quiet
+    planes::put_line(work, at, &line, pitch);
+    mark(met, x);
+    left
 }
 
-// One pass over the lines; whether it met every line and changed none.
-fn pass(work: &mut [u8], from: usize, to: usize, pitch: usize, order: &[u16; 1024]) -> bool
-    requires { ⌜ Apart from to pitch (length (now work)) ⌝ }
-    requires { ⌜ pitch % 8 ≡ 0 ⌝ }
-    ensures { λ r. ⌜ Passed from to pitch (now (work .entry)) r (now (work .exit)) ⌝ }
+// The same; where x is no state, nothing is done.
+fn meet(
+    work: &mut [u8],
+    to: usize,
+    pitch: usize,
+    x: usize,
+    last: usize,
+    met: &mut [u8; 128],
+    most: usize,
+) -> usize
+    requires { ⌜ (to + planeSize pitch ≤ length (now work)) × (pitch ≤ 128) × (pitch % 8 ≡ 0) ⌝ }
+    requires { ⌜ Through to pitch (now met) (now work) ⌝ }
+    ensures { λ _. ⌜ Met to pitch (now (work .entry)) (now (met .exit)) (now (work .exit)) ⌝ }
+{
+    if pitch * 8 <= x {
+        return most;
+    }
+    settle(work, to, pitch, x, last, met, most)
+}
+
+// The lines of the plane at to in this order, with 32 lines for each to take in; whether all are met.
+fn meet_all(work: &mut [u8], to: usize, pitch: usize, order: &[u16; 1024]) -> bool
+    requires { ⌜ (to + planeSize pitch ≤ length (now work)) × (pitch ≤ 128) × (pitch % 8 ≡ 0) ⌝ }
+    ensures { λ r. ⌜ MetAll to pitch (now (work .entry)) r (now (work .exit)) ⌝ }
 {
     let states = pitch * 8;
-    let mut seen = [0u8; 128];
-    let mut quiet = true;
+    let mut met = [0u8; 128];
+    let mut left = states * 32;
+    let mut last: usize = 0;
     let mut i: usize = 0;
     while i < states {
-        quiet = meet(work, from, to, pitch, entry(order, i), &mut seen, quiet);
+        let x = entry(order, i);
+        left = meet(work, to, pitch, x, last, &mut met, left);
+        last = x;
         i += 1;
     }
-    if quiet {
-        return all_of(&seen, pitch);
-    }
-    false
+    all_of(&met, pitch)
 }
 
 // A state that x is related to and that is not in seen, or at least pitch * 8; any answer will do.
@@ -303,98 +373,33 @@ fn copy_plane(work: &mut [u8], from: usize, to: usize, pitch: usize)
     }
 }
 
-// At most so many passes; whether the last one was quiet.
-fn settle_all(
-    work: &mut [u8],
-    from: usize,
-    to: usize,
-    pitch: usize,
-    order: &[u16; 1024],
-    most: usize,
-) -> bool
-    requires { ⌜ Apart from to pitch (length (now work)) ⌝ }
-    requires { ⌜ pitch % 8 ≡ 0 ⌝ }
-    ensures { λ r. ⌜ Passed from to pitch (now (work .entry)) r (now (work .exit)) ⌝ }
+// The plane at to becomes its own closure, if its lines are of whole words and not too many have to be taken in; whether it is
+// that.
+fn by_search(work: &mut [u8], to: usize, pitch: usize) -> bool
+    requires { ⌜ (to + planeSize pitch ≤ length (now work)) × (pitch ≤ 128) ⌝ }
+    ensures { λ r. ⌜ MetAll to pitch (now (work .entry)) r (now (work .exit)) ⌝ }
 {
-    let mut tries: usize = 0;
-    while tries < most {
-        if pass(work, from, to, pitch, order) {
-            return true;
-        }
-        tries += 1;
-    }
-    false
-}
-
-// The bits of v that are set; any answer below 128 will do.
-fn ones(v: u64) -> usize
-    ensures { λ r. ⌜ r < 128 ⌝ }
-{
-    (u64::count_ones(v) % 128) as usize
-}
-
-// The pairs in every 65th word of the plane at from, which are words of all columns; any answer will do.
-fn sampled(work: &[u8], from: usize, pitch: usize) -> usize
-    requires { ⌜ (from + planeSize pitch ≤ length (now work)) × (pitch ≤ 128) ⌝ }
-{
-    let size = pitch * 8 * pitch;
-    let mut count: usize = 0;
-    let mut at: usize = 0;
-    while at + 8 <= size {
-        count += ones(eight(work, from + at));
-        at += 520;
-    }
-    count
-}
-
-// How many passes a relation with so many sampled pairs is worth: in each pass a line is taken in for each pair, and about half
-// a million of them are allowed in all. Any answer will do.
-fn worth(sample: usize) -> usize {
-    if sample < 672 {
-        return 12;
-    }
-    8066 / sample
-}
-
-// The same, in the order of a search: at most twelve, and fewer for a dense relation.
-fn by_search(work: &mut [u8], from: usize, to: usize, pitch: usize) -> bool
-    requires { ⌜ Apart from to pitch (length (now work)) ⌝ }
-    requires { ⌜ pitch % 8 ≡ 0 ⌝ }
-    ensures { λ r. ⌜ Passed from to pitch (now (work .entry)) r (now (work .exit)) ⌝ }
-{
-    let most = worth(sampled(work, from, pitch));
-    let mut order = [0u16; 1024];
-    search_order(work, from, pitch, &mut order);
-    settle_all(work, from, to, pitch, &order, most)
-}
-
-// The same, for lines of whole words and at least 16 bytes; where no pass was quiet, the plane at to is copied anew.
-fn by_passes(work: &mut [u8], from: usize, to: usize, pitch: usize) -> bool
-    requires { ⌜ Apart from to pitch (length (now work)) ⌝ }
-    ensures { λ r. ⌜ Passed from to pitch (now (work .entry)) r (now (work .exit)) ⌝ }
-{
-    if pitch < 16 {
+    if pitch < 8 {
         return false;
     }
     if pitch % 8 != 0 {
         return false;
     }
-    if by_search(work, from, to, pitch) {
-        return true;
-    }
-    copy_plane(work, from, to, pitch);
-    false
+    let mut order = [0u16; 1024];
+    search_order(work, to, pitch, &mut order);
+    meet_all(work, to, pitch, &order)
 }
 
-// The plane at to becomes the closure of the plane at from: by passes, or else by rounds.
+// The plane at to becomes the closure of the plane at from: by search, or else by rounds.
 pub fn close_into(work: &mut [u8], from: usize, to: usize, pitch: usize)
     requires { ⌜ Apart from to pitch (length (now work)) ⌝ }
     ensures { λ _. ⌜ ClosedInto from to pitch (now (work .entry)) (now (work .exit)) ⌝ }
 {
     copy_plane(work, from, to, pitch);
-    if by_passes(work, from, to, pitch) {
+    if by_search(work, to, pitch) {
         return;
     }
+    copy_plane(work, from, to, pitch);
     closure::close(work, to, pitch);
 }
 
