@@ -8,7 +8,7 @@ use native.Mathlib.Nat.{not-suc-le-zero}
 use native.Mathlib.Decide.{ℕ-discrete}
 use native.Mathlib.Omega.{arith}
 use borrow.Author.Count.{below-more}
-use lib.ListN.{length, getD, set, replicate}
+use lib.ListN.{length, getD, set}
 use lib.Seq.{getD-set-same, getD-set-other}
 use lib.Bits.{bitOr}
 use Rattle.planes.specs.Bit.{bitOf}
@@ -16,12 +16,11 @@ use Rattle.planes.specs.Plane.{bit, cell, On}
 use Rattle.planes.specs.Lines.{BitSet}
 use Rattle.planes.specs.Laws.Bits.{bit-or}
 use Rattle.planes.specs.Laws.Places.{bit-at, in-line}
-use Rattle.planes.specs.Laws.Lines.{no-bit}
 use Rattle.planes.specs.Laws.Tests.{not-both, or-left, or-right, or-cases}
 use Rattle.closure.specs.Walk.{Walk}
 use Rattle.closure.specs.Walk.Walk.{one}
 use Rattle.closure.specs.Laws.Walks.{join}
-use Rattle.passes.specs.Turns.{Joined, Open, Taken, Through, Searched}
+use Rattle.passes.specs.Turns.{Joined, Open, Taken, Idle, Through, Searched}
 
 -- the bytes below j of a line have had those from at on ORed in, the others not yet
 pub record Joining (bytes : List ℕ) (at j : ℕ) (a l : List ℕ) : Type 0 where
@@ -83,11 +82,11 @@ pub record Searching (bytes : List ℕ) (to pitch : ℕ) (line₀ line done : Li
   pub only : (y : ℕ) → y < pitch * 8 → bit line y ≡ true → (bit line₀ y ≡ true) ⊎ ((z : ℕ) × (bit line₀ z ≡ true) × Walk (pitch * 8) (On bytes to pitch) z y)
   pub has : (z y : ℕ) → z < pitch * 8 → y < pitch * 8 → bit done z ≡ true → On bytes to pitch z y → bit line y ≡ true
 
-pub searching-none : (bytes : List ℕ) (to pitch n : ℕ) (line : List ℕ) → Searching bytes to pitch line line (replicate n 0)
-searching-none bytes to pitch n line = record {
+pub searching-none : (bytes : List ℕ) (to pitch : ℕ) (idle line : List ℕ) → Idle to pitch idle bytes → Searching bytes to pitch line line idle
+searching-none bytes to pitch idle line I = record {
   keeps = λ y h t. t;
   only = λ y h t. inl t;
-  has = λ z y hz hy s t. not-both s (no-bit n z);
+  has = λ z y hz hy s t. absurd (I z y hz hy s t);
 }
 
 -- one more line is taken in

@@ -17,7 +17,7 @@ use Rattle.closure.specs.Walk.Walk.{one, more}
 use Rattle.closure.specs.Laws.Walks.{start, join}
 use Rattle.passes.specs.Into.{Apart}
 use Rattle.passes.specs.Words.{First}
-use Rattle.passes.specs.Turns.{Between, Stable, Through, Searched, Met, MetAll}
+use Rattle.passes.specs.Turns.{Between, Stable, Idle, Noted, Through, Searched, Met, MetAll}
 
 -- a line is within the bytes
 pub line-fits : (base pitch x len : ℕ) → base + planeSize pitch ≤ len → x < pitch * 8 → base + x * pitch + pitch ≤ len
@@ -52,14 +52,6 @@ along to pitch k l S s (one {a = z} {b = y} hz hy r) = S z y hz hy s r
 along to pitch k l S s (more {a = z} {b = w} hz r p) = along to pitch k l S (S z w hz (start p) s r) p
 
 module _ (to pitch x : ℕ) (met met′ l : List ℕ) (hx : x < pitch * 8) (G : Through to pitch met l) (M : BitSet x met met′) where
-  -- a line without a state
-  pub met-none : (first : ℕ) → First l (to + x * pitch) pitch 0 first → pitch * 8 ≤ first → Met to pitch l met′ l
-  met-none first F h = record { between = between-none to pitch l; through = λ k hk s. go k hk s (ℕ-discrete k x) }
-    where
-      go : (k : ℕ) → k < pitch * 8 → bit met′ k ≡ true → Dec (k ≡ x) → Stable to pitch l k
-      go k hk s (yes e) = λ z y hz hy p q. not-both (subst (λ (n : ℕ). On l to pitch n z) e p) (F .none z (omega arith) (omega arith))
-      go k hk s (no g) = G k hk (sym (M .others k g) ∙ s)
-
   -- line x is stored
   module _ (left : ℕ) (old line m : List ℕ) (some : 0 < left) (L : Loaded (to + x * pitch) pitch l old) (S : Searched l to pitch old left line)
       (P : Put line (to + x * pitch) pitch l m) where
@@ -132,9 +124,38 @@ module _ (to pitch x : ℕ) (met met′ l : List ℕ) (hx : x < pitch * 8) (G : 
 pub met-same : (to pitch : ℕ) (met l : List ℕ) → Through to pitch met l → Met to pitch l met l
 met-same to pitch met l G = record { between = between-none to pitch l; through = G }
 
--- no line is met yet
-pub met-start : (to pitch n : ℕ) (l : List ℕ) → Met to pitch l (replicate n 0) l
-met-start to pitch n l = record { between = between-none to pitch l; through = λ x hx s. not-both s (no-bit n x) }
+-- idle states: one that is noted, those noted so far
+pub noted-none : (l : List ℕ) (at pitch x : ℕ) (idle : List ℕ) → Noted l at pitch x idle idle
+noted-none l at pitch x idle j s = inl s
+
+pub noted-one : (l : List ℕ) (at pitch x first : ℕ) (idle idle′ : List ℕ) → First l at pitch 0 first → pitch * 8 ≤ first → BitSet x idle idle′ → Noted l at pitch x idle idle′
+noted-one l at pitch x first idle idle′ F h S j s = go (ℕ-discrete j x)
+  where
+    go : Dec (j ≡ x) → (bit idle j ≡ true) ⊎ ((j ≡ x) × ((y : ℕ) → y < pitch * 8 → bit l (at * 8 + y) ≡ false))
+    go (yes e) = inr (e, λ y hy. F .none y (omega arith) (omega arith))
+    go (no g) = inl (sym (S .others j g) ∙ s)
+
+pub idle-none : (to pitch n : ℕ) (l : List ℕ) → Idle to pitch (replicate n 0) l
+idle-none to pitch n l x y hx hy s t = not-both s (no-bit n x)
+
+pub idle-more : (to pitch x : ℕ) (l idle idle′ : List ℕ) → Idle to pitch idle l → Noted l (to + x * pitch) pitch x idle idle′ → Idle to pitch idle′ l
+idle-more to pitch x l idle idle′ I N j y hj hy s t = go (N j s)
+  where
+    go : (bit idle j ≡ true) ⊎ ((j ≡ x) × ((y : ℕ) → y < pitch * 8 → bit l ((to + x * pitch) * 8 + y) ≡ false)) → ⊥
+    go (inl p) = I j y hj hy p t
+    go (inr (e, none)) = not-both (subst (λ (n : ℕ). On l to pitch n y) e t) (none y hy)
+
+-- no walk leads from an idle state
+no-walk : (to pitch x : ℕ) (idle l : List ℕ) → Idle to pitch idle l → bit idle x ≡ true → {y : ℕ} → Walk (pitch * 8) (On l to pitch) x y → ⊥
+no-walk to pitch x idle l I s (one {b = y} hx hy r) = I x y hx hy s r
+no-walk to pitch x idle l I s (more {b = z} hx r p) = I x z hx (start p) s r
+
+pub idle-kept : (to pitch : ℕ) (idle a l : List ℕ) → Idle to pitch idle a → Between to to pitch a l → Idle to pitch idle l
+idle-kept to pitch idle a l I B x y hx hy s t = no-walk to pitch x idle a I s (B .sound x y hx hy t)
+
+-- idle states are met
+pub met-start : (to pitch : ℕ) (idle l : List ℕ) → Idle to pitch idle l → Met to pitch l idle l
+met-start to pitch idle l I = record { between = between-none to pitch l; through = λ x hx s z y hz hy p q. absurd (I x z hx hz s p) }
 
 -- one line after another
 pub met-on : (to pitch : ℕ) (a met met′ l m : List ℕ) → Met to pitch a met l → Met to pitch l met′ m → Met to pitch a met′ m

@@ -1,6 +1,6 @@
 -- What the search from a state leaves, and that from all states.
 use mathlib.Core.Path.{_≡_}
-use mathlib.Core.Bool.{Bool, true, _||_}
+use mathlib.Core.Bool.{Bool, true, false, _||_}
 use mathlib.Core.List.{List}
 use mathlib.Core.Logic.{_⊎_}
 use Prim.Native.Nat.{ℕ, _+_, _*_, _<_, _≤_}
@@ -22,6 +22,14 @@ pub record Open (line done among : List ℕ) (pitch r : ℕ) : Type 0 where
 pub record Taken (bytes : List ℕ) (to pitch k : ℕ) (met line done line′ done′ : List ℕ) : Type 0 where
   pub joins : (y : ℕ) → y < pitch * 8 → bit line′ y ≡ (bit line y || cell bytes to pitch k y)
   pub notes : (j : ℕ) → j < pitch * 8 → bit done′ j ≡ true → (bit done j ≡ true) ⊎ ((j ≡ k) ⊎ ((bit met k ≡ true) × On bytes to pitch k j))
+
+-- no idle state has a state in its line of the plane at to
+abbrev pub Idle : ℕ → ℕ → List ℕ → List ℕ → Type 0
+Idle to pitch idle bytes = (x y : ℕ) → x < pitch * 8 → y < pitch * 8 → bit idle x ≡ true → On bytes to pitch x y → ⊥
+
+-- idle has no more than x, and this only if the line at `at` has no state
+abbrev pub Noted : List ℕ → ℕ → ℕ → ℕ → List ℕ → List ℕ → Type 0
+Noted bytes at pitch x idle idle′ = (j : ℕ) → bit idle′ j ≡ true → (bit idle j ≡ true) ⊎ ((j ≡ x) × ((y : ℕ) → y < pitch * 8 → bit bytes (at * 8 + y) ≡ false))
 
 -- line x of the plane at to has the lines of its states
 abbrev pub Stable : ℕ → ℕ → List ℕ → ℕ → Type 0

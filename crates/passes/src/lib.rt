@@ -7,7 +7,7 @@ ghost use Rattle.planes.specs.Plane.{bit, planeSize};
 ghost use Rattle.planes.specs.Lines.{BitSet, Laid};
 ghost use Rattle.passes.specs.Into.{Apart, ClosedInto, lieApart, ClosedApart};
 ghost use Rattle.passes.specs.Words.{Word, Lowest, First};
-ghost use Rattle.passes.specs.Turns.{Joined, Open, Taken, Through, Searched, Met, MetAll};
+ghost use Rattle.passes.specs.Turns.{Joined, Open, Taken, Noted, Idle, Through, Searched, Met, MetAll};
 
 // A byte as a word.
 fn wide(b: u8) -> u64
@@ -192,16 +192,17 @@ fn search_line(
     work: &[u8],
     to: usize,
     pitch: usize,
+    idle: &[u8; 128],
     met: &[u8; 128],
     last: usize,
     line: &mut [u8; 128],
     most: usize,
 ) -> usize
     requires { ⌜ (to + planeSize pitch ≤ length (now work)) × (pitch ≤ 128) × (pitch % 8 ≡ 0) ⌝ }
-    requires { ⌜ Through to pitch (now met) (now work) ⌝ }
+    requires { ⌜ Idle to pitch (now idle) (now work) × Through to pitch (now met) (now work) ⌝ }
     ensures { λ r. ⌜ Searched (now (work .entry)) to pitch (now (line .entry)) r (now (line .exit)) ⌝ }
 {
-    let mut done = [0u8; 128];
+    let mut done = *idle;
     let mut left = most;
     while 0 < left {
         let k = pick(line, &done, met, last, pitch);
@@ -222,20 +223,17 @@ fn settle(
     pitch: usize,
     x: usize,
     last: usize,
+    idle: &[u8; 128],
     met: &mut [u8; 128],
     most: usize,
 ) -> usize
     requires { ⌜ (to + planeSize pitch ≤ length (now work)) × (pitch ≤ 128) × (pitch % 8 ≡ 0) × (x < pitch * 8) ⌝ }
-    requires { ⌜ Through to pitch (now met) (now work) ⌝ }
+    requires { ⌜ Idle to pitch (now idle) (now work) × Through to pitch (now met) (now work) ⌝ }
     ensures { λ _. ⌜ Met to pitch (now (work .entry)) (now (met .exit)) (now (work .exit)) ⌝ }
 {
     let at = to + x * pitch;
-    if pitch * 8 <= next_at(work, at, pitch, 0) {
-        mark(met, x);
-        return most;
-    }
     let mut line = planes::load_line(work, at, pitch);
-    let left = search_line(work, to, pitch, met, last, &mut line, most);
+    let left = search_line(work, to, pitch, idle, met, last, &mut line, most);
     if left == 0 {
         return 0;
     }
@@ -244,39 +242,44 @@ fn settle(
     left
 }
 
-// The same; where x is no state, nothing is done.
+// The same; where x is no state or is met, nothing is done.
 fn meet(
     work: &mut [u8],
     to: usize,
     pitch: usize,
     x: usize,
     last: usize,
+    idle: &[u8; 128],
     met: &mut [u8; 128],
     most: usize,
 ) -> usize
     requires { ⌜ (to + planeSize pitch ≤ length (now work)) × (pitch ≤ 128) × (pitch % 8 ≡ 0) ⌝ }
-    requires { ⌜ Through to pitch (now met) (now work) ⌝ }
+    requires { ⌜ Idle to pitch (now idle) (now work) × Through to pitch (now met) (now work) ⌝ }
     ensures { λ _. ⌜ Met to pitch (now (work .entry)) (now (met .exit)) (now (work .exit)) ⌝ }
 {
     if pitch * 8 <= x {
         return most;
     }
-    settle(work, to, pitch, x, last, met, most)
+    if planes::get_bit(met, x) {
+        return most;
+    }
+    settle(work, to, pitch, x, last, idle, met, most)
 }
 
 // The lines of the plane at to in this order, with 32 lines for each to take in; whether all are met.
-fn meet_all(work: &mut [u8], to: usize, pitch: usize, order: &[u16; 1024]) -> bool
+fn meet_all(work: &mut [u8], to: usize, pitch: usize, order: &[u16; 1024], idle: &[u8; 128]) -> bool
     requires { ⌜ (to + planeSize pitch ≤ length (now work)) × (pitch ≤ 128) × (pitch % 8 ≡ 0) ⌝ }
+    requires { ⌜ Idle to pitch (now idle) (now work) ⌝ }
     ensures { λ r. ⌜ MetAll to pitch (now (work .entry)) r (now (work .exit)) ⌝ }
 {
     let states = pitch * 8;
-    let mut met = [0u8; 128];
+    let mut met = *idle;
     let mut left = states * 32;
     let mut last: usize = 0;
     let mut i: usize = 0;
     while i < states {
         let x = entry(order, i);
-        left = meet(work, to, pitch, x, last, &mut met, left);
+        left = meet(work, to, pitch, x, last, idle, &mut met, left);
         last = x;
         i += 1;
     }
@@ -317,13 +320,37 @@ fn marked(seen: &[u8; 128], x: usize) -> bool
     planes::get_bit(seen, x)
 }
 
-// The states in the order in which a depth-first search leaves them; any list will do.
-fn search_order(work: &[u8], from: usize, pitch: usize, order: &mut [u16; 1024])
+// Notes x as idle where its line, at `at`, has no state.
+fn note_idle(work: &[u8], at: usize, pitch: usize, x: usize, idle: &mut [u8; 128])
+    requires { ⌜ (at + pitch ≤ length (now work)) × (pitch ≤ 128) × (pitch % 8 ≡ 0) × (x < 1024) ⌝ }
+    ensures { λ _. ⌜ Noted (now (work .entry)) at pitch x (now (idle .entry)) (now (idle .exit)) ⌝ }
+{
+    if pitch * 8 <= next_at(work, at, pitch, 0) {
+        mark(idle, x);
+    }
+}
+
+// The states of the plane at to whose lines have no state.
+fn idle_states(work: &[u8], to: usize, pitch: usize) -> [u8; 128]
+    requires { ⌜ (to + planeSize pitch ≤ length (now work)) × (pitch ≤ 128) × (pitch % 8 ≡ 0) ⌝ }
+    ensures { λ r. ⌜ Idle to pitch r (now (work .entry)) ⌝ }
+{
+    let mut idle = [0u8; 128];
+    let mut x: usize = 0;
+    while x < pitch * 8 {
+        note_idle(work, to + x * pitch, pitch, x, &mut idle);
+        x += 1;
+    }
+    idle
+}
+
+// The states that are not idle in the order in which a depth-first search leaves them; any list will do.
+fn search_order(work: &[u8], from: usize, pitch: usize, idle: &[u8; 128], order: &mut [u16; 1024])
     requires { ⌜ (from + planeSize pitch ≤ length (now work)) × (pitch ≤ 128) × (pitch % 8 ≡ 0) ⌝ }
 {
     let states = pitch * 8;
     let most = states * 3;
-    let mut seen = [0u8; 128];
+    let mut seen = *idle;
     let mut stack = [0u16; 1024];
     let mut depth: usize = 0;
     let mut root: usize = 0;
@@ -385,9 +412,10 @@ fn by_search(work: &mut [u8], to: usize, pitch: usize) -> bool
     if pitch % 8 != 0 {
         return false;
     }
+    let idle = idle_states(work, to, pitch);
     let mut order = [0u16; 1024];
-    search_order(work, to, pitch, &mut order);
-    meet_all(work, to, pitch, &order)
+    search_order(work, to, pitch, &idle, &mut order);
+    meet_all(work, to, pitch, &order, &idle)
 }
 
 // The plane at to becomes the closure of the plane at from: by search, or else by rounds.
