@@ -1,6 +1,6 @@
 //! Times the check call and a forwarded command on networks of source document 001's three kinds at
-//! N = 10, with 256 rules, and at N = 9, with 128, and eight policies: the library, plain Rust on 64-bit
-//! words in turn, and decision diagrams on BuDDy where its header is installed. With the argument
+//! N = 4 to 10, with a quarter as many rules as states and eight policies: the library, plain Rust on
+//! 64-bit words in turn, and decision diagrams on BuDDy where its header is installed. With the argument
 //! `--tsv`, only the times.
 
 use wegbaro_tests::closing::Closing;
@@ -14,8 +14,10 @@ use wegbaro_tools::parse::parse;
 use wegbaro_tools::print::whole_records;
 
 const SEED: u64 = 1;
-/// Switches and flows: the generated networks have N = 10 and N = 9.
-const SIZES: [[usize; 2]; 2] = [[16, 64], [4, 8]];
+/// Each N, and the switches and flows of its networks. Two switches with a link between them are of each
+/// kind.
+const SIZES: [(u8, [usize; 2]); 7] =
+    [(10, [16, 64]), (9, [4, 8]), (8, [4, 4]), (7, [4, 2]), (6, [2, 2]), (5, [2, 1]), (4, [2, 1])];
 const MOST_NODES: usize = 32;
 
 /// A generated network: the records before its policies, and the nodes of these.
@@ -26,16 +28,19 @@ struct Network {
 }
 
 impl Network {
-    fn generated(kind: Kind, [switches, flows]: [usize; 2]) -> Network {
+    fn generated(kind: Kind, (bits, [switches, flows]): (u8, [usize; 2])) -> Network {
         let options = Options::new(switches, flows, 0).expect("a size within the limits");
-        let parsed = parse(&generate(kind, options, SEED)).expect("a text without a fault");
+        let text = narrowed(generate(kind, options, SEED), bits);
+        let parsed = parse(&text).expect("a text without a fault");
         let (mut records, _) = whole_records(&parsed.bytes);
         let nodes = records.split_off(records.partition_point(|record| record[0] < 5));
         let policies = nodes.chunk_by(|one, next| one[1] == next[1]).map(|nodes| {
             let node = |record: &Record| [record[2], record[3], record[4]];
             nodes.iter().map(node).collect()
         });
-        Network { of: Widths::of(&records[0]), policies: policies.collect(), records }
+        let of = Widths::of(&records[0]);
+        assert_eq!(of.bits(), bits);
+        Network { of, policies: policies.collect(), records }
     }
 
     /// The network with its policies as they are, in turn up to eight.
@@ -76,7 +81,7 @@ impl Network {
         let (front, rules) = self.records.split_at(count);
         let parts = rules.iter().flat_map(|rule| (0..4).map(|value| part(rule, value)));
         let all: Vec<Record> = front.iter().copied().chain(parts).collect();
-        let missing = (count + (1 << (self.of.bits() - 2))).saturating_sub(all.len());
+        let missing = count + (1 << (self.of.bits() - 2)) - all.len();
         all.into_iter().chain(self.idle_rules().take(missing)).collect()
     }
 
@@ -90,6 +95,22 @@ impl Network {
                 rule(switch, 1, [port, ports], [header, headers], &[output(0, ports)])
             })
         })
+    }
+}
+
+/// The text of a network of two switches, made so narrow. The generator's port width is 3, so that N is
+/// at least 6, but such a network has a host at port 1 and a link at port 2 of each switch, and no other
+/// port in use: at N = 5 its port width is 2. At N = 4 it is switch 0 alone, where port 2 has no link.
+fn narrowed(text: String, bits: u8) -> String {
+    match bits {
+        5 => text.replace("P 3", "P 2"),
+        4 => {
+            let other = ["link", "miss 1", "rule 1"];
+            let is_here = |line: &&str| !other.iter().any(|start| line.starts_with(start));
+            let lines: Vec<&str> = text.lines().filter(is_here).collect();
+            lines.join("\n").replace("P 3 W 1", "P 2 W 0")
+        }
+        _ => text,
     }
 }
 
@@ -139,16 +160,21 @@ impl Formula {
         let entered = self.push(some(both, Y));
         let departed = self.push(and(departs, entered));
         let [there, again] = [X, Y].map(|variable| self.push_at_switch(variable));
-        let left = self.push(and(departed, there));
+        let left = self.push_and(departed, there);
         let walk = self.push_walk(X, Y);
-        let both = self.push(and(walk, again));
+        let both = self.push_and(walk, again);
         let back = self.push(some(both, Y));
         self.push(and(left, back));
         self.nodes
     }
 
-    /// A state is at the switch of the policy's number.
-    fn push_at_switch(&mut self, variable: u8) -> u8 {
+    /// A node, and another if there is one.
+    fn push_and(&mut self, node: u8, other: Option<u8>) -> u8 {
+        other.map_or(node, |other| self.push(and(node, other)))
+    }
+
+    /// A state is at the switch of the policy's number; nothing is to be said where there is one switch.
+    fn push_at_switch(&mut self, variable: u8) -> Option<u8> {
         let first = self.of.h + self.of.p;
         let (ones, zeros): (Vec<u8>, Vec<u8>) =
             (0..self.of.w).partition(|place| self.number >> place & 1 == 1);
@@ -160,8 +186,8 @@ impl Formula {
         let [ones, zeros] = [join(ones, and), join(zeros, or)];
         let clear = zeros.map(|zeros| self.push(not(zeros)));
         match (ones, clear) {
-            (Some(ones), Some(clear)) => self.push(and(ones, clear)),
-            (one, other) => one.or(other).expect("a switch has bits"),
+            (Some(ones), Some(clear)) => Some(self.push(and(ones, clear))),
+            (one, other) => one.or(other),
         }
     }
 
