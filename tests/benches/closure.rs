@@ -80,6 +80,28 @@ fn block_and_line(states: &[usize]) -> Plane {
     plane
 }
 
+/// Each state is related to all before it.
+fn order(states: &[usize]) -> Plane {
+    let mut plane = vec![0; STATES * BYTES];
+    for (place, x) in states.iter().enumerate() {
+        states[..place].iter().for_each(|y| relate(&mut plane, *x, *y));
+    }
+    plane
+}
+
+/// A path through one half of the states, whose last is related to all of the other half, and these to its
+/// first.
+fn path_and_leaves(states: &[usize]) -> Plane {
+    let (path, leaves) = states.split_at(STATES / 2);
+    let mut plane = vec![0; STATES * BYTES];
+    path.windows(2).for_each(|pair| relate(&mut plane, pair[0], pair[1]));
+    for leaf in leaves {
+        relate(&mut plane, path[path.len() - 1], *leaf);
+        relate(&mut plane, *leaf, path[0]);
+    }
+    plane
+}
+
 fn random(degree: usize, r: &mut Random) -> Plane {
     let mut plane = vec![0; STATES * BYTES];
     for x in 0..STATES {
@@ -117,15 +139,20 @@ fn median(mut times: Vec<f64>) -> f64 {
 
 fn main() {
     let mut r = Random(88172645463325252);
-    let ordered: Vec<usize> = (0..512).collect();
+    let ordered: Vec<usize> = (0..STATES).collect();
+    let reversed: Vec<usize> = (0..STATES).rev().collect();
     let cases = [
-        ("cycle of 512, in order", cycle(&ordered)),
+        ("cycle of 512, in order", cycle(&ordered[..512])),
         ("cycle of 512, shuffled", cycle(&shuffled(512, &mut r))),
         ("random, out-degree 1", random(1, &mut r)),
         ("random, out-degree 4", random(4, &mut r)),
         ("dense, 512 picks a state", random(512, &mut r)),
         ("line both ways, shuffled", line(&shuffled(STATES, &mut r))),
         ("half a block, half such a line", block_and_line(&shuffled(STATES, &mut r))),
+        ("each to all lower", order(&ordered)),
+        ("each to all higher", order(&reversed)),
+        ("each to all lower, shuffled", order(&shuffled(STATES, &mut r))),
+        ("path of 512 to 512 leaves and back", path_and_leaves(&ordered)),
     ];
     println!("| relation on {STATES} states | passes, µs | rounds, µs | Rust on 64-bit words, µs | passes / Rust | rounds / Rust |");
     println!("|---|---|---|---|---|---|");
