@@ -1,13 +1,13 @@
-//! Times the check call and a forwarded command with eight policies of one closure each, at N = 4 to 10:
-//! the library, plain Rust on 64-bit words in turn, and decision diagrams on BuDDy where its header is
-//! installed.
+//! Times the check call and a forwarded command with eight policies of one closure each, at N = 4 to 10,
+//! and with two kinds of policies that are made to be slow, at N = 10: the library, plain Rust on 64-bit
+//! words in turn, and decision diagrams on BuDDy where its header is installed.
 //!
 //! With the argument `--tsv`, only the times, for two libraries to be put side by side: the crate for
 //! Rust takes the one in the folder that `WEGBARO_LIB_DIR` names.
 
 use wegbaro_tests::closing::Closing;
 use wegbaro_tests::diagrams::Diagrams;
-use wegbaro_tests::formulas::{and, bit, external, not, policy, push, some, tc, Node, X, Y};
+use wegbaro_tests::formulas::{and, bit, external, not, or, policy, push, some, tc, Node, X, Y};
 use wegbaro_tests::networks::{scattered, Widths};
 use wegbaro_tests::random::Random;
 use wegbaro_tests::records::{link, miss, output, rule, set, widths, Action, Pattern, Record, ANY};
@@ -227,8 +227,75 @@ fn outside(nodes: &mut Vec<Node>, variable: u8, bits: u8, are_set: [bool; 2]) ->
 
 /// A network with eight guards.
 fn network(kind: Kind, bits: u8, closing: Closing) -> Vec<Record> {
-    let guards = (0..8).flat_map(|number| policy(number, &guard(number, bits, closing)));
-    kind.records(bits).into_iter().chain(guards).collect()
+    with_policies(kind.records(bits), |number| guard(number, bits, closing))
+}
+
+/// The records with eight policies behind them.
+fn with_policies(records: Vec<Record>, nodes: impl Fn(u8) -> Vec<Node>) -> Vec<Record> {
+    let policies = (0..8).flat_map(|number| policy(number, &nodes(number)));
+    records.into_iter().chain(policies).collect()
+}
+
+/// Policies of ten closures each, with X and Y exchanged, of relations that many pairs are in.
+#[derive(Clone, Copy, Debug)]
+enum Slow {
+    /// Each closure is of half of all pairs, those that differ in one bit, and leads from every state to
+    /// every state. AND with the same half of all pairs, which stand as they are and not exchanged, makes
+    /// that half of the closure again.
+    WithAnd,
+    /// The pairs of a state with one bit set and one with it clear, a quarter of all, and NOT and a
+    /// closure in turn: both this quarter and the other pairs are their own closure.
+    WithNot,
+}
+
+impl Slow {
+    const ALL: [Slow; 2] = [Slow::WithAnd, Slow::WithNot];
+
+    fn words(self) -> &'static str {
+        match self {
+            Slow::WithAnd => "ten, AND behind each",
+            Slow::WithNot => "ten, NOT before each",
+        }
+    }
+
+    /// The nodes of a policy, which holds, since the last node is true of no state.
+    fn nodes(self, number: u8) -> Vec<Node> {
+        let mut nodes = vec![];
+        let relation = self.push_relation(&mut nodes, number);
+        let mut last = relation;
+        for _ in 0..10 {
+            last = self.push_closure(&mut nodes, last, relation);
+        }
+        let rest = push(&mut nodes, not(last));
+        let both = push(&mut nodes, and(last, rest));
+        push(&mut nodes, some(both, Y));
+        nodes
+    }
+
+    /// The relation of the bit of a policy's number.
+    fn push_relation(self, nodes: &mut Vec<Node>, number: u8) -> u8 {
+        let [one, other] = [X, Y].map(|variable| push(nodes, bit(variable, number)));
+        let [first, excluded] = match self {
+            Slow::WithAnd => [or(one, other), and(one, other)].map(|node| push(nodes, node)),
+            Slow::WithNot => [one, other],
+        };
+        let second = push(nodes, not(excluded));
+        push(nodes, and(first, second))
+    }
+
+    /// One closure more, of the last node.
+    fn push_closure(self, nodes: &mut Vec<Node>, last: u8, relation: u8) -> u8 {
+        match self {
+            Slow::WithAnd => {
+                let led = push(nodes, tc(last, Y, X));
+                push(nodes, and(led, relation))
+            }
+            Slow::WithNot => {
+                let rest = push(nodes, not(last));
+                push(nodes, tc(rest, Y, X))
+            }
+        }
+    }
 }
 
 fn count(records: &[Record], kind: u8) -> usize {
@@ -273,6 +340,15 @@ fn all_times(form: Form, diagrams: Option<&Diagrams>) -> Vec<(u8, Name, Both)> {
     rows
 }
 
+/// The times of the chain at N = 10 with policies that are made to be slow, printed as they are taken.
+fn print_slow(form: Form, diagrams: Option<&Diagrams>) {
+    for slow in Slow::ALL {
+        let records = with_policies(Kind::Chain.records(10), |number| slow.nodes(number));
+        let columns = ["10", "chain, made to be slow", slow.words(), "(Y,X)"];
+        form.print_row(&columns.map(str::to_string), &both(&records, diagrams));
+    }
+}
+
 /// How many times as long a check takes at N = 10 as at N = 9.
 fn print_growth(rows: &[(u8, Name, Both)]) {
     println!("\n| network | {} | library | Rust | BDD |", Closing::COLUMNS.join(" | "));
@@ -298,6 +374,7 @@ fn main() {
         print_sizes();
     }
     let rows = all_times(form, diagrams.as_ref());
+    print_slow(form, diagrams.as_ref());
     if form == Form::Markdown {
         print_growth(&rows);
     }

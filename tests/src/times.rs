@@ -10,10 +10,12 @@ use crate::words::Words;
 use std::hint::black_box;
 use std::time::Instant;
 
-/// Runs of each call.
+/// Runs of each call, where it is given the time for them.
 pub const RUNS: usize = 51;
+/// Microseconds that the runs of two gates take at most, if that is more than one run of each.
+const PATIENCE: f64 = 5e6;
 /// Microseconds that the runs of the diagrams take at most, if that is more than one run.
-const PATIENCE: f64 = 1e6;
+const DIAGRAMS_PATIENCE: f64 = 1e6;
 
 /// Records in a store of the least length.
 pub fn store_of(records: &[Record]) -> Vec<u8> {
@@ -36,13 +38,20 @@ pub struct Taken {
     pub least: f64,
 }
 
+/// An odd number of runs that there is the time for, of which one takes so long.
+fn runs_within(patience: f64, once: f64) -> usize {
+    ((patience / once) as usize / 2 * 2 + 1).min(RUNS)
+}
+
 /// The times of two gates, taken in turn.
 fn in_turn(gates: [&dyn Gate; 2], mut run: impl FnMut(&dyn Gate) -> f64) -> [Taken; 2] {
-    let times: Vec<[f64; 2]> = (0..RUNS).map(|_| gates.map(&mut run)).collect();
+    let once = gates.map(&mut run).iter().sum();
+    let runs = runs_within(PATIENCE, once);
+    let times: Vec<[f64; 2]> = (0..runs).map(|_| gates.map(&mut run)).collect();
     [0, 1].map(|which| {
         let mut times: Vec<f64> = times.iter().map(|pair| pair[which]).collect();
         times.sort_by(f64::total_cmp);
-        Taken { median: times[RUNS / 2], least: times[0] }
+        Taken { median: times[runs / 2], least: times[0] }
     })
 }
 
@@ -120,13 +129,13 @@ fn dropping(records: &[Record]) -> Record {
     add(dropping.into_iter().find(|rule| !rules.contains(rule)).expect("a rule sends"))
 }
 
-/// The median of the diagrams' times, over an odd number of runs that they are given the time for.
+/// The median of the diagrams' times, over the runs that they are given the time for.
 fn patient(diagrams: &Diagrams, records: &[Record]) -> f64 {
     let networks = [records.to_vec()];
     let once = diagrams.medians(&networks, 1)[0];
-    match (PATIENCE / once) as usize / 2 * 2 + 1 {
+    match runs_within(DIAGRAMS_PATIENCE, once) {
         1 => once,
-        runs => diagrams.medians(&networks, runs.min(RUNS))[0],
+        runs => diagrams.medians(&networks, runs)[0],
     }
 }
 
