@@ -1,4 +1,6 @@
 -- Laws that several proofs of this crate use.
+pub mod Blocks
 pub mod Exchanging
 pub mod LinesLaid
+pub mod Masks
 pub mod Quantified

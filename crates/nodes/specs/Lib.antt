@@ -3,4 +3,5 @@ pub mod Shapes
 pub mod Forms
 pub mod Node
 pub mod Swapped
+pub mod Blocks
 pub mod Laws

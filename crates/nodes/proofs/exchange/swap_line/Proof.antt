@@ -21,13 +21,13 @@ Inv-loop work₀ from to pitch x states line y₀ work y =
 abbrev μ-loop : tie.MeasureT-loop
 μ-loop work₀ from to pitch x states line y₀ work y = pitch * 8 - y
 
-next-state-requires : tie.Need-next-state-requires Inv-loop μ-loop
-next-state-requires c κs = let P = c .before .before .pre in (omega (arith, line-before _ _ (c .before .before .args .pitch) (P .1), P .0 .first), P .0 .narrow)
+next-at-requires : tie.Need-next-at-requires Inv-loop μ-loop
+next-at-requires c κs = let P = c .before .before .pre in (omega (arith, line-before _ _ (c .before .before .args .pitch) (P .1), P .0 .first), P .0 .narrow, P .2)
 
 loop-holds : tie.Need-loop-holds Inv-loop μ-loop
 loop-holds c =
     let P = c .before .before .before .pre in
-    let F = c .next-state .ensures in
+    let F = c .next-at .ensures in
     (refl, F .set, λ before T. swapped-over _ _ _ (P .0 .apart) _ _ _ _ T _ (P .1) F)
 
 mul-set-at : tie.Need-mul-set-at Inv-loop μ-loop
@@ -41,23 +41,23 @@ set-at-requires c κs =
     let P = c .before .before .before .before .before .before .pre in
     omega (arith, line-before _ _ (c .before .before .before .before .before .before .args .pitch) (c .before .loop-test .taken), P .1, P .0 .second, c .before .before .loop .inv .0)
 
-add-next-state : tie.Need-add-next-state Inv-loop μ-loop
-add-next-state c = omega (arith, c .before .before .before .before .before .loop-test .taken, c .before .before .before .before .before .before .before .before .before .before .pre .0 .narrow)
+add-next-at : tie.Need-add-next-at Inv-loop μ-loop
+add-next-at c = omega (arith, c .before .before .before .before .before .loop-test .taken, c .before .before .before .before .before .before .before .before .before .before .pre .0 .narrow)
 
-next-state-requires-2 : tie.Need-next-state-requires-2 Inv-loop μ-loop
-next-state-requires-2 c κs =
+next-at-requires-2 : tie.Need-next-at-requires-2 Inv-loop μ-loop
+next-at-requires-2 c κs =
     let P = c .before .before .before .before .before .before .before .before .before .before .pre in
-    (omega (arith, line-before _ _ (c .before .before .before .before .before .before .before .before .before .before .args .pitch) (P .1), P .0 .first, c .before .before .before .before .before .before .loop .inv .0, c .before .before .before .set-at .ensures .len), P .0 .narrow)
+    (omega (arith, line-before _ _ (c .before .before .before .before .before .before .before .before .before .before .args .pitch) (P .1), P .0 .first, c .before .before .before .before .before .before .loop .inv .0, c .before .before .before .set-at .ensures .len), P .0 .narrow, P .2)
 
 loop-less : tie.Need-loop-less Inv-loop μ-loop
-loop-less c = omega (arith, c .next-state2 .ensures .later, c .before .before .before .before .before .before .loop-test .taken)
+loop-less c = omega (arith, c .next-at2 .ensures .later, c .before .before .before .before .before .before .loop-test .taken)
 
 loop-again : tie.Need-loop-again Inv-loop μ-loop
 loop-again c =
     let P = c .before .before .before .before .before .before .before .before .before .before .before .pre in
     let I = c .before .before .before .before .before .before .before .loop .inv in
     let taken = c .before .before .before .before .before .before .loop-test .taken in
-    let F = c .next-state2 .ensures in (
+    let F = c .next-at2 .ensures in (
       c .before .before .before .before .set-at .ensures .len ∙ I .0,
       F .set,
       λ before T. swapped-over _ _ _ (P .0 .apart) _ _ _ _ (swapped-set _ _ _ (P .0 .apart) _ _ _ _ (I .2 before T) _ (P .1) taken (I .1 taken) (c .before .before .before .before .set-at .ensures)) _ (P .1) F,
@@ -67,4 +67,4 @@ returns : tie.Need-returns Inv-loop μ-loop
 returns c = λ before T. swapped-line _ _ _ (c .before .before .before .before .before .pre .0 .apart) _ _ _ _ (c .loop-test .left) (c .before .loop .inv .2 before T)
 
 pub swap-line-spec : {M : Type 1} → statement M
-swap-line-spec = tie.close (tie.spec Inv-loop μ-loop (λ c. omega (arith, c .before .pre .0 .narrow)) (λ c. omega (arith, line-before _ _ (c .before .args .pitch) (c .before .pre .1), c .before .pre .0 .first)) (λ c. omega (arith, line-before _ _ (c .before .args .pitch) (c .before .pre .1), c .before .pre .0 .first)) next-state-requires loop-holds mul-set-at add-set-at set-at-requires add-next-state next-state-requires-2 loop-less loop-again (λ c. c .before .loop .inv .0) returns)
+swap-line-spec = tie.close (tie.spec Inv-loop μ-loop (λ c. omega (arith, c .before .pre .0 .narrow)) (λ c. omega (arith, line-before _ _ (c .before .args .pitch) (c .before .pre .1), c .before .pre .0 .first)) (λ c. omega (arith, line-before _ _ (c .before .args .pitch) (c .before .pre .1), c .before .pre .0 .first)) next-at-requires loop-holds mul-set-at add-set-at set-at-requires add-next-at next-at-requires-2 loop-less loop-again (λ c. c .before .loop .inv .0) returns)
