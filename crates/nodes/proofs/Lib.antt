@@ -3,4 +3,5 @@ pub mod Blocks
 pub mod Exchanging
 pub mod LinesLaid
 pub mod Masks
+pub mod Spans
 pub mod Quantified

@@ -9,8 +9,10 @@ use Rattle.planes.specs.Plane.{bit, cell, On, planeSize}
 use Rattle.records.specs.Policy.{Var, X, Y}
 use Rattle.closure.specs.Walk.{Walk}
 use Rattle.truth.specs.Truth.{value, withX, withY}
-use Rattle.nodes.specs.Shapes.{over, Outside, Source}
+use Rattle.nodes.specs.Shapes.{fullByte, over, Outside, Source}
 use Rattle.nodes.specs.declared.lines.Op.{Op}
+use Rattle.nodes.specs.declared.lines.Row.{Row}
+use Rattle.nodes.specs.declared.lines.Row.the-variants.{Full, From}
 use Rattle.nodes.specs.declared.forms.Form.{Form}
 use Rattle.nodes.specs.declared.forms.Form.the-variants.{OfX, OfY, Both, Turned}
 use Rattle.nodes.specs.declared.forms.Way.{Way}
@@ -45,14 +47,28 @@ formOf code own size = getD (OfX own ∷ OfX own ∷ OfY own ∷ Both own ∷ Tu
 unfoldable pub turnCode : ℕ → ℕ
 turnCode code = getD (2 ∷ 2 ∷ 1 ∷ 4 ∷ 3 ∷ 6 ∷ 5 ∷ 8 ∷ []) code 7
 
--- two forms are taken as lines over X, or over Y, only if both are, and one is exchanged only if it stands exchanged
+-- a form does not stand exchanged, so that its lines are bytes of the buffer, or equal tests
+abbrev pub Upright : Form → Type 0
+Upright (OfX at) = Unit {0}
+Upright (OfY at) = Unit {0}
+Upright (Both at) = Unit {0}
+Upright (Turned at) = ⊥
+
+-- line x of such a form
+abbrev pub rowOf : Form → List ℕ → ℕ → ℕ → Row
+rowOf (OfX at) bytes pitch x = Full (fullByte (bit bytes (at * 8 + x)))
+rowOf (OfY at) bytes pitch x = From at
+rowOf (Both at) bytes pitch x = From (at + x * pitch)
+rowOf (Turned at) bytes pitch x = From at
+
+-- two forms are taken as lines over X, or over Y, only if both are, one is exchanged only if it stands exchanged, and then none does
 abbrev pub Pairs : Form → Form → Way → Type 0
 Pairs a b OverX = (a ≡ OfX (place a)) × (b ≡ OfX (place b))
 Pairs a b OverY = (a ≡ OfY (place a)) × (b ≡ OfY (place b))
-Pairs a b Straight = Unit {0}
-Pairs a b Exchanged = Unit {0}
-Pairs a b FirstTurned = a ≡ Turned (place a)
-Pairs a b SecondTurned = b ≡ Turned (place b)
+Pairs a b Straight = Upright a × Upright b
+Pairs a b Exchanged = Upright (turned a) × Upright (turned b)
+Pairs a b FirstTurned = (a ≡ Turned (place a)) × Upright b
+Pairs a b SecondTurned = (b ≡ Turned (place b)) × Upright a
 
 -- a form is read while the plane at base is laid line by line: it shares no byte with it, or is the plane itself
 abbrev pub Readable : List ℕ → ℕ → ℕ → Form → Type 0

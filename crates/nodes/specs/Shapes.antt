@@ -11,6 +11,8 @@ use Rattle.planes.specs.Plane.{bit, planeSize}
 use Rattle.truth.specs.Computed.{anyBelow, allBelow}
 use Rattle.nodes.specs.declared.lines.Op.{Op}
 use Rattle.nodes.specs.declared.lines.Op.the-variants.{Not, And, Or}
+use Rattle.nodes.specs.declared.lines.Row.{Row}
+use Rattle.nodes.specs.declared.lines.Row.the-variants.{Full, From}
 
 -- an operation on tests; NOT is of the first
 abbrev pub opBool : Op → Bool → Bool → Bool
@@ -85,6 +87,21 @@ pub record Plane (bytes : List ℕ) (pitch base : ℕ) : Type 0 where
 pub record Source (bytes : List ℕ) (pitch base a : ℕ) : Type 0 where
   pub within : a + planeSize pitch ≤ length bytes
   pub apart : (a + planeSize pitch ≤ base) ⊎ (base + planeSize pitch ≤ a)
+
+-- there are len bytes at a, and each is read before it is written where the bytes from to on are laid one by one
+pub record Span (bytes : List ℕ) (len to a : ℕ) : Type 0 where
+  pub within : a + len ≤ length bytes
+  pub ahead : (a + len ≤ to) ⊎ (to ≤ a)
+
+-- byte j of a row
+abbrev pub rowByte : Row → List ℕ → ℕ → ℕ
+rowByte (Full c) bytes j = c
+rowByte (From a) bytes j = getD bytes (a + j) 0
+
+-- the len bytes of a row can be read while those from to on are laid
+abbrev pub Ready : List ℕ → ℕ → ℕ → Row → Type 0
+Ready bytes len to (Full c) = Unit {0}
+Ready bytes len to (From a) = Span bytes len to a
 
 -- a byte lies outside of the plane at base
 abbrev pub Outside : ℕ → ℕ → ℕ → Type 0

@@ -1,10 +1,11 @@
-// Lines of 128 bytes: a line tests each state below 1024.
+// Lines of bits, in the buffer and of 128 bytes: a line tests each state below 1024.
 ghost use mathlib.Core.Path.{_≡_};
-ghost use Prim.Native.Nat.{_*_, _/_, _≤_, _<_};
-ghost use lib.ListN.{length};
+ghost use Prim.Native.Nat.{_+_, _*_, _/_, _≤_, _<_};
+ghost use lib.ListN.{length, getD};
 ghost use Rattle.planes.specs.Bit.{bitOf};
 ghost use Rattle.planes.specs.Plane.{bit};
-ghost use Rattle.nodes.specs.Shapes.{opByte, unitByte, over, Quantifies, weightIf, fullByte, bitByte, Line, Joined, Pushed};
+ghost use Rattle.planes.specs.Lines.{Laid};
+ghost use Rattle.nodes.specs.Shapes.{opByte, unitByte, over, Quantifies, weightIf, fullByte, bitByte, Line, Joined, Pushed, Span, rowByte, Ready};
 
 // An operation on tests.
 pub enum Op {
@@ -24,6 +25,83 @@ pub fn byte_op(o: Op, a: u8, b: u8) -> u8
     }
 }
 
+// The bytes of a line: one over and over, or those from some byte of the buffer on.
+pub enum Row {
+    Full(u8),
+    From(usize),
+}
+
+// The len bytes from to on become c.
+pub fn fill(work: &mut [u8], c: u8, to: usize, len: usize)
+    requires { ⌜ to + len ≤ length (now work) ⌝ }
+    ensures { λ _. ⌜ Laid (λ j. c) to len (now (work .entry)) (now (work .exit)) ⌝ }
+{
+    let mut j: usize = 0;
+    while j < len {
+        work[to + j] = c;
+        j += 1;
+    }
+}
+
+// The len bytes from to on become the operation on c and those from b on.
+fn join_first(work: &mut [u8], o: Op, c: u8, b: usize, to: usize, len: usize)
+    requires { ⌜ Span (now work) len to b ⌝ }
+    requires { ⌜ to + len ≤ length (now work) ⌝ }
+    ensures { λ _. ⌜ Laid (λ j. opByte o c (getD (now (work .entry)) (b + j) 0)) to len (now (work .entry)) (now (work .exit)) ⌝ }
+{
+    let mut j: usize = 0;
+    while j < len {
+        work[to + j] = byte_op(o, c, work[b + j]);
+        j += 1;
+    }
+}
+
+// The len bytes from to on become the operation on those from a on and c.
+fn join_second(work: &mut [u8], o: Op, a: usize, c: u8, to: usize, len: usize)
+    requires { ⌜ Span (now work) len to a ⌝ }
+    requires { ⌜ to + len ≤ length (now work) ⌝ }
+    ensures { λ _. ⌜ Laid (λ j. opByte o (getD (now (work .entry)) (a + j) 0) c) to len (now (work .entry)) (now (work .exit)) ⌝ }
+{
+    let mut j: usize = 0;
+    while j < len {
+        work[to + j] = byte_op(o, work[a + j], c);
+        j += 1;
+    }
+}
+
+// The len bytes from to on become the operation on those from a on and from b on.
+pub fn join_span(work: &mut [u8], o: Op, a: usize, b: usize, to: usize, len: usize)
+    requires { ⌜ Span (now work) len to a ⌝ }
+    requires { ⌜ Span (now work) len to b ⌝ }
+    requires { ⌜ to + len ≤ length (now work) ⌝ }
+    ensures { λ _. ⌜ Laid (λ j. opByte o (getD (now (work .entry)) (a + j) 0) (getD (now (work .entry)) (b + j) 0)) to len (now (work .entry)) (now (work .exit)) ⌝ }
+{
+    let mut j: usize = 0;
+    while j < len {
+        work[to + j] = byte_op(o, work[a + j], work[b + j]);
+        j += 1;
+    }
+}
+
+// The len bytes from to on become the operation on those of two rows.
+pub fn join_rows(work: &mut [u8], o: Op, p: Row, q: Row, to: usize, len: usize)
+    requires { ⌜ Ready (now work) len to p ⌝ }
+    requires { ⌜ Ready (now work) len to q ⌝ }
+    requires { ⌜ to + len ≤ length (now work) ⌝ }
+    ensures { λ _. ⌜ Laid (λ j. opByte o (rowByte p (now (work .entry)) j) (rowByte q (now (work .entry)) j)) to len (now (work .entry)) (now (work .exit)) ⌝ }
+{
+    match p {
+        Row::Full(c) => match q {
+            Row::Full(d) => fill(work, byte_op(o, c, d), to, len),
+            Row::From(b) => join_first(work, o, c, b, to, len),
+        },
+        Row::From(a) => match q {
+            Row::Full(d) => join_second(work, o, a, d, to, len),
+            Row::From(b) => join_span(work, o, a, b, to, len),
+        },
+    }
+}
+
 // The operation on two lines.
 pub fn join(o: Op, p: &[u8; 128], q: &[u8; 128]) -> [u8; 128]
     ensures { λ r. ⌜ Joined o (now (p .entry)) (now (q .entry)) r 128 ⌝ }
@@ -38,7 +116,7 @@ pub fn join(o: Op, p: &[u8; 128], q: &[u8; 128]) -> [u8; 128]
 }
 
 // A byte of eight equal tests.
-fn full(t: bool) -> u8
+pub fn full(t: bool) -> u8
     ensures { λ r. ⌜ r ≡ fullByte t ⌝ }
 {
     if t { 255 } else { 0 }

@@ -2,21 +2,22 @@
 ghost use mathlib.Core.Path.{_≡_};
 ghost use mathlib.Core.Bool.{true};
 ghost use Prim.Native.Nat.{ℕ, _+_, _*_, _/_, _≤_, _<_};
-ghost use lib.ListN.{length};
+ghost use lib.ListN.{length, getD};
 ghost use Rattle.planes.specs.Bit.{bitOf};
 ghost use Rattle.planes.specs.Plane.{bit, cell, planeSize};
-ghost use Rattle.planes.specs.Lines.{Made};
+ghost use Rattle.planes.specs.Lines.{Laid, Made};
 ghost use Rattle.records.specs.Policy.{varOf};
 ghost use Rattle.truth.specs.Truth.{value};
-ghost use Rattle.nodes.specs.Shapes.{opBool, over, Quantifies, Line, Plane, Source};
+ghost use Rattle.nodes.specs.Shapes.{opBool, opByte, over, Quantifies, Line, Plane, Source, Span};
 ghost use Rattle.nodes.specs.declared.forms.Form.the-variants.{Both};
-ghost use Rattle.nodes.specs.Forms.{tests, place, Readable, Stands, ranged, arranged, Reached, Closes, Reaches};
+ghost use Rattle.nodes.specs.Forms.{tests, place, Upright, rowOf, Readable, Stands, ranged, arranged, Reached, Closes, Reaches};
 use crate::exchange;
 use crate::forms;
 use crate::forms::Form;
 use crate::forms::Way;
 use crate::lines;
 use crate::lines::Op;
+use crate::lines::Row;
 
 // Bits first, first + step, .. of the plane at a, as a line of s bits.
 fn stride(work: &[u8], a: usize, first: usize, step: usize, s: usize) -> [u8; 128]
@@ -36,30 +37,54 @@ fn stride(work: &[u8], a: usize, first: usize, step: usize, s: usize) -> [u8; 12
     r
 }
 
-// Line x of a form.
-fn line_of(work: &[u8], f: Form, x: usize, pitch: usize) -> [u8; 128]
+// Line x of a form that does not stand exchanged.
+fn row_of(work: &[u8], f: Form, x: usize, pitch: usize) -> Row
     requires { ⌜ Plane (now work) pitch (place f) ⌝ }
     requires { ⌜ x < pitch * 8 ⌝ }
-    ensures { λ e. ⌜ Line (tests f (now (work .entry)) pitch x) (pitch * 8) e ⌝ }
+    ensures { λ r. ⌜ r ≡ rowOf f (now (work .entry)) pitch x ⌝ }
 {
     match f {
-        Form::OfX(at) => lines::whole(planes::get_at(work, at, x)),
-        Form::OfY(at) => planes::load_line(work, at, pitch),
-        Form::Both(at) => planes::load_line(work, at + x * pitch, pitch),
-        Form::Turned(at) => stride(work, at, x, pitch * 8, pitch * 8),
+        Form::OfX(at) => Row::Full(lines::full(planes::get_at(work, at, x))),
+        Form::OfY(at) => Row::From(at),
+        Form::Both(at) => Row::From(at + x * pitch),
+        Form::Turned(at) => Row::From(at),
     }
 }
 
-// Line x of the operation on two forms.
-fn joined(work: &[u8], o: Op, a: Form, b: Form, x: usize, pitch: usize) -> [u8; 128]
-    requires { ⌜ Plane (now work) pitch (place a) ⌝ }
-    requires { ⌜ Plane (now work) pitch (place b) ⌝ }
-    requires { ⌜ x < pitch * 8 ⌝ }
-    ensures { λ e. ⌜ Line (λ y. opBool o (tests a (now (work .entry)) pitch x y) (tests b (now (work .entry)) pitch x y)) (pitch * 8) e ⌝ }
+// The plane at base becomes the operation on two forms, line by line.
+fn combine_lines(work: &mut [u8], o: Op, a: Form, b: Form, base: usize, pitch: usize)
+    requires { ⌜ Plane (now work) pitch base ⌝ }
+    requires { ⌜ Readable (now work) pitch base a ⌝ }
+    requires { ⌜ Readable (now work) pitch base b ⌝ }
+    requires { ⌜ Upright a × Upright b ⌝ }
+    ensures { λ _. ⌜ Made (λ x y. opBool o (tests a (now (work .entry)) pitch x y) (tests b (now (work .entry)) pitch x y)) pitch base (pitch * 8) (now (work .entry)) (now (work .exit)) ⌝ }
 {
-    let p = line_of(work, a, x, pitch);
-    let q = line_of(work, b, x, pitch);
-    lines::join(o, &p, &q)
+    let mut x: usize = 0;
+    while x < pitch * 8 {
+        let p = row_of(work, a, x, pitch);
+        let q = row_of(work, b, x, pitch);
+        lines::join_rows(work, o, p, q, base + x * pitch, pitch);
+        x += 1;
+    }
+}
+
+// The len bytes from base on become the operation on those from a on and from b on. That one of these is base is said in the
+// call, so that the compiler need not think of bytes that overlap otherwise.
+fn join_planes(work: &mut [u8], o: Op, a: usize, b: usize, base: usize, len: usize)
+    requires { ⌜ Span (now work) len base a ⌝ }
+    requires { ⌜ Span (now work) len base b ⌝ }
+    requires { ⌜ base + len ≤ length (now work) ⌝ }
+    ensures { λ _. ⌜ Laid (λ j. opByte o (getD (now (work .entry)) (a + j) 0) (getD (now (work .entry)) (b + j) 0)) base len (now (work .entry)) (now (work .exit)) ⌝ }
+{
+    if a == base {
+        lines::join_span(work, o, base, b, base, len);
+    } else {
+        if b == base {
+            lines::join_span(work, o, a, base, base, len);
+        } else {
+            lines::join_span(work, o, a, b, base, len);
+        }
+    }
 }
 
 // The plane at base becomes the operation on two forms, of which one may be that plane.
@@ -67,14 +92,18 @@ fn combine(work: &mut [u8], o: Op, a: Form, b: Form, base: usize, pitch: usize)
     requires { ⌜ Plane (now work) pitch base ⌝ }
     requires { ⌜ Readable (now work) pitch base a ⌝ }
     requires { ⌜ Readable (now work) pitch base b ⌝ }
+    requires { ⌜ Upright a × Upright b ⌝ }
     ensures { λ _. ⌜ Made (λ x y. opBool o (tests a (now (work .entry)) pitch x y) (tests b (now (work .entry)) pitch x y)) pitch base (pitch * 8) (now (work .entry)) (now (work .exit)) ⌝ }
 {
-    let mut x: usize = 0;
-    while x < pitch * 8 {
-        let e = joined(work, o, a, b, x, pitch);
-        planes::put_line(work, base + x * pitch, &e, pitch);
-        x += 1;
-    }
+    let Form::Both(p) = a else {
+        combine_lines(work, o, a, b, base, pitch);
+        return;
+    };
+    let Form::Both(q) = b else {
+        combine_lines(work, o, a, b, base, pitch);
+        return;
+    };
+    join_planes(work, o, p, q, base, pitch * 8 * pitch);
 }
 
 // The line of a node over the variable v is kept at base; answers the code of its form.

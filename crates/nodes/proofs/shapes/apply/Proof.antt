@@ -28,12 +28,16 @@ joined-lines-requires-2 c κs =
     )
 
 combine-requires : tie.Need-combine-requires
-combine-requires c κs = let P = c .before .before .before .before .before .pre in (P .0, (inl (P .1 .0), inl (P .1 .1)))
+combine-requires c κs =
+    let P = c .before .before .before .before .before .pre in
+    let upright = rw (c .before .enum-told3 .given .1) at (c .before .before .before .pairing .ensures) in
+    (P .0, (inl (P .1 .0), (inl (P .1 .1), upright)))
 
 combine-requires-2 : tie.Need-combine-requires-2
 combine-requires-2 c κs =
     let P = c .before .before .before .before .before .before .before .pre in
-    (P .0, (inl (rw (c .before .turn .ensures, turned-place) (P .1 .0)), inl (rw (c .turn2 .ensures, turned-place) (P .1 .1))))
+    let upright = rw (c .before .before .before .enum-told4 .given .1) at (c .before .before .before .before .before .pairing .ensures) in
+    (P .0, (inl (rw (c .before .turn .ensures, turned-place) (P .1 .0)), (inl (rw (c .turn2 .ensures, turned-place) (P .1 .1)), rw (c .before .turn .ensures, c .turn2 .ensures) upright)))
 
 exchange-requires : tie.Need-exchange-requires
 exchange-requires c κs = let P = c .before .before .before .before .before .before .pre in rw (c .start5 .ensures) (lie-apart _ _ _ _ (P .0) (P .1 .0))
@@ -42,7 +46,8 @@ combine-requires-3 : tie.Need-combine-requires-3
 combine-requires-3 c κs =
     let P = c .before .before .before .before .before .before .before .before .before .before .pre in
     let e = c .before .before .before .exchange .ensures .len in
-    (plane-in _ _ _ _ e (P .0), (inr refl, inl (source-in _ _ _ _ _ e (P .1 .1))))
+    let turned = rw (c .before .before .before .before .before .before .enum-told5 .given .1) at (c .before .before .before .before .before .before .before .before .pairing .ensures) in
+    (plane-in _ _ _ _ e (P .0), (inr refl, (inl (source-in _ _ _ _ _ e (P .1 .1)), (tt, turned .1))))
 
 exchange-requires-2 : tie.Need-exchange-requires-2
 exchange-requires-2 c κs = let P = c .before .before .before .before .before .before .pre in rw (c .start6 .ensures) (lie-apart _ _ _ _ (P .0) (P .1 .1))
@@ -51,7 +56,8 @@ combine-requires-4 : tie.Need-combine-requires-4
 combine-requires-4 c κs =
     let P = c .before .before .before .before .before .before .before .before .before .before .pre in
     let e = c .before .before .before .exchange2 .ensures .len in
-    (plane-in _ _ _ _ e (P .0), (inl (source-in _ _ _ _ _ e (P .1 .0)), inr refl))
+    let turned = rw (c .before .before .before .before .before .before .enum-told6 .given .1) at (c .before .before .before .before .before .before .before .before .pairing .ensures) in
+    (plane-in _ _ _ _ e (P .0), (inl (source-in _ _ _ _ _ e (P .1 .0)), (inr refl, (turned .1, tt))))
 
 returns : tie.Need-returns
 returns c =
@@ -102,7 +108,7 @@ returns-5 c =
     let turned = rw (c .before .before .before .before .before .before .before .before .before .enum-told5 .given .1) at (c .before .before .before .before .before .before .before .before .before .before .before .pairing .ensures) in
     let E = c .before .before .before .before .before .before .exchange .ensures in
     then-made _ _ _ _ _ E _ _ _
-    (λ x y hx hy. ap₂ (opBool (at-start .args .o)) (turned-here _ _ _ _ _ E (at-start .args .a) (c .before .before .before .before .before .before .before .start5 .ensures) turned x y hx hy) (other-same _ _ _ _ _ E (at-start .args .b) (at-start .pre .1 .1) x y hx hy))
+    (λ x y hx hy. ap₂ (opBool (at-start .args .o)) (turned-here _ _ _ _ _ E (at-start .args .a) (c .before .before .before .before .before .before .before .start5 .ensures) (turned .0) x y hx hy) (other-same _ _ _ _ _ E (at-start .args .b) (at-start .pre .1 .1) x y hx hy))
     (c .before .before .combine3 .ensures)
 
 returns-6 : tie.Need-returns-6
@@ -111,7 +117,7 @@ returns-6 c =
     let turned = rw (c .before .before .before .before .before .before .before .before .before .enum-told6 .given .1) at (c .before .before .before .before .before .before .before .before .before .before .before .pairing .ensures) in
     let E = c .before .before .before .before .before .before .exchange2 .ensures in
     then-made _ _ _ _ _ E _ _ _
-    (λ x y hx hy. ap₂ (opBool (at-start .args .o)) (other-same _ _ _ _ _ E (at-start .args .a) (at-start .pre .1 .0) x y hx hy) (turned-here _ _ _ _ _ E (at-start .args .b) (c .before .before .before .before .before .before .before .start6 .ensures) turned x y hx hy))
+    (λ x y hx hy. ap₂ (opBool (at-start .args .o)) (other-same _ _ _ _ _ E (at-start .args .a) (at-start .pre .1 .0) x y hx hy) (turned-here _ _ _ _ _ E (at-start .args .b) (c .before .before .before .before .before .before .before .start6 .ensures) (turned .0) x y hx hy))
     (c .before .before .combine4 .ensures)
 
 pub apply-spec : {M : Type 1} → statement M

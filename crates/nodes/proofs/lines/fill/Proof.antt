@@ -1,0 +1,41 @@
+-- `nodes::lines::fill` meets its contract. The loop's invariant is the contract at the j bytes passed.
+use mathlib.Core.Path.{refl}
+use Prim.Native.Nat.{_-_, _≤_}
+use native.Mathlib.Omega.{arith}
+use borrow.Author.Needs.{needs}
+use Rattle.planes.specs.Lines.{Laid}
+use Rattle.planes.proofs.LaidBytes.{laid-none, laid-more, laid-all}
+use Rattle.nodes.proofs.lines.fill.Statement.{statement}
+use Rattle.nodes.proofs.lines.fill.Tie as tie
+
+abbrev Inv-loop : tie.InvT-loop
+Inv-loop work₀ c to len j₀ work j = (j ≤ len) × Laid (λ i. c) to j work₀ work
+
+abbrev μ-loop : tie.MeasureT-loop
+μ-loop work₀ c to len j₀ work j = len - j
+
+loop-holds : tie.Need-loop-holds Inv-loop μ-loop
+loop-holds c = (omega arith, laid-none _ _ _)
+
+loop-again : tie.Need-loop-again Inv-loop μ-loop
+loop-again c =
+    let at-loop = c .before in
+    (omega arith, laid-more _ _ _ _ _ _ (at-loop .loop .inv .1) (c .loop-test .taken) (at-loop .before .pre) _ refl)
+
+returns : tie.Need-returns Inv-loop μ-loop
+returns c = laid-all (c .before .loop .inv) (c .loop-test .left)
+
+pub fill-spec : {M : Type 1} → statement M
+fill-spec =
+    tie.close
+    (tie.spec
+    Inv-loop
+    μ-loop
+    loop-holds
+    (λ c. omega arith)
+    (λ c. omega arith)
+    (λ c. omega arith)
+    (λ c. omega arith)
+    loop-again
+    (λ c. search needs)
+    returns)
