@@ -13,7 +13,7 @@ use Rattle.rows.specs.Refusal.{Refusal, fileRow, checkRefusal, commandRow, comm
 use Rattle.scan.specs.Layout.{LayoutOf}
 use Rattle.records.specs.declared.Version.{Version}
 use Rattle.scan.specs.declared.Layout.{Layout}
-use Rattle.records.specs.Laws.Records.{length-flat}
+use Rattle.records.specs.Laws.Records.{length-flat, length-records}
 use Rattle.verdict.specs.declared.judge.Judged.{Judged}
 use Rattle.verdict.specs.declared.judge.Judged.the-variants as judged
 use Rattle.verdict.specs.Verdict.{Verdict, holds, violated}
@@ -30,11 +30,8 @@ use Rattle.calls.specs.Command.{Promised, call}
 use Rattle.commands.specs.Laws.StoredRule.{command}
 use Rattle.calls.specs.Laws.Refusals.{checks, passed, goes-on}
 use Rattle.calls.proofs.InStore.{stored-filled}
+use Rattle.calls.proofs.MovedLayout.{behind}
 use Rattle.commands.specs.Laws.Built.{built-records}
-
--- a scan that answers a refusal where none is given
-pub no-refusal : {A : Type 0} {f : ℕ × ℕ} {r : Refusal} → some f ≡ r → r ≡ none → A
-no-refusal e q = let z : _≡_ {A = ℕ} 0 1 = cc in absurd (omega arith)
 
 -- a clean network of which the work is enough is judged
 pub judgeable : (store work : List ℕ) (n : ℕ) (l : Layout) → n * 24 ≤ length store → LayoutOf (records n store) l
@@ -137,12 +134,20 @@ module _ (store : List ℕ) (n : ℕ) (work : List ℕ) (given : Rec) (e : comma
     same-work : workNeeded (records count next) ≡ workNeeded present
     same-work = ap workNeeded read ∙ work-same present result goes
 
-    pub judged-ready : (count * 24 ≤ length next) × (fileRow [] (records count next) ≡ none) × (workNeeded (records count next) ≤ length work)
-    judged-ready = (
-      omega (arith, M .count-is, next-long, goes .few),
-      ap (fileRow []) read ∙ goes .passes,
-      omega (arith, same-work, passed store n (length work) given e .check .enough),
-    )
+    module _ (l : Layout) (L : LayoutOf present l) where
+      present-long : length present ≡ n
+      present-long = length-records n store
+
+      pub moved-ready : (l .nodes ≤ l .groups) × (l .groups ≤ n) × (n ≤ count + l .nodes)
+      moved-ready = (L .within .0, omega (arith, L .within, present-long), omega (arith, behind present result l L goes, present-long, M .count-is))
+
+      pub judged-ready : (m : Layout) → ((net after : Net) → length net ≡ n → length after ≡ count → LayoutOf net l → GoesOn net after → LayoutOf after m) → Judgeable count m next work
+      judged-ready m H =
+          judgeable next work count m
+          (omega (arith, M .count-is, next-long, goes .few))
+          (subst⁻¹ (λ (net : Net). LayoutOf net m) read (H present result present-long (sym (M .count-is)) L goes))
+          (ap (fileRow []) read ∙ goes .passes)
+          (omega (arith, same-work, passed store n (length work) given e .check .enough))
 
     stepped : (v : Verdict) → verdict result ≡ v → outcomeOf found given (length work) ≡ judgedStep found result v
     unfolding outcomeOf

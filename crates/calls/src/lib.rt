@@ -5,16 +5,14 @@ use scan::Layout;
 use scan::Reading;
 use verdict::judge::Judged;
 ghost use mathlib.Core.Path.{_≡_};
-ghost use mathlib.Core.List.{[]};
 ghost use mathlib.Core.Option.{none};
-ghost use Prim.Native.Nat.{_*_, _≤_};
+ghost use Prim.Native.Nat.{_+_, _≤_};
 ghost use lib.ListN.{length};
-ghost use Rattle.records.specs.Record.{records};
+ghost use Rattle.records.specs.Record.{Net, records};
 ghost use Rattle.records.specs.Version.{versionOf};
-ghost use Rattle.rows.specs.Rows.{workNeeded};
-ghost use Rattle.rows.specs.Refusal.{fileRow, checkRefusal, commandRefusal};
+ghost use Rattle.rows.specs.Refusal.{checkRefusal, commandRefusal};
 ghost use Rattle.scan.specs.Layout.{LayoutOf};
-ghost use Rattle.verdict.specs.Judge.{Judges};
+ghost use Rattle.commands.specs.NeverStuck.{GoesOn};
 ghost use Rattle.calls.specs.Answer.{checkAnswerOf, commandAnswerOf};
 ghost use Rattle.calls.specs.Check.{CheckPromised, checkedAs};
 ghost use Rattle.calls.specs.Command.{Promised, call};
@@ -60,17 +58,16 @@ pub fn check(store: &[u8], n: usize, work: &mut [u8]) -> Checked
     }
 }
 
-// The verdict on n records of a store that no row refuses.
-fn verdict_on(store: &[u8], n: usize, work: &mut [u8]) -> Judged
-    requires { ⌜ (n * 24 ≤ length (now store)) × (fileRow [] (records n (now store)) ≡ none) × (workNeeded (records n (now store)) ≤ length (now work)) ⌝ }
-    ensures { λ r. ⌜ Judges (records n (now (store .entry))) (now (work .entry)) r (now (work .exit)) ⌝ }
+// Where the parts of n records stand after a command that left count records: what is behind the rules is as far from the end as
+// before.
+fn moved(l: Layout, n: usize, count: usize) -> Layout
+    requires { ⌜ (l .nodes ≤ l .groups) × (l .groups ≤ n) × (n ≤ count + l .nodes) ⌝ }
+    ensures { λ r. ⌜ ((net after : Net) → length net ≡ n → length after ≡ count → LayoutOf net l → GoesOn net after → LayoutOf after r) ⌝ }
 {
-    let reading = scan::scan(store, n);
-    // The scan is clean, since no row refuses.
-    let Reading::Clean(l) = reading else {
-        return Judged::Holds;
-    };
-    verdict::judge::judge(store, n, l, work)
+    let mut next = l;
+    next.nodes = count - (n - l.nodes);
+    next.groups = count - (n - l.groups);
+    next
 }
 
 // A command that no row refuses, judged by the network that it would leave, which is made in `next` and written back where it holds.
@@ -79,14 +76,15 @@ fn judged_in(
     next: &mut [u8; records::STORE_BYTES],
     store: &mut [u8],
     n: usize,
+    l: Layout,
     work: &mut [u8],
     given: &[u8],
 ) -> Commanded
-    requires { ⌜ (version ≡ versionOf (records n (now store))) × (commandRefusal (now store) n (length (now work)) (now given) ≡ none) ⌝ }
+    requires { ⌜ (version ≡ versionOf (records n (now store))) × (commandRefusal (now store) n (length (now work)) (now given) ≡ none) × LayoutOf (records n (now store)) l ⌝ }
     ensures { λ r. ⌜ Promised (call (now (store .entry)) n (now (work .entry)) (now (given .entry)) (commandAnswerOf r) (now (store .exit)) (now (work .exit))) ⌝ }
 {
     let count = commands::apply_to(version, next, store, n, given);
-    let v = verdict_on(next, count, work);
+    let v = verdict::judge::judge(next, count, moved(l, n, count), work);
     match v {
         Judged::Violated { policy, state } => Commanded::Blocked { policy, state },
         Judged::Holds => {
@@ -97,12 +95,19 @@ fn judged_in(
 }
 
 // The same; the buffer is made here, so that no need of it speaks of 15,768 zeros.
-fn judged(version: Version, store: &mut [u8], n: usize, work: &mut [u8], given: &[u8]) -> Commanded
-    requires { ⌜ (version ≡ versionOf (records n (now store))) × (commandRefusal (now store) n (length (now work)) (now given) ≡ none) ⌝ }
+fn judged(
+    version: Version,
+    store: &mut [u8],
+    n: usize,
+    l: Layout,
+    work: &mut [u8],
+    given: &[u8],
+) -> Commanded
+    requires { ⌜ (version ≡ versionOf (records n (now store))) × (commandRefusal (now store) n (length (now work)) (now given) ≡ none) × LayoutOf (records n (now store)) l ⌝ }
     ensures { λ r. ⌜ Promised (call (now (store .entry)) n (now (work .entry)) (now (given .entry)) (commandAnswerOf r) (now (store .exit)) (now (work .exit))) ⌝ }
 {
     let mut next = [0u8; records::STORE_BYTES];
-    judged_in(version, &mut next, store, n, work, given)
+    judged_in(version, &mut next, store, n, l, work, given)
 }
 
 // A command on a network that rows 1 to 11 and 16 pass: rows 12, 16 and 13, and then the verdict.
@@ -114,7 +119,7 @@ fn after_check(store: &mut [u8], n: usize, l: Layout, work: &mut [u8], given: &[
     let row = commands::command_row(l.widths, version, store, n, l.nodes - l.rules, given);
     match row {
         Admission::Refused { number } => Commanded::Refused { number, place: 0 },
-        Admission::Passed => judged(version, store, n, work, given),
+        Admission::Passed => judged(version, store, n, l, work, given),
     }
 }
 

@@ -38,7 +38,7 @@ judged-requires c κs =
     let r = c .before .before .before .before in
     let v = r .before .before .before in
     let a = start v .args in
-    (version-is v, no-row (now (a .store)) (a .n) _ (now (a .given)) (start v .pre .0) (ap admissionRefusal (sym (c .before .before .enum-told .given .1)) ∙ r .command-row .ensures))
+    (version-is v, no-row (now (a .store)) (a .n) _ (now (a .given)) (start v .pre .0) (ap admissionRefusal (sym (c .before .before .enum-told .given .1)) ∙ r .command-row .ensures), start v .pre .1)
 
 returns : tie.Need-returns
 returns c =
