@@ -18,7 +18,7 @@ use Rattle.nodes.specs.declared.lines.Row.{Row}
 use Rattle.nodes.specs.declared.lines.Row.the-variants.{From}
 use Rattle.nodes.specs.declared.forms.Form.{Form}
 use Rattle.nodes.specs.declared.forms.Form.the-variants.{OfX, OfY, Both, Turned}
-use Rattle.nodes.specs.Shapes.{opBool, opByte, Plane, Source, Span, rowByte, Ready}
+use Rattle.nodes.specs.Shapes.{opBool, opByte, Lined, Plane, Source, Span, rowByte, Ready}
 use Rattle.nodes.specs.Forms.{tests, place, Upright, rowOf, Readable}
 use Rattle.nodes.specs.Laws.LineBits.{full-bit, op-bit}
 use Rattle.nodes.specs.Laws.PlaneShapes.{line-small, source-in}
@@ -35,6 +35,29 @@ pub span-bit : (o : Op) (p q to len : ℕ) (l m : List ℕ) → Laid (λ j. opBy
     → bit m (to * 8 + y) ≡ opBool o (bit l (p * 8 + y)) (bit l (q * 8 + y))
 span-bit o p q to len l m L y h =
     row-bit o (From p) (From q) to len l m L y h ∙ ap₂ (opBool o) (sym (bit-at l p y)) (sym (bit-at l q y))
+
+-- a line of a plane that shares no byte with the one at base
+pub source-span : (bytes : List ℕ) (pitch base a : ℕ) → Source bytes pitch base a → (x : ℕ) → x < pitch * 8 → Span bytes pitch base (a + x * pitch)
+source-span bytes pitch base a S x hx = record {
+  within = omega (arith, S .within, line-before x (pitch * 8) pitch hx);
+  ahead = ⊎-elim (λ q. inl (omega (arith, line-before x (pitch * 8) pitch hx))) (λ q. inr (omega arith)) (S .apart);
+}
+
+-- and its first bytes
+pub first-span : (bytes : List ℕ) (pitch base a : ℕ) → Source bytes pitch base a → Span bytes pitch base a
+first-span bytes pitch base a S = record {
+  within = omega (arith, S .within, line-small pitch);
+  ahead = ⊎-elim (λ q. inl (omega (arith, line-small pitch))) (λ q. inr (omega arith)) (S .apart);
+}
+
+-- a line that is an operation on two spans
+pub spans-lined : (o : Op) (p q base pitch : ℕ) (l m : List ℕ) → Laid (λ j. opByte o (getD l (p + j) 0) (getD l (q + j) 0)) base pitch l m
+    → Lined (λ z. opBool o (bit l (p * 8 + z)) (bit l (q * 8 + z))) (pitch * 8) pitch base l m
+spans-lined o p q base pitch l m L = record {
+  len = L .len;
+  here = span-bit o p q base pitch l m L;
+  rest = λ n out. ⊎-elim (λ h. L .under n h) (λ h. L .over n (omega (arith, line-small pitch))) out;
+}
 
 -- two planes, all at once
 pub planes-joined : (o : Op) (p q base pitch : ℕ) (l m : List ℕ) → Laid (λ j. opByte o (getD l (p + j) 0) (getD l (q + j) 0)) base (planeSize pitch) l m

@@ -64,7 +64,7 @@ comm Or h true false = refl
 comm Or h false true = refl
 comm Or h false false = refl
 
-twice : (o : Op) → Quantifies o → (p : Bool) → opBool o p p ≡ p
+pub twice : (o : Op) → Quantifies o → (p : Bool) → opBool o p p ≡ p
 twice Not h p = absurd h
 twice And h true = refl
 twice And h false = refl
@@ -145,25 +145,26 @@ module _ (o : Op) (h : Quantifies o) where
   units-over (suc n) g e =
       over-suc n g ∙ ap₂ (opBool o) (units-over n g (λ i l. e i (omega arith))) (e n (omega arith)) ∙ unit-unit o h
 
-  -- a line that is tested byte by byte
-  pub bytes-none : (r : List ℕ) → over o 8 (bitOf (unitByte o)) ≡ over o 0 (bit r)
-  bytes-none r = units-over 8 (bitOf (unitByte o)) (λ i l. full-bit (unit o) i l) ∙ sym (over-none (bit r))
+  -- the line at byte at, tested byte by byte
+  pub bytes-none : (r : List ℕ) (at : ℕ) → over o 8 (bitOf (unitByte o)) ≡ over o 0 (λ y. bit r (at * 8 + y))
+  bytes-none r at = units-over 8 (bitOf (unitByte o)) (λ i l. full-bit (unit o) i l) ∙ sym (over-none (λ y. bit r (at * 8 + y)))
 
-  pub bytes-more : (r : List ℕ) (b j : ℕ) → over o 8 (bitOf b) ≡ over o (j * 8) (bit r)
-      → over o 8 (bitOf (opByte o b (getD r j 0))) ≡ over o ((j + 1) * 8) (bit r)
-  bytes-more r b j e =
+  pub bytes-more : (r : List ℕ) (at b j : ℕ) → over o 8 (bitOf b) ≡ over o (j * 8) (λ y. bit r (at * 8 + y))
+      → over o 8 (bitOf (opByte o b (getD r (at + j) 0))) ≡ over o ((j + 1) * 8) (λ y. bit r (at * 8 + y))
+  bytes-more r at b j e =
       let q : (j + 1) * 8 ≡ j * 8 + 8 = omega arith in
-      over-same o 8 (bitOf (opByte o b (getD r j 0))) (λ i. opBool o (bitOf b i) (bitOf (getD r j 0) i)) (λ i l. op-bit o b (getD r j 0) i l)
-      ∙ both 8 (bitOf b) (bitOf (getD r j 0))
-      ∙ ap₂ (opBool o) e (over-same o 8 (bitOf (getD r j 0)) (λ i. bit r (j * 8 + i)) (λ i l. sym (inside i l)))
-      ∙ sym (parts (j * 8) 8 (bit r))
-      ∙ ap (λ (n : ℕ). over o n (bit r)) (sym q)
+      let v = getD r (at + j) 0 in
+      over-same o 8 (bitOf (opByte o b v)) (λ i. opBool o (bitOf b i) (bitOf v i)) (λ i l. op-bit o b v i l)
+      ∙ both 8 (bitOf b) (bitOf v)
+      ∙ ap₂ (opBool o) e (over-same o 8 (bitOf v) (λ i. bit r (at * 8 + (j * 8 + i))) (λ i l. sym (inside i l)))
+      ∙ sym (parts (j * 8) 8 (λ y. bit r (at * 8 + y)))
+      ∙ ap (λ (n : ℕ). over o n (λ y. bit r (at * 8 + y))) (sym q)
     where
-      inside : (i : ℕ) → i < 8 → bit r (j * 8 + i) ≡ bitOf (getD r j 0) i
+      inside : (i : ℕ) → i < 8 → bit r (at * 8 + (j * 8 + i)) ≡ bitOf (getD r (at + j) 0) i
       inside i l =
-          let d : j + i / 8 ≡ j = omega arith in
-          let m : i % 8 ≡ i = omega arith in
-          bit-at r j i ∙ ap₂ (λ (a c : ℕ). bitOf (getD r a 0) c) d m
+          let d : at + (j * 8 + i) / 8 ≡ at + j = omega arith in
+          let m : (j * 8 + i) % 8 ≡ i = omega arith in
+          bit-at r at (j * 8 + i) ∙ ap₂ (λ (a c : ℕ). bitOf (getD r a 0) c) d m
 
 -- a byte of whose bits all are set, and one of which none is
 all-set : (b : ℕ) → b < 256 → ((i : ℕ) → i < 8 → bitOf b i ≡ true) → b ≡ 255

@@ -47,6 +47,11 @@ formOf code own size = getD (OfX own ∷ OfX own ∷ OfY own ∷ Both own ∷ Tu
 unfoldable pub turnCode : ℕ → ℕ
 turnCode code = getD (2 ∷ 2 ∷ 1 ∷ 4 ∷ 3 ∷ 6 ∷ 5 ∷ 8 ∷ []) code 7
 
+-- the code of a line over a variable
+abbrev pub lineCode : Var → ℕ
+lineCode X = 1
+lineCode Y = 2
+
 -- a form does not stand exchanged, so that its lines are bytes of the buffer, or equal tests
 abbrev pub Upright : Form → Type 0
 Upright (OfX at) = Unit {0}

@@ -69,10 +69,6 @@ bitByte (suc (suc (suc i))) j = fullByte (bitOf j i)
 pub record Line (f : ℕ → Bool) (n : ℕ) (line : List ℕ) : Type 0 where
   pub is : (y : ℕ) → y < n → bit line y ≡ f y
 
--- the first n bytes of a line are those of p and q, by an operation
-pub record Joined (o : Op) (p q line : List ℕ) (n : ℕ) : Type 0 where
-  pub is : (j : ℕ) → j < n → getD line j 0 ≡ opByte o (getD p j 0) (getD q j 0)
-
 -- bit z is set where t is true; every other bit is as before
 pub record Pushed (z : ℕ) (t : Bool) (before after : List ℕ) : Type 0 where
   pub here : bit after z ≡ (bit before z || t)
@@ -106,3 +102,9 @@ Ready bytes len to (From a) = Span bytes len to a
 -- a byte lies outside of the plane at base
 abbrev pub Outside : ℕ → ℕ → ℕ → Type 0
 Outside pitch base m = (m < base) ⊎ (base + planeSize pitch ≤ m)
+
+-- the first n bits of the line at base test g; every byte outside of the plane at base is as before
+pub record Lined (g : ℕ → Bool) (n pitch base : ℕ) (before after : List ℕ) : Type 0 where
+  pub len : length after ≡ length before
+  pub here : (z : ℕ) → z < n → bit after (base * 8 + z) ≡ g z
+  pub rest : (m : ℕ) → Outside pitch base m → getD after m 0 ≡ getD before m 0

@@ -5,7 +5,7 @@ ghost use lib.ListN.{length, getD};
 ghost use Rattle.planes.specs.Bit.{bitOf};
 ghost use Rattle.planes.specs.Plane.{bit};
 ghost use Rattle.planes.specs.Lines.{Laid};
-ghost use Rattle.nodes.specs.Shapes.{opByte, unitByte, over, Quantifies, weightIf, fullByte, bitByte, Line, Joined, Pushed, Span, rowByte, Ready};
+ghost use Rattle.nodes.specs.Shapes.{opByte, unitByte, over, Quantifies, weightIf, fullByte, bitByte, Pushed, Span, rowByte, Ready};
 
 // An operation on tests.
 pub enum Op {
@@ -102,19 +102,6 @@ pub fn join_rows(work: &mut [u8], o: Op, p: Row, q: Row, to: usize, len: usize)
     }
 }
 
-// The operation on two lines.
-pub fn join(o: Op, p: &[u8; 128], q: &[u8; 128]) -> [u8; 128]
-    ensures { λ r. ⌜ Joined o (now (p .entry)) (now (q .entry)) r 128 ⌝ }
-{
-    let mut r = [0u8; 128];
-    let mut j: usize = 0;
-    while j < 128 {
-        r[j] = byte_op(o, p[j], q[j]);
-        j += 1;
-    }
-    r
-}
-
 // A byte of eight equal tests.
 pub fn full(t: bool) -> u8
     ensures { λ r. ⌜ r ≡ fullByte t ⌝ }
@@ -122,16 +109,8 @@ pub fn full(t: bool) -> u8
     if t { 255 } else { 0 }
 }
 
-// A line of equal tests.
-pub fn whole(t: bool) -> [u8; 128]
-    ensures { λ e. ⌜ Line (λ y. t) 1024 e ⌝ }
-{
-    let b = full(t);
-    [b; 128]
-}
-
 // The weight of bit i of a byte where t is true, else 0.
-fn weight_if(t: bool, i: usize) -> u8
+pub fn weight_if(t: bool, i: usize) -> u8
     requires { ⌜ i < 8 ⌝ }
     ensures { λ r. ⌜ r ≡ weightIf t i ⌝ }
 {
@@ -167,18 +146,17 @@ fn bit_byte(i: usize, j: usize) -> u8
     }
 }
 
-// Bit i of each of the first s states.
-pub fn bits(i: usize, s: usize) -> [u8; 128]
-    requires { ⌜ (i < 64) × (s ≤ 1024) ⌝ }
-    ensures { λ r. ⌜ Line (λ z. bitOf z i) s r ⌝ }
+// The len bytes from to on become those of the line that tests bit i.
+pub fn lay_bits(work: &mut [u8], i: usize, to: usize, len: usize)
+    requires { ⌜ i < 64 ⌝ }
+    requires { ⌜ to + len ≤ length (now work) ⌝ }
+    ensures { λ _. ⌜ Laid (bitByte i) to len (now (work .entry)) (now (work .exit)) ⌝ }
 {
-    let mut r = [0u8; 128];
     let mut j: usize = 0;
-    while j < (s + 7) / 8 {
-        r[j] = bit_byte(i, j);
+    while j < len {
+        work[to + j] = bit_byte(i, j);
         j += 1;
     }
-    r
 }
 
 // What the operation gives of no test, in each bit of a byte.
@@ -204,16 +182,16 @@ fn byte_over(o: Op, b: u8) -> bool
     }
 }
 
-// All bits of the first pitch bytes of a line, or some.
-pub fn line_over(o: Op, r: &[u8; 128], pitch: usize) -> bool
-    requires { ⌜ pitch ≤ 128 ⌝ }
+// All bits of the pitch bytes from at on, or some.
+pub fn line_over(work: &[u8], o: Op, at: usize, pitch: usize) -> bool
+    requires { ⌜ at + pitch ≤ length (now work) ⌝ }
     requires { ⌜ Quantifies o ⌝ }
-    ensures { λ t. ⌜ t ≡ over o (pitch * 8) (bit (now (r .entry))) ⌝ }
+    ensures { λ t. ⌜ t ≡ over o (pitch * 8) (λ y. bit (now (work .entry)) (at * 8 + y)) ⌝ }
 {
     let mut b = units(o);
     let mut j: usize = 0;
     while j < pitch {
-        b = byte_op(o, b, r[j]);
+        b = byte_op(o, b, work[at + j]);
         j += 1;
     }
     byte_over(o, b)

@@ -59,18 +59,39 @@ pub fn make(
     ensures { λ r. ⌜ NodeMade (now (codes .entry)) kind a b k pitch (now (ext .entry)) (now (work .entry)) r (now (work .exit)) ⌝ }
 {
     let base = (k + 2) * (pitch * 8 * pitch);
-    let first = form_at(codes, a as usize, pitch);
-    let second = form_at(codes, b as usize, pitch);
     match kind {
         0 => shapes::bit_line(work, a, b as usize, base, pitch),
         1 => shapes::arrange(work, 5, a, b, base, pitch),
-        2 => shapes::keep(work, *ext, a, base, pitch),
-        3 => shapes::apply(work, Op::Not, first, first, base, pitch),
-        4 => shapes::apply(work, Op::And, first, second, base, pitch),
-        5 => shapes::apply(work, Op::Or, first, second, base, pitch),
-        6 => shapes::range(work, Op::Or, first, b, base, pitch),
-        7 => shapes::range(work, Op::And, first, b, base, pitch),
-        8 => shapes::reach(work, closed, first, b / 2, b % 2, base, pitch),
-        9..=255 => shapes::keep(work, [0u8; 128], 0, base, pitch),
+        2 => shapes::keep(work, ext, a, base, pitch),
+        3 => {
+            let first = form_at(codes, a as usize, pitch);
+            shapes::apply(work, Op::Not, first, first, base, pitch)
+        }
+        4 => {
+            let first = form_at(codes, a as usize, pitch);
+            let second = form_at(codes, b as usize, pitch);
+            shapes::apply(work, Op::And, first, second, base, pitch)
+        }
+        5 => {
+            let first = form_at(codes, a as usize, pitch);
+            let second = form_at(codes, b as usize, pitch);
+            shapes::apply(work, Op::Or, first, second, base, pitch)
+        }
+        6 => {
+            let first = form_at(codes, a as usize, pitch);
+            shapes::range(work, Op::Or, first, b, base, pitch)
+        }
+        7 => {
+            let first = form_at(codes, a as usize, pitch);
+            shapes::range(work, Op::And, first, b, base, pitch)
+        }
+        8 => {
+            let first = form_at(codes, a as usize, pitch);
+            shapes::reach(work, closed, first, b / 2, b % 2, base, pitch)
+        }
+        9..=255 => {
+            let none = [0u8; 128];
+            shapes::keep(work, &none, 0, base, pitch)
+        }
     }
 }

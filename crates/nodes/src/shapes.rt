@@ -8,9 +8,9 @@ ghost use Rattle.planes.specs.Plane.{bit, cell, planeSize};
 ghost use Rattle.planes.specs.Lines.{Laid, Made};
 ghost use Rattle.records.specs.Policy.{varOf};
 ghost use Rattle.truth.specs.Truth.{value};
-ghost use Rattle.nodes.specs.Shapes.{opBool, opByte, over, Quantifies, Line, Plane, Source, Span};
+ghost use Rattle.nodes.specs.Shapes.{opBool, opByte, over, Quantifies, Line, Lined, Plane, Source, Span};
 ghost use Rattle.nodes.specs.declared.forms.Form.the-variants.{Both};
-ghost use Rattle.nodes.specs.Forms.{tests, place, Upright, rowOf, Readable, Stands, ranged, arranged, Reached, Closes, Reaches};
+ghost use Rattle.nodes.specs.Forms.{tests, place, Upright, rowOf, Readable, Stands, lineCode, ranged, arranged, Reached, Closes, Reaches};
 use crate::exchange;
 use crate::forms;
 use crate::forms::Form;
@@ -106,24 +106,30 @@ fn combine(work: &mut [u8], o: Op, a: Form, b: Form, base: usize, pitch: usize)
     join_planes(work, o, p, q, base, pitch * 8 * pitch);
 }
 
-// The line of a node over the variable v is kept at base; answers the code of its form.
-pub fn keep(work: &mut [u8], e: [u8; 128], v: u8, base: usize, pitch: usize) -> u8
-    requires { ⌜ Plane (now work) pitch base ⌝ }
-    ensures { λ r. ⌜ Stands (λ x y. bit e (value (varOf v) x y)) r pitch base (now (work .entry)) (now (work .exit)) ⌝ }
+// The code of a line over the variable v.
+fn line_code(v: u8) -> u8
+    ensures { λ r. ⌜ r ≡ lineCode (varOf v) ⌝ }
 {
-    planes::put_line(work, base, &e, pitch);
     if v == 0 { 1 } else { 2 }
 }
 
-// The operation on the lines at a and b.
-fn joined_lines(work: &[u8], o: Op, a: usize, b: usize, pitch: usize) -> [u8; 128]
-    requires { ⌜ Plane (now work) pitch a ⌝ }
-    requires { ⌜ Plane (now work) pitch b ⌝ }
-    ensures { λ e. ⌜ Line (λ z. opBool o (bit (now (work .entry)) (a * 8 + z)) (bit (now (work .entry)) (b * 8 + z))) (pitch * 8) e ⌝ }
+// The line of a node over the variable v is kept at base; answers the code of its form.
+pub fn keep(work: &mut [u8], e: &[u8; 128], v: u8, base: usize, pitch: usize) -> u8
+    requires { ⌜ Plane (now work) pitch base ⌝ }
+    ensures { λ r. ⌜ Stands (λ x y. bit (now (e .entry)) (value (varOf v) x y)) r pitch base (now (work .entry)) (now (work .exit)) ⌝ }
 {
-    let p = planes::load_line(work, a, pitch);
-    let q = planes::load_line(work, b, pitch);
-    lines::join(o, &p, &q)
+    planes::put_line(work, base, e, pitch);
+    line_code(v)
+}
+
+// The line at base becomes the operation on the lines at a and b.
+fn join_lines(work: &mut [u8], o: Op, a: usize, b: usize, base: usize, pitch: usize)
+    requires { ⌜ Plane (now work) pitch base ⌝ }
+    requires { ⌜ Source (now work) pitch base a ⌝ }
+    requires { ⌜ Source (now work) pitch base b ⌝ }
+    ensures { λ _. ⌜ Lined (λ z. opBool o (bit (now (work .entry)) (a * 8 + z)) (bit (now (work .entry)) (b * 8 + z))) (pitch * 8) pitch base (now (work .entry)) (now (work .exit)) ⌝ }
+{
+    lines::join_span(work, o, a, b, base, pitch);
 }
 
 // NOT, AND, OR: the operation on two forms stands at base; answers the code of its form.
@@ -136,12 +142,12 @@ pub fn apply(work: &mut [u8], o: Op, a: Form, b: Form, base: usize, pitch: usize
     let way = forms::pairing(a, b);
     match way {
         Way::OverX => {
-            let e = joined_lines(work, o, forms::start(a), forms::start(b), pitch);
-            keep(work, e, 0, base, pitch)
+            join_lines(work, o, forms::start(a), forms::start(b), base, pitch);
+            1
         }
         Way::OverY => {
-            let e = joined_lines(work, o, forms::start(a), forms::start(b), pitch);
-            keep(work, e, 1, base, pitch)
+            join_lines(work, o, forms::start(a), forms::start(b), base, pitch);
+            2
         }
         Way::Straight => {
             combine(work, o, a, b, base, pitch);
@@ -170,58 +176,72 @@ pub fn bit_line(work: &mut [u8], v: u8, i: usize, base: usize, pitch: usize) -> 
     requires { ⌜ i < 64 ⌝ }
     ensures { λ r. ⌜ Stands (λ x y. bitOf (value (varOf v) x y) i) r pitch base (now (work .entry)) (now (work .exit)) ⌝ }
 {
-    let e = lines::bits(i, pitch * 8);
-    keep(work, e, v, base, pitch)
+    lines::lay_bits(work, i, base, pitch);
+    line_code(v)
 }
 
-// The states y that are true with every x (And), or with some x (Or).
-fn gather_x(work: &[u8], o: Op, a: usize, pitch: usize) -> [u8; 128]
-    requires { ⌜ Plane (now work) pitch a ⌝ }
+// The line at base becomes the states y that are true with every x (And), or with some x (Or).
+fn gather_x(work: &mut [u8], o: Op, a: usize, base: usize, pitch: usize)
+    requires { ⌜ Plane (now work) pitch base ⌝ }
+    requires { ⌜ Source (now work) pitch base a ⌝ }
     requires { ⌜ Quantifies o ⌝ }
-    ensures { λ r. ⌜ Line (λ y. over o (pitch * 8) (λ x. cell (now (work .entry)) a pitch x y)) (pitch * 8) r ⌝ }
+    ensures { λ _. ⌜ Lined (λ y. over o (pitch * 8) (λ x. cell (now (work .entry)) a pitch x y)) (pitch * 8) pitch base (now (work .entry)) (now (work .exit)) ⌝ }
 {
-    let u = lines::units(o);
-    let mut acc = [u; 128];
+    lines::fill(work, lines::units(o), base, pitch);
     let mut x: usize = 0;
     while x < pitch * 8 {
-        let p = planes::load_line(work, a + x * pitch, pitch);
-        acc = lines::join(o, &acc, &p);
+        lines::join_span(work, o, base, a + x * pitch, base, pitch);
         x += 1;
     }
-    acc
 }
 
-// The states x that are true with every y (And), or with some y (Or).
-fn gather_y(work: &[u8], o: Op, a: usize, pitch: usize) -> [u8; 128]
+// Of each of eight lines from line x on, all bits or some, as a byte.
+fn eight_over(work: &[u8], o: Op, a: usize, x: usize, pitch: usize) -> u8
     requires { ⌜ Plane (now work) pitch a ⌝ }
+    requires { ⌜ x + 8 ≤ pitch * 8 ⌝ }
     requires { ⌜ Quantifies o ⌝ }
-    ensures { λ r. ⌜ Line (λ x. over o (pitch * 8) (λ y. cell (now (work .entry)) a pitch x y)) (pitch * 8) r ⌝ }
+    ensures { λ r. ⌜ ((i : ℕ) → i < 8 → bitOf r i ≡ over o (pitch * 8) (λ y. cell (now (work .entry)) a pitch (x + i) y)) ⌝ }
 {
-    let mut r = [0u8; 128];
-    let mut x: usize = 0;
-    while x < pitch * 8 {
-        let p = planes::load_line(work, a + x * pitch, pitch);
-        let t = lines::line_over(o, &p, pitch);
-        lines::push(&mut r, x, t);
-        x += 1;
+    let mut r: u8 = 0;
+    let mut i: usize = 0;
+    while i < 8 {
+        let t = lines::line_over(work, o, a + (x + i) * pitch, pitch);
+        r = r | lines::weight_if(t, i);
+        i += 1;
     }
     r
 }
 
-// The states x for which a form passes with every y (And), or with some y (Or).
-fn range_line(work: &[u8], o: Op, f: Form, pitch: usize) -> [u8; 128]
-    requires { ⌜ Plane (now work) pitch (place f) ⌝ }
+// The line at base becomes the states x that are true with every y (And), or with some y (Or).
+fn gather_y(work: &mut [u8], o: Op, a: usize, base: usize, pitch: usize)
+    requires { ⌜ Plane (now work) pitch base ⌝ }
+    requires { ⌜ Source (now work) pitch base a ⌝ }
     requires { ⌜ Quantifies o ⌝ }
-    ensures { λ r. ⌜ Line (λ x. over o (pitch * 8) (λ y. tests f (now (work .entry)) pitch x y)) (pitch * 8) r ⌝ }
+    ensures { λ _. ⌜ Lined (λ x. over o (pitch * 8) (λ y. cell (now (work .entry)) a pitch x y)) (pitch * 8) pitch base (now (work .entry)) (now (work .exit)) ⌝ }
+{
+    let mut j: usize = 0;
+    while j < pitch {
+        let t = eight_over(work, o, a, j * 8, pitch);
+        work[base + j] = t;
+        j += 1;
+    }
+}
+
+// The line at base becomes the states x for which a form passes with every y (And), or with some y (Or).
+fn range_line(work: &mut [u8], o: Op, f: Form, base: usize, pitch: usize)
+    requires { ⌜ Plane (now work) pitch base ⌝ }
+    requires { ⌜ Source (now work) pitch base (place f) ⌝ }
+    requires { ⌜ Quantifies o ⌝ }
+    ensures { λ _. ⌜ Lined (λ x. over o (pitch * 8) (λ y. tests f (now (work .entry)) pitch x y)) (pitch * 8) pitch base (now (work .entry)) (now (work .exit)) ⌝ }
 {
     match f {
-        Form::OfX(at) => planes::load_line(work, at, pitch),
+        Form::OfX(at) => join_lines(work, o, at, at, base, pitch),
         Form::OfY(at) => {
-            let e = planes::load_line(work, at, pitch);
-            lines::whole(lines::line_over(o, &e, pitch))
+            let t = lines::line_over(work, o, at, pitch);
+            lines::fill(work, lines::full(t), base, pitch);
         }
-        Form::Both(at) => gather_y(work, o, at, pitch),
-        Form::Turned(at) => gather_x(work, o, at, pitch),
+        Form::Both(at) => gather_y(work, o, at, base, pitch),
+        Form::Turned(at) => gather_x(work, o, at, base, pitch),
     }
 }
 
@@ -233,11 +253,11 @@ pub fn range(work: &mut [u8], o: Op, f: Form, v: u8, base: usize, pitch: usize) 
     ensures { λ r. ⌜ Stands (ranged o (varOf v) f (now (work .entry)) pitch) r pitch base (now (work .entry)) (now (work .exit)) ⌝ }
 {
     if v != 0 {
-        let e = range_line(work, o, f, pitch);
-        keep(work, e, 0, base, pitch)
+        range_line(work, o, f, base, pitch);
+        1
     } else {
-        let e = range_line(work, o, forms::turn(f), pitch);
-        keep(work, e, 1, base, pitch)
+        range_line(work, o, forms::turn(f), base, pitch);
+        2
     }
 }
 
@@ -274,7 +294,7 @@ pub fn arrange(work: &mut [u8], code: u8, u: u8, v: u8, base: usize, pitch: usiz
     if u == 0 {
         if v == 0 {
             let e = diagonal_of(work, f, pitch);
-            keep(work, e, 0, base, pitch)
+            keep(work, &e, 0, base, pitch)
         } else {
             code
         }
@@ -283,7 +303,7 @@ pub fn arrange(work: &mut [u8], code: u8, u: u8, v: u8, base: usize, pitch: usiz
             forms::turn_code(code)
         } else {
             let e = diagonal_of(work, f, pitch);
-            keep(work, e, 1, base, pitch)
+            keep(work, &e, 1, base, pitch)
         }
     }
 }
@@ -319,11 +339,11 @@ fn shut(work: &mut [u8], closed: bool, f: Form, base: usize, pitch: usize) -> u8
     match f {
         Form::OfX(at) => {
             let e = planes::load_line(work, at, pitch);
-            keep(work, e, 0, base, pitch)
+            keep(work, &e, 0, base, pitch)
         }
         Form::OfY(at) => {
             let e = planes::load_line(work, at, pitch);
-            keep(work, e, 1, base, pitch)
+            keep(work, &e, 1, base, pitch)
         }
         Form::Both(at) => shut_plane(work, closed, at, base, pitch),
         Form::Turned(at) => {

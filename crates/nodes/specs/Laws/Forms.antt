@@ -3,14 +3,15 @@ use mathlib.Core.Path.{_≡_, refl, sym, ap, _∙_}
 use mathlib.Core.Bool.{Bool}
 use mathlib.Core.List.{List, [], _∷_}
 use mathlib.Core.Logic.{_⊎_, ⊎-elim}
-use Prim.Native.Nat.{ℕ, zero, suc, _+_, _*_, _≤_, _<_}
+use Prim.Native.Nat.{ℕ, zero, suc, _+_, _*_, _/_, _%_, _≤_, _<_}
 use native.Mathlib.Omega.{arith}
 use lib.ListN.{length, getD, List·getD-eq-default}
-use Rattle.planes.specs.Lines.{Made, Put}
+use Rattle.planes.specs.Lines.{Laid, Made, Put}
+use Rattle.planes.specs.Bit.{bitOf}
 use Rattle.planes.specs.Plane.{bit, cell, planeSize}
 use Rattle.planes.specs.Laws.Places.{line-before}
-use Rattle.planes.specs.Laws.Lines.{line-kept, plane-kept, put-bit}
-use Rattle.records.specs.Policy.{Var, X, Y, varOf}
+use Rattle.planes.specs.Laws.Lines.{line-bit, line-kept, plane-kept}
+use Rattle.records.specs.Policy.{Var, X, Y}
 use Rattle.closure.specs.Walk.{Walk}
 use Rattle.closure.specs.Walk.Walk.{one, more}
 use Rattle.passes.specs.Into.{Apart, ClosedInto}
@@ -18,10 +19,10 @@ use Rattle.closure.specs.Laws.Walks.{map-walk, walk-back}
 use Rattle.nodes.specs.declared.forms.Form.{Form}
 use Rattle.nodes.specs.declared.forms.Form.the-variants.{OfX, OfY, Both, Turned}
 use Rattle.truth.specs.Truth.{value}
-use Rattle.nodes.specs.Shapes.{Outside, Plane, Source}
-use Rattle.nodes.specs.Forms.{tests, place, turned, formOf, turnCode, arranged, Stands, Reached, Reaches, Closes}
+use Rattle.nodes.specs.Shapes.{Outside, Lined, Plane, Source}
+use Rattle.nodes.specs.Forms.{tests, place, turned, formOf, turnCode, lineCode, arranged, Stands, Reached, Reaches, Closes}
 use Rattle.truth.specs.Laws.Tables.{value-lt}
-use Rattle.nodes.specs.Laws.PlaneShapes.{line-small, other-var}
+use Rattle.nodes.specs.Laws.PlaneShapes.{line-small}
 
 -- a form with X and Y exchanged
 pub turned-tests : (f : Form) (bytes : List ℕ) (pitch x y : ℕ) → tests (turned f) bytes pitch x y ≡ tests f bytes pitch y x
@@ -109,24 +110,27 @@ pub stands-as : (f g : ℕ → ℕ → Bool) (code pitch base : ℕ) (a b : List
     → Stands f code pitch base a b → Stands g code pitch base a b
 stands-as f g code pitch base a b h S = record { len = S .len; named = S .named; here = λ x y hx hy. S .here x y hx hy ∙ h x y hx hy; rest = S .rest }
 
--- a line that was stored, over each variable
-module _ (e : List ℕ) (pitch base : ℕ) (a b : List ℕ) (P : Put e base pitch a b) where
-  beside : (m : ℕ) → Outside pitch base m → getD b m 0 ≡ getD a m 0
-  beside m o = ⊎-elim (λ h. P .under m h) (λ h. P .over m (omega (arith, line-small pitch))) o
+-- a line that was laid, whole and as bytes f, and one that was stored
+pub lined-stands : (v : Var) (g : ℕ → Bool) (pitch base : ℕ) (a b : List ℕ) → Lined g (pitch * 8) pitch base a b → Stands (λ x y. g (value v x y)) (lineCode v) pitch base a b
+unfolding formOf
+lined-stands X g pitch base a b L = record { len = L .len; named = omega arith; here = λ x y hx hy. L .here x hx; rest = L .rest }
+lined-stands Y g pitch base a b L = record { len = L .len; named = omega arith; here = λ x y hx hy. L .here y hy; rest = L .rest }
 
-  kept-x : Stands (λ x y. bit e x) 1 pitch base a b
-  unfolding formOf
-  kept-x = record { len = P .len; named = omega arith; here = λ x y hx hy. put-bit e base pitch a b P x hx; rest = beside }
+pub laid-lined : (f : ℕ → ℕ) (g : ℕ → Bool) (pitch base : ℕ) (a b : List ℕ) → Laid f base pitch a b → ((z : ℕ) → z < pitch * 8 → bitOf (f (z / 8)) (z % 8) ≡ g z)
+    → Lined g (pitch * 8) pitch base a b
+laid-lined f g pitch base a b L is = record {
+  len = L .len;
+  here = λ z h. line-bit f base pitch b (L .inside) z h ∙ is z h;
+  rest = λ m o. ⊎-elim (λ h. L .under m h) (λ h. L .over m (omega (arith, line-small pitch))) o;
+}
 
-  kept-y : Stands (λ x y. bit e y) 2 pitch base a b
-  unfolding formOf
-  kept-y = record { len = P .len; named = omega arith; here = λ x y hx hy. put-bit e base pitch a b P y hy; rest = beside }
+-- what it tests may be said in other words
+pub lined-as : (f g : ℕ → Bool) (n pitch base : ℕ) (a b : List ℕ) → ((z : ℕ) → z < n → f z ≡ g z) → Lined f n pitch base a b → Lined g n pitch base a b
+lined-as f g n pitch base a b h L = record { len = L .len; here = λ z hz. L .here z hz ∙ h z hz; rest = L .rest }
 
-  pub kept-first : (v : ℕ) → v ≡ 0 → Stands (λ x y. bit e (value (varOf v) x y)) 1 pitch base a b
-  kept-first v h = rw h kept-x
-
-  pub kept-other : (v : ℕ) → (v ≡ 0 → ⊥) → Stands (λ x y. bit e (value (varOf v) x y)) 2 pitch base a b
-  kept-other v h = rw (other-var v h) kept-y
+pub put-lined : (e : List ℕ) (pitch base : ℕ) (a b : List ℕ) → Put e base pitch a b → Lined (bit e) (pitch * 8) pitch base a b
+unfolding bit
+put-lined e pitch base a b P = laid-lined (λ j. getD e j 0) (bit e) pitch base a b P (λ z h. refl)
 
 -- a plane that was made
 module _ (f : ℕ → ℕ → Bool) (pitch base : ℕ) (a b : List ℕ) (M : Made f pitch base (pitch * 8) a b) where

@@ -1,5 +1,5 @@
--- Operations on the bits of a byte and of a line; a line that is made byte by byte, or bit by bit.
-use mathlib.Core.Path.{_≡_, refl, sym, ap, _∙_}
+-- Operations on the bits of a byte; a line and a byte that are made bit by bit.
+use mathlib.Core.Path.{_≡_, refl, sym, ap, ap₂, _∙_}
 use mathlib.Core.Bool.{Bool, true, false, not, _||_, or-true, or-false}
 use mathlib.Core.List.{List}
 use mathlib.Core.Logic.{_⊎_, inl, inr}
@@ -7,19 +7,19 @@ use Prim.Native.Nat.{ℕ, zero, suc, _+_, _-_, _*_, _/_, _%_, _^_, _≤_, _<_}
 use native.Mathlib.Nat.{not-suc-le-zero, le-of-suc-le-suc}
 use native.Mathlib.Omega.{arith}
 use borrow.Author.Count.{below-more}
-use borrow.Author.Tests.{eqb-true}
+use borrow.Author.Tests.{eqb-true, eq-eqb, ne-eqb}
 use lib.Dec.{eqb}
-use lib.ListN.{length, getD, set, replicate, getD-replicate}
-use lib.Seq.{getD-set-same, getD-set-other, set-getD}
+use lib.ListN.{length, getD, set, replicate}
+use lib.Seq.{set-getD}
 use lib.Bits.{bitOr, bitXor, xor-shr, xor-mod, or-zero-r}
 use Rattle.planes.specs.Bit.{bitOf}
 use Rattle.planes.specs.Plane.{bit}
 use Rattle.planes.specs.Laws.Lines.{no-bit}
-use Rattle.planes.specs.Laws.Bits.{bit-and, bit-or, bit-not, bit-zero, bit-block, bit-high, digit-cases}
+use Rattle.planes.specs.Laws.Bits.{bit-and, bit-or, bit-not, bit-zero, bit-block, bit-high, bit-power, digit-cases}
 use Rattle.planes.proofs.StoredBit.{bit-set}
 use Rattle.nodes.specs.declared.lines.Op.{Op}
 use Rattle.nodes.specs.declared.lines.Op.the-variants.{Not, And, Or}
-use Rattle.nodes.specs.Shapes.{opBool, opByte, fullByte, weightIf, bitByte, Line, Joined, Pushed}
+use Rattle.nodes.specs.Shapes.{opBool, opByte, fullByte, weightIf, bitByte, Line, Pushed}
 
 pub full-bit : (t : Bool) (i : ℕ) → i < 8 → bitOf (fullByte t) i ≡ t
 full-bit true i h = bit-not 8 0 i (omega arith) h ∙ ap not (bit-zero i)
@@ -41,31 +41,6 @@ pub op-bit : (o : Op) (a b i : ℕ) → i < 8 → bitOf (opByte o a b) i ≡ opB
 op-bit Not a b i h = bit-flip a i h
 op-bit And a b i h = bit-and a b i
 op-bit Or a b i h = bit-or a b i
-
--- and at a bit of a line
-pub joined-bit : (o : Op) (p q r : List ℕ) → Joined o p q r 128 → (y : ℕ) → y < 1024 → bit r y ≡ opBool o (bit p y) (bit q y)
-unfolding bit
-joined-bit o p q r J y h =
-    ap (λ (b : ℕ). bitOf b (y % 8)) (J .is (y / 8) (omega arith))
-    ∙ op-bit o (getD p (y / 8) 0) (getD q (y / 8) 0) (y % 8) (omega arith)
-
-pub joined-none : (o : Op) (p q r : List ℕ) → Joined o p q r 0
-joined-none o p q r = record { is = λ j h. absurd (not-suc-le-zero h) }
-
-pub joined-more : (o : Op) (p q r : List ℕ) (j v : ℕ) → Joined o p q r j → j < length r → v ≡ opByte o (getD p j 0) (getD q j 0)
-    → Joined o p q (set r j v) (j + 1)
-joined-more o p q r j v I h e = record {
-  is = below-more (λ (m : ℕ). getD (set r j v) m 0 ≡ opByte o (getD p m 0) (getD q m 0)) j
-      (λ m hm. getD-set-other r j m v 0 (λ s. omega arith) ∙ I .is m hm)
-      (getD-set-same r j v 0 h ∙ e);
-}
-
--- a line that is one full byte over and over
-pub full-line : (t : Bool) (b y : ℕ) → b ≡ fullByte t → y < 1024 → bit (replicate 128 b) y ≡ t
-unfolding bit
-full-line t b y e h =
-    ap (λ (c : ℕ). bitOf c (y % 8)) (getD-replicate 128 (y / 8) b 0 (omega arith) ∙ e)
-    ∙ full-bit t (y % 8) (omega arith)
 
 -- the three lowest bits of a number are bits of three bytes
 abbrev Low : ℕ → Type 0
@@ -97,29 +72,9 @@ high-byte (suc zero) j h = absurd (not-suc-le-zero (le-of-suc-le-suc h))
 high-byte (suc (suc zero)) j h = absurd (not-suc-le-zero (le-of-suc-le-suc (le-of-suc-le-suc h)))
 high-byte (suc (suc (suc i))) j h = let e : suc (suc (suc i)) - 3 ≡ i = omega arith in ap (λ (m : ℕ). fullByte (bitOf j m)) e
 
--- the first n bytes of a line test bit i
-pub record Bits (i : ℕ) (line : List ℕ) (n : ℕ) : Type 0 where
-  pub is : (j : ℕ) → j < n → getD line j 0 ≡ bitByte i j
-
-pub bits-none : (i : ℕ) (r : List ℕ) → Bits i r 0
-bits-none i r = record { is = λ j h. absurd (not-suc-le-zero h) }
-
-pub bits-more : (i : ℕ) (r : List ℕ) (j v : ℕ) → Bits i r j → j < length r → v ≡ bitByte i j → Bits i (set r j v) (j + 1)
-bits-more i r j v B h e = record {
-  is = below-more (λ (m : ℕ). getD (set r j v) m 0 ≡ bitByte i m) j
-      (λ m hm. getD-set-other r j m v 0 (λ s. omega arith) ∙ B .is m hm)
-      (getD-set-same r j v 0 h ∙ e);
-}
-
-pub bits-line : (i s n : ℕ) (r : List ℕ) → s ≤ n * 8 → Bits i r n → Line (λ z. bitOf z i) s r
-unfolding bit
-bits-line i s n r l B = record {
-  is = λ y h.
-      let e : y / 8 * 8 + y % 8 ≡ y = omega arith in
-      ap (λ (b : ℕ). bitOf b (y % 8)) (B .is (y / 8) (omega arith))
-      ∙ byte-tests i (y / 8) (y % 8) (omega arith)
-      ∙ ap (λ (m : ℕ). bitOf m i) e;
-}
+-- and of a bit of that line
+pub bit-tests : (i z : ℕ) → bitOf (bitByte i (z / 8)) (z % 8) ≡ bitOf z i
+bit-tests i z = let e : z / 8 * 8 + z % 8 ≡ z = omega arith in byte-tests i (z / 8) (z % 8) (omega arith) ∙ ap (λ (m : ℕ). bitOf m i) e
 
 -- the first z bits of a line are f, and the others are not set
 pub record Upto (f : ℕ → Bool) (z : ℕ) (r : List ℕ) : Type 0 where
@@ -153,3 +108,31 @@ pushed r z false h =
     let e : set r (z / 8) (bitOr (getD r (z / 8) 0) 0) ≡ r =
     ap (λ (b : ℕ). set r (z / 8) b) (or-zero-r (getD r (z / 8) 0)) ∙ set-getD r (z / 8) 0 in
     record { here = ap (λ (l : List ℕ). bit l z) e ∙ sym (or-false (bit r z)); others = λ m n. ap (λ (l : List ℕ). bit l m) e }
+
+-- the first i bits of a byte are f, and the others are not set
+pub record BitsUpto (f : ℕ → Bool) (i r : ℕ) : Type 0 where
+  pub done : (k : ℕ) → k < i → bitOf r k ≡ f k
+  pub blank : (k : ℕ) → i ≤ k → bitOf r k ≡ false
+
+pub bits-upto-none : (f : ℕ → Bool) → BitsUpto f 0 0
+bits-upto-none f = record { done = λ k h. absurd (not-suc-le-zero h); blank = λ k h. bit-zero k }
+
+weight-bit : (t : Bool) (i : ℕ) → bitOf (weightIf t i) i ≡ t
+weight-bit true i = bit-power i i ∙ eq-eqb i i refl
+weight-bit false i = bit-zero i
+
+weight-other : (t : Bool) (i k : ℕ) → (k ≡ i → ⊥) → bitOf (weightIf t i) k ≡ false
+weight-other true i k n = bit-power i k ∙ ne-eqb k i n
+weight-other false i k n = bit-zero k
+
+-- one more bit
+pub bits-upto-more : (f : ℕ → Bool) (i r w : ℕ) (t : Bool) → BitsUpto f i r → w ≡ weightIf t i → t ≡ f i → BitsUpto f (i + 1) (bitOr r w)
+bits-upto-more f i r w t F e q = record {
+  done = below-more (λ (k : ℕ). bitOf (bitOr r w) k ≡ f k) i
+      (λ k h. other k (λ s. omega arith) ∙ F .done k h)
+      (bit-or r w i ∙ ap₂ (λ (a b : Bool). a || b) (F .blank i (omega arith)) (ap (λ (v : ℕ). bitOf v i) e ∙ weight-bit t i) ∙ q);
+  blank = λ k h. other k (λ s. omega arith) ∙ F .blank k (omega arith);
+}
+  where
+    other : (k : ℕ) → (k ≡ i → ⊥) → bitOf (bitOr r w) k ≡ bitOf r k
+    other k n = bit-or r w k ∙ ap (λ (b : Bool). bitOf r k || b) (ap (λ (v : ℕ). bitOf v k) e ∙ weight-other t i k n) ∙ or-false (bitOf r k)

@@ -1,5 +1,4 @@
 -- `nodes::lines::join_rows` meets its contract.
-use mathlib.Core.Path.{ap}
 use borrow.Author.Needs.{needs}
 use Rattle.nodes.proofs.lines.join_rows.Statement.{statement}
 use Rattle.nodes.proofs.lines.join_rows.Tie as tie

@@ -17,12 +17,12 @@ diagonal-of-requires-2 c κs = let P = c .before .before .before .before .before
 
 returns : tie.Need-returns
 returns c =
-    let at-start = c .before .before .before .before .before .before .before .before .before .before in
-    rw (c .before .before .before .before .before .before .before .if1 .taken, c .before .before .before .before .before .before .if2 .taken)
+    let at-start = c .before .before .before .before .before .before .before .before .before .before .before in
+    rw (c .before .before .before .before .before .before .before .before .if1 .taken, c .before .before .before .before .before .before .before .if2 .taken)
     (stands-as _ _ _ _ _ _ _
     (λ x y hx hy.
-    c .before .before .before .before .diagonal-of .ensures .is x hx
-    ∙ ap (λ (g : Form). tests g (now (at-start .args .work)) (at-start .args .pitch) x x) (c .before .before .before .before .before .before .before .before .form-of .ensures))
+    c .before .before .before .before .before .diagonal-of .ensures .is x hx
+    ∙ ap (λ (g : Form). tests g (now (at-start .args .work)) (at-start .args .pitch) x x) (c .before .before .before .before .before .before .before .before .before .form-of .ensures))
     (c .before .before .keep .ensures))
 
 returns-2 : tie.Need-returns-2
@@ -33,12 +33,12 @@ returns-3 c = rw (other-var _ (c .before .before .if1 .left), c .before .if3 .ta
 
 returns-4 : tie.Need-returns-4
 returns-4 c =
-    let at-start = c .before .before .before .before .before .before .before .before .before .before in
-    rw (other-var _ (c .before .before .before .before .before .before .before .if1 .left), other-var _ (c .before .before .before .before .before .before .if3 .left))
+    let at-start = c .before .before .before .before .before .before .before .before .before .before .before in
+    rw (other-var _ (c .before .before .before .before .before .before .before .before .if1 .left), other-var _ (c .before .before .before .before .before .before .before .if3 .left))
     (stands-as _ _ _ _ _ _ _
     (λ x y hx hy.
-    c .before .before .before .before .diagonal-of2 .ensures .is y hy
-    ∙ ap (λ (g : Form). tests g (now (at-start .args .work)) (at-start .args .pitch) y y) (c .before .before .before .before .before .before .before .before .form-of .ensures))
+    c .before .before .before .before .before .diagonal-of2 .ensures .is y hy
+    ∙ ap (λ (g : Form). tests g (now (at-start .args .work)) (at-start .args .pitch) y y) (c .before .before .before .before .before .before .before .before .before .form-of .ensures))
     (c .before .before .keep2 .ensures))
 
 pub arrange-spec : {M : Type 1} → statement M

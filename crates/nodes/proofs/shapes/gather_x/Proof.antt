@@ -1,53 +1,63 @@
 -- `nodes::shapes::gather_x` meets its contract. The loop's invariant is the contract at the x lines passed.
-use mathlib.Core.Path.{_≡_, sym, ap₂, subst, _∙_}
-use Prim.Native.Nat.{ℕ, _*_, _-_, _≤_}
-use denote.Ref.{now}
+use mathlib.Core.Path.{_∙_}
+use mathlib.Core.Logic.{inr}
+use Prim.Native.Nat.{_+_, _*_, _-_, _≤_}
 use Rattle.planes.specs.Plane.{cell}
 use Rattle.planes.specs.Laws.Places.{line-before}
-use Rattle.planes.specs.Laws.Lines.{loaded-bit}
-use Rattle.nodes.specs.Shapes.{opBool, over, unit, Line}
-use Rattle.nodes.specs.Laws.LineBits.{joined-bit, full-line}
-use Rattle.nodes.proofs.Quantified.{over-none, over-more}
+use Rattle.nodes.specs.Shapes.{over, Lined}
+use Rattle.nodes.specs.Laws.Forms.{first-room}
+use Rattle.nodes.specs.Laws.PlaneShapes.{source-in}
+use Rattle.nodes.proofs.Gathered.{source-still, gathered-none, gathered-more, gathered-all}
+use Rattle.nodes.proofs.LinesLaid.{source-span}
 use native.Mathlib.Omega.{arith}
+use borrow.Author.Needs.{needs}
 use Rattle.nodes.proofs.shapes.gather_x.Statement.{statement}
 use Rattle.nodes.proofs.shapes.gather_x.Tie as tie
 
 abbrev Inv-loop : tie.InvT-loop
-Inv-loop work o a pitch u acc₀ x₀ acc x = (x ≤ pitch * 8) × Line (λ y. over o x (λ i. cell work a pitch i y)) (pitch * 8) acc
+Inv-loop work₀ o a base pitch x₀ work x = (x ≤ pitch * 8) × Lined (λ y. over o x (λ i. cell work₀ a pitch i y)) (pitch * 8) pitch base work₀ work
 
 abbrev μ-loop : tie.MeasureT-loop
-μ-loop work o a pitch u acc₀ x₀ acc x = pitch * 8 - x
+μ-loop work₀ o a base pitch x₀ work x = pitch * 8 - x
 
 loop-holds : tie.Need-loop-holds Inv-loop μ-loop
 loop-holds c =
-    let at-start = c .before .before in
-    let o = at-start .args .o in (
-      omega arith,
-      record { is = λ y h. full-line (unit o) _ y (c .units .ensures) (omega (arith, at-start .pre .0 .small)) ∙ sym (over-none o (at-start .pre .1) _) },
+    let at-start = c .before .before .before .before .before .before in
+    (omega arith, gathered-none (at-start .args .o) (at-start .pre .1 .1) _ _ _ _ _ _ (c .before .before .before .units .ensures) (c .before .before .fill .ensures))
+
+join-span-requires : tie.Need-join-span-requires Inv-loop μ-loop
+join-span-requires c κs =
+    let at-loop = c .before .before in
+    let at-start = at-loop .before .before .before .before .before .before .before in
+    let L = at-loop .loop .inv .1 in
+    let room = first-room _ _ _ (at-start .pre .0) in (
+      record { within = omega (arith, room, L .len, at-loop .before .before .before .fill .ensures .len); ahead = inr (omega arith) },
+      (
+        source-span _ _ _ _ (source-still _ _ _ _ _ _ L _ (source-in _ _ _ _ _ (at-loop .before .before .before .fill .ensures .len) (at-start .pre .1 .0))) _ (c .before .loop-test .taken),
+        omega (arith, room, L .len, at-loop .before .before .before .fill .ensures .len),
+      ),
     )
 
 loop-again : tie.Need-loop-again Inv-loop μ-loop
 loop-again c =
     let at-loop = c .before .before .before .before .before in
-    let at-start = at-loop .before .before .before in
-    let o = at-start .args .o in (
-      omega arith,
-      record {
-        is = λ y hy.
-            joined-bit o _ _ _ (c .join .ensures) y (omega (arith, at-start .pre .0 .small))
-            ∙ ap₂ (opBool o) (at-loop .loop .inv .1 .is y hy) (loaded-bit _ _ _ _ (c .before .before .before .load-line .ensures) y hy)
-            ∙ sym (over-more o (at-start .pre .1) (at-loop .loop .x) _);
-      },
+    let at-start = at-loop .before .before .before .before .before .before .before in
+    let taken = c .before .before .before .before .loop-test .taken in (
+      omega (arith, taken),
+      gathered-more (at-start .args .o) (at-start .pre .1 .1) _ _ _ _ (at-loop .loop .x) _ _ (source-in _ _ _ _ _ (at-loop .before .before .before .fill .ensures .len) (at-start .pre .1 .0)) taken (at-loop .loop .inv .1) (c .before .before .join-span .ensures),
     )
 
 returns : tie.Need-returns Inv-loop μ-loop
 returns c =
     let at-loop = c .before in
-    let at-start = at-loop .before .before .before in
-    let e : at-loop .loop .x ≡ at-start .args .pitch * 8 = omega arith in
-    subst
-    (λ (n : ℕ). Line (λ y. over (at-start .args .o) n (λ i. cell (now (at-start .args .work)) (at-start .args .a) (at-start .args .pitch) i y)) (at-start .args .pitch * 8) (at-loop .loop .acc))
-    e (at-loop .loop .inv .1)
+    let at-start = at-loop .before .before .before .before .before .before .before in
+    gathered-all (at-start .args .o) _ _ _ (at-loop .loop .x) _ _ _ _ (at-loop .before .before .before .fill .ensures) (at-start .pre .1 .0) (omega arith) (at-loop .loop .inv .1)
+
+-- in a turn, line x is within the plane that is gathered
+fits : (c : tie.In-loop Inv-loop μ-loop)
+    → let pitch = c .before .before .before .before .before .before .before .before .args .pitch in
+    c .before .loop .x * pitch + pitch ≤ pitch * 8 * pitch
+fits c = line-before _ _ (c .before .before .before .before .before .before .before .before .args .pitch) (c .loop-test .taken)
 
 pub gather-x-spec : {M : Type 1} → statement M
 gather-x-spec =
@@ -55,14 +65,15 @@ gather-x-spec =
     (tie.spec
     Inv-loop
     μ-loop
-    (λ c κs. omega arith)
+    (λ c κs. search needs)
+    (λ c κs. first-room _ _ _ (c .before .before .before .pre .0))
     loop-holds
     (λ c. omega arith)
-    (λ c. omega (arith, line-before _ _ (c .before .before .before .before .args .pitch) (c .loop-test .taken)))
-    (λ c. omega (arith, line-before _ _ (c .before .before .before .before .args .pitch) (c .loop-test .taken)))
-    (λ c κs. omega (arith, line-before _ _ (c .before .before .before .before .args .pitch) (c .loop-test .taken)))
-    (λ c κs. omega arith)
+    (λ c. omega (arith, fits (c .before)))
+    (λ c. omega (arith, fits (c .before), c .before .before .before .before .before .before .before .before .before .pre .1 .0 .within))
+    join-span-requires
     (λ c. omega arith)
     (λ c. omega arith)
     loop-again
+    (λ c. c .before .loop .inv .1 .len ∙ c .before .before .before .before .fill .ensures .len)
     returns)

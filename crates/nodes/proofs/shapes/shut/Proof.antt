@@ -23,13 +23,13 @@ shut-plane-requires-2 c κs = let P = c .before .before .before .before .before 
 
 returns : tie.Need-returns
 returns c =
-    rw (c .before .before .before .before .before .before .before .f .given .1)
-    (line-closed-x _ _ _ _ _ _ (stands-as _ _ _ _ _ _ _ (λ x y hx hy. loaded-bit _ _ _ _ (c .before .before .before .before .load-line .ensures) x hx) (c .before .before .keep .ensures)))
+    rw (c .before .before .before .before .before .before .before .before .f .given .1)
+    (line-closed-x _ _ _ _ _ _ (stands-as _ _ _ _ _ _ _ (λ x y hx hy. loaded-bit _ _ _ _ (c .before .before .before .before .before .load-line .ensures) x hx) (c .before .before .keep .ensures)))
 
 returns-2 : tie.Need-returns-2
 returns-2 c =
-    rw (c .before .before .before .before .before .before .before .f2 .given .1)
-    (line-closed-y _ _ _ _ _ _ (stands-as _ _ _ _ _ _ _ (λ x y hx hy. loaded-bit _ _ _ _ (c .before .before .before .before .load-line2 .ensures) y hy) (c .before .before .keep2 .ensures)))
+    rw (c .before .before .before .before .before .before .before .before .f2 .given .1)
+    (line-closed-y _ _ _ _ _ _ (stands-as _ _ _ _ _ _ _ (λ x y hx hy. loaded-bit _ _ _ _ (c .before .before .before .before .before .load-line2 .ensures) y hy) (c .before .before .keep2 .ensures)))
 
 returns-3 : tie.Need-returns-3
 returns-3 c = rw (c .before .before .before .before .before .f3 .given .1) (c .before .before .shut-plane .ensures)
