@@ -124,12 +124,10 @@ fn beside_y(b: Form) -> Way
 fn beside_plane(b: Form) -> Way
     ensures { λ r. ⌜ ((at : ℕ) → Pairs (Both at) b r) ⌝ }
 {
-    match b {
-        Form::OfX(_) => Way::Straight,
-        Form::OfY(_) => Way::Straight,
-        Form::Both(_) => Way::Straight,
-        Form::Turned(_) => Way::SecondTurned,
+    if let Form::Turned(_) = b {
+        return Way::SecondTurned;
     }
+    Way::Straight
 }
 
 // A plane with X and Y exchanged beside another form.
