@@ -1,7 +1,7 @@
 // Forms made of other forms of the same buffer. A plane of pitch * 8 states has pitch * 8 lines of pitch bytes.
 ghost use mathlib.Core.Path.{_≡_};
 ghost use mathlib.Core.Bool.{true};
-ghost use Prim.Native.Nat.{ℕ, _+_, _*_, _/_, _≤_, _<_};
+ghost use Prim.Native.Nat.{ℕ, _+_, _*_, _≤_, _<_};
 ghost use lib.ListN.{length, getD};
 ghost use Rattle.planes.specs.Bit.{bitOf};
 ghost use Rattle.planes.specs.Plane.{bit, cell, planeSize};
@@ -18,24 +18,6 @@ use crate::forms::Way;
 use crate::lines;
 use crate::lines::Op;
 use crate::lines::Row;
-
-// Bits first, first + step, .. of the plane at a, as a line of s bits.
-fn stride(work: &[u8], a: usize, first: usize, step: usize, s: usize) -> [u8; 128]
-    requires { ⌜ (s ≤ 1024) × (step ≤ 1025) × (first ≤ 1024) ⌝ }
-    requires { ⌜ ((z : ℕ) → z < s → a + (first + z * step) / 8 < length (now work)) ⌝ }
-    ensures { λ r. ⌜ Line (λ z. bit (now (work .entry)) (a * 8 + (first + z * step))) s r ⌝ }
-{
-    let mut r = [0u8; 128];
-    let mut z: usize = 0;
-    let mut n: usize = first;
-    while z < s {
-        let t = planes::get_at(work, a, n);
-        lines::push(&mut r, z, t);
-        z += 1;
-        n += step;
-    }
-    r
-}
 
 // Line x of a form that does not stand exchanged.
 fn row_of(work: &[u8], f: Form, x: usize, pitch: usize) -> Row
@@ -68,8 +50,8 @@ fn combine_lines(work: &mut [u8], o: Op, a: Form, b: Form, base: usize, pitch: u
     }
 }
 
-// The len bytes from base on become the operation on those from a on and from b on. That one of these is base is said in the
-// call, so that the compiler need not think of bytes that overlap otherwise.
+// The len bytes from base on become the operation on those from a on and from b on. Where one of these is base, the call says
+// so, and the compiler need not think of bytes that overlap in part.
 fn join_planes(work: &mut [u8], o: Op, a: usize, b: usize, base: usize, len: usize)
     requires { ⌜ Span (now work) len base a ⌝ }
     requires { ⌜ Span (now work) len base b ⌝ }
@@ -266,8 +248,14 @@ fn diagonal(work: &[u8], a: usize, pitch: usize) -> [u8; 128]
     requires { ⌜ Plane (now work) pitch a ⌝ }
     ensures { λ r. ⌜ Line (λ z. cell (now (work .entry)) a pitch z z) (pitch * 8) r ⌝ }
 {
-    let s = pitch * 8;
-    stride(work, a, 0, s + 1, s)
+    let mut r = [0u8; 128];
+    let mut z: usize = 0;
+    while z < pitch * 8 {
+        let t = planes::get_at(work, a + z * pitch, z);
+        lines::push(&mut r, z, t);
+        z += 1;
+    }
+    r
 }
 
 // The states that a form relates to themselves.

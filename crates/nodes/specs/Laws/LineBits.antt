@@ -96,9 +96,6 @@ upto-more f z r e t U P q = record {
 pub upto-all : (f : ℕ → Bool) (z n : ℕ) (r : List ℕ) → z ≡ n → Upto f z r → Line f n r
 upto-all f z n r e U = record { is = λ y h. U .done y (omega arith) }
 
-pub line-as : (f g : ℕ → Bool) (n : ℕ) (r : List ℕ) → ((z : ℕ) → z < n → f z ≡ g z) → Line f n r → Line g n r
-line-as f g n r h R = record { is = λ z l. R .is z l ∙ h z l }
-
 -- the store that sets bit z where t is true
 pub pushed : (r : List ℕ) (z : ℕ) (t : Bool) → z / 8 < length r → Pushed z t r (set r (z / 8) (bitOr (getD r (z / 8) 0) (weightIf t (z % 8))))
 pushed r z true h =

@@ -1,12 +1,11 @@
--- Bits by stride; planes and lines of a buffer of the same length.
+-- Planes and lines of a buffer of the same length.
 use mathlib.Core.Path.{_≡_, refl}
 use mathlib.Core.List.{List}
-use Prim.Native.Nat.{ℕ, zero, suc, _+_, _*_, _/_, _≤_, _<_}
-use native.Mathlib.Nat.{mul-assoc, mul-add, mul-one, one-mul, mul-le-mul-right}
+use Prim.Native.Nat.{ℕ, zero, suc, _*_, _≤_}
+use native.Mathlib.Nat.{one-mul, mul-le-mul-right}
 use native.Mathlib.Omega.{arith}
 use lib.ListN.{length}
 use Rattle.planes.specs.Plane.{planeSize}
-use Rattle.planes.specs.Laws.Places.{line-before}
 use Rattle.records.specs.Policy.{Y, varOf}
 use Rattle.nodes.specs.Shapes.{Plane, Source}
 
@@ -14,16 +13,6 @@ use Rattle.nodes.specs.Shapes.{Plane, Source}
 pub other-var : (v : ℕ) → (v ≡ 0 → ⊥) → varOf v ≡ Y
 other-var zero h = absurd (h refl)
 other-var (suc v) h = refl
-
--- bit x of line z, by stride
-pub at-cell : (p pitch x z : ℕ) → p * 8 + (x + z * (pitch * 8)) ≡ (p + z * pitch) * 8 + x
-at-cell p pitch x z = omega (arith, mul-assoc z pitch 8)
-
-pub in-stride : (pitch x z : ℕ) → x < pitch * 8 → z < pitch * 8 → (x + z * (pitch * 8)) / 8 < planeSize pitch
-in-stride pitch x z hx hz = omega (arith, mul-assoc z pitch 8, line-before z (pitch * 8) pitch hz)
-
-pub on-diagonal : (pitch z : ℕ) → 0 + z * (pitch * 8 + 1) ≡ z + z * (pitch * 8)
-on-diagonal pitch z = omega (arith, mul-add z (pitch * 8) 1, mul-one z)
 
 -- a line is no longer than its plane
 pub line-small : (pitch : ℕ) → pitch ≤ planeSize pitch

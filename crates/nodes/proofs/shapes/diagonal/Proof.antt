@@ -1,30 +1,49 @@
--- `nodes::shapes::diagonal` meets its contract.
-use mathlib.Core.Path.{ap, _∙_}
-use Prim.Native.Nat.{ℕ, _+_, _*_}
-use denote.Ref.{now}
-use Rattle.planes.specs.Plane.{bit}
-use Rattle.nodes.specs.Laws.LineBits.{line-as}
-use Rattle.nodes.specs.Laws.PlaneShapes.{at-cell, in-stride, on-diagonal}
+-- `nodes::shapes::diagonal` meets its contract. The loop's invariant: the first z bits are read, the others are not set.
+use mathlib.Core.Path.{_≡_}
+use Prim.Native.Nat.{_+_, _*_, _-_, _≤_}
+use Rattle.planes.specs.Plane.{cell, planeSize}
+use Rattle.planes.specs.Laws.Places.{line-before}
+use Rattle.nodes.specs.Laws.LineBits.{Upto, upto-none, upto-more, upto-all}
 use native.Mathlib.Omega.{arith}
-use borrow.Author.Needs.{needs}
 use Rattle.nodes.proofs.shapes.diagonal.Statement.{statement}
 use Rattle.nodes.proofs.shapes.diagonal.Tie as tie
 
-stride-requires : tie.Need-stride-requires
-stride-requires c κs =
-    let at-start = c .before in (
-      omega (arith, at-start .pre .small),
-      λ z h. omega (arith, in-stride (at-start .args .pitch) z z h h, on-diagonal (at-start .args .pitch) z, at-start .pre .within),
-    )
+abbrev Inv-loop : tie.InvT-loop
+Inv-loop work a pitch r₀ z₀ r z = (z ≤ pitch * 8) × Upto (λ i. cell work a pitch i i) z r
 
-returns : tie.Need-returns
+abbrev μ-loop : tie.MeasureT-loop
+μ-loop work a pitch r₀ z₀ r z = pitch * 8 - z
+
+-- in a turn, line z is within a plane
+fits : (c : tie.In-loop Inv-loop μ-loop)
+    → let pitch = c .before .before .before .args .pitch in
+    c .before .loop .z * pitch + pitch ≤ planeSize pitch
+fits c = line-before _ _ (c .before .before .before .args .pitch) (c .loop-test .taken)
+
+loop-again : tie.Need-loop-again Inv-loop μ-loop
+loop-again c =
+    let at-loop = c .before .before .before .before in
+    (omega arith, upto-more _ _ _ _ _ (at-loop .loop .inv .1) (c .push .ensures) (c .before .before .get-at .ensures))
+
+returns : tie.Need-returns Inv-loop μ-loop
 returns c =
-    let at-start = c .before .before in
-    let a = at-start .args .a in
-    let pitch = at-start .args .pitch in
-    line-as _ _ _ _
-    (λ z h. ap (λ (n : ℕ). bit (now (at-start .args .work)) (a * 8 + n)) (on-diagonal pitch z) ∙ ap (bit (now (at-start .args .work))) (at-cell a pitch z z))
-    (c .stride .ensures)
+    let at-loop = c .before in
+    let e : at-loop .loop .z ≡ at-loop .before .before .args .pitch * 8 = omega arith in
+    upto-all _ _ _ _ e (at-loop .loop .inv .1)
 
 pub diagonal-spec : {M : Type 1} → statement M
-diagonal-spec = tie.close (tie.spec (λ c. search needs) (λ c. search needs) stride-requires returns)
+diagonal-spec =
+    tie.close
+    (tie.spec
+    Inv-loop
+    μ-loop
+    (λ c. (omega arith, upto-none _))
+    (λ c. omega (arith, c .before .before .pre .small))
+    (λ c. omega (arith, fits c, c .before .before .before .pre .within))
+    (λ c. omega (arith, fits c, c .before .before .before .pre .within))
+    (λ c κs. omega (arith, fits c, c .before .before .before .pre .within))
+    (λ c κs. omega (arith, c .before .before .before .before .before .pre .small))
+    (λ c. omega arith)
+    (λ c. omega arith)
+    loop-again
+    returns)
