@@ -1,4 +1,4 @@
-//! Times the library's closures, by passes into a second plane and by rounds in place, against a plain
+//! Times the library's closures, by search into a second plane and by rounds in place, against a plain
 //! Rust Warshall on 64-bit words, at 1024 states.
 use std::hint::black_box;
 use std::time::Instant;
@@ -8,7 +8,7 @@ extern "C" {
     fn wegbaro_close(work: *mut u8, len: usize, base: usize, pitch: usize) -> bool;
 }
 
-#[link(name = "passes", kind = "static")]
+#[link(name = "reaching", kind = "static")]
 extern "C" {
     fn wegbaro_close_into(work: *mut u8, len: usize, from: usize, to: usize, pitch: usize) -> bool;
 }
@@ -102,6 +102,18 @@ fn path_and_leaves(states: &[usize]) -> Plane {
     plane
 }
 
+/// A third of the states, each related to all of a second third, and each of this one to one of the last.
+fn fan(states: &[usize]) -> Plane {
+    let [first, second, last] =
+        [0, 1, 2].map(|third| &states[third * (STATES / 3)..][..STATES / 3]);
+    let mut plane = vec![0; STATES * BYTES];
+    for (x, y) in second.iter().zip(last) {
+        first.iter().for_each(|from| relate(&mut plane, *from, *x));
+        relate(&mut plane, *x, *y);
+    }
+    plane
+}
+
 fn random(degree: usize, r: &mut Random) -> Plane {
     let mut plane = vec![0; STATES * BYTES];
     for x in 0..STATES {
@@ -153,17 +165,18 @@ fn main() {
         ("each to all higher", order(&reversed)),
         ("each to all lower, shuffled", order(&shuffled(STATES, &mut r))),
         ("path of 512 to 512 leaves and back", path_and_leaves(&ordered)),
+        ("a third to all of a third, each of it to one more", fan(&ordered)),
     ];
-    println!("| relation on {STATES} states | passes, µs | rounds, µs | Rust on 64-bit words, µs | passes / Rust | rounds / Rust |");
+    println!("| relation on {STATES} states | search, µs | rounds, µs | Rust on 64-bit words, µs | search / Rust | rounds / Rust |");
     println!("|---|---|---|---|---|---|");
     for (name, plane) in &cases {
-        let (mut passes, mut rounds, mut rust) = (vec![], vec![], vec![]);
+        let (mut search, mut rounds, mut rust) = (vec![], vec![], vec![]);
         for _ in 0..RUNS {
             let mut both = black_box([plane.clone(), vec![0; plane.len()]].concat());
             let mut ours = black_box(plane.clone());
             let mut theirs = black_box(words(plane));
             let (mut into, mut closed) = (false, false);
-            passes.push(time(|| {
+            search.push(time(|| {
                 into = unsafe {
                     wegbaro_close_into(both.as_mut_ptr(), both.len(), 0, plane.len(), BYTES)
                 }
@@ -177,11 +190,11 @@ fn main() {
             assert_eq!(
                 words(&both[plane.len()..].to_vec()),
                 theirs,
-                "{name}: passes and Rust differ"
+                "{name}: search and Rust differ"
             );
             assert_eq!(words(&ours), theirs, "{name}: rounds and Rust differ");
         }
-        let [a, b, c] = [passes, rounds, rust].map(median);
+        let [a, b, c] = [search, rounds, rust].map(median);
         println!("| {name} | {a:.0} | {b:.0} | {c:.0} | {:.2} | {:.2} |", a / c, b / c);
     }
 }

@@ -7,7 +7,7 @@ ghost use lib.ListN.{length};
 ghost use lib.Bits.{bitAnd, bitOr};
 ghost use Rattle.planes.specs.Plane.{cell, planeSize};
 ghost use Rattle.planes.specs.Lines.{Made};
-ghost use Rattle.passes.specs.Into.{Apart};
+ghost use Rattle.reaching.specs.Into.{Apart};
 ghost use Rattle.nodes.specs.Swapped.{Swapped};
 ghost use Rattle.nodes.specs.Blocks.{Block, Turned, Spread, Blocked};
 
@@ -18,10 +18,10 @@ fn swap_line(work: &mut [u8], from: usize, to: usize, pitch: usize, x: usize)
 {
     let states = pitch * 8;
     let line = from + x * pitch;
-    let mut y = passes::next_at(work, line, pitch, 0);
+    let mut y = reaching::next_at(work, line, pitch, 0);
     while y < states {
         planes::set_at(work, to + y * pitch, x);
-        y = passes::next_at(work, line, pitch, y + 1);
+        y = reaching::next_at(work, line, pitch, y + 1);
     }
 }
 

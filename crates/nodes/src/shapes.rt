@@ -313,7 +313,7 @@ fn shut_plane(work: &mut [u8], closed: bool, at: usize, base: usize, pitch: usiz
     if known(closed, at) {
         return 7;
     }
-    passes::close_into(work, at, base, pitch);
+    reaching::close_into(work, at, base, pitch);
     3
 }
 

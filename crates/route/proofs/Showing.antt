@@ -23,7 +23,7 @@ use Rattle.records.specs.Laws.States.{whole-bytes, few-states}
 use Rattle.rows.specs.Rows.{workNeeded}
 use Rattle.rows.specs.Refusal.{checkRefusal}
 use Rattle.scan.specs.declared.Layout.{Layout}
-use Rattle.passes.specs.Into.{Apart}
+use Rattle.reaching.specs.Into.{Apart}
 use Rattle.groups.specs.Adds.{lineBytes}
 use Rattle.steps.specs.Step.{next, Step}
 use Rattle.steps.specs.Filled.{Filled}

@@ -14,7 +14,7 @@ use Rattle.planes.specs.Plane.{cell, planeSize}
 use Rattle.planes.specs.Lines.{Cleared}
 use Rattle.planes.specs.Laws.Lines.{plane-kept}
 use Rattle.closure.specs.Laws.Walks.{map-walk}
-use Rattle.passes.specs.Into.{ClosedInto}
+use Rattle.reaching.specs.Into.{ClosedInto}
 use Rattle.records.specs.Record.{Net, records}
 use Rattle.records.specs.Widths.{width, states, planeBytes, withinLimits, widthsOf}
 use Rattle.records.specs.Policy.{longest}

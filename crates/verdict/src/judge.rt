@@ -148,7 +148,7 @@ fn close_steps(store: &[u8], l: Layout, work: &mut [u8], pitch: usize) -> bool
     ensures { λ r. ⌜ StepsClosed pitch (now (work .entry)) r (now (work .exit)) ⌝ }
 {
     if wants_closure(store, l.nodes, l.groups) {
-        passes::close_into(work, 0, pitch * 8 * pitch, pitch);
+        reaching::close_into(work, 0, pitch * 8 * pitch, pitch);
         return true;
     }
     false

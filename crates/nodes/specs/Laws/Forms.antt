@@ -14,7 +14,7 @@ use Rattle.planes.specs.Laws.Lines.{line-bit, line-kept, plane-kept}
 use Rattle.records.specs.Policy.{Var, X, Y}
 use Rattle.closure.specs.Walk.{Walk}
 use Rattle.closure.specs.Walk.Walk.{one, more}
-use Rattle.passes.specs.Into.{Apart, ClosedInto}
+use Rattle.reaching.specs.Into.{Apart, ClosedInto}
 use Rattle.closure.specs.Laws.Walks.{map-walk, walk-back}
 use Rattle.nodes.specs.declared.forms.Form.{Form}
 use Rattle.nodes.specs.declared.forms.Form.the-variants.{OfX, OfY, Both, Turned}
