@@ -28,7 +28,7 @@
 #endif
 
 /* The version of the library. */
-#define WEGBARO_VERSION "0.7.1"
+#define WEGBARO_VERSION "0.7.2"
 
 /* ---- Sizes ---- */
 

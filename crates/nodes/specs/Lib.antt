@@ -2,6 +2,4 @@
 pub mod Shapes
 pub mod Forms
 pub mod Node
-pub mod Swapped
-pub mod Blocks
 pub mod Laws

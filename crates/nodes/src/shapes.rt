@@ -11,7 +11,6 @@ ghost use Rattle.truth.specs.Truth.{value};
 ghost use Rattle.nodes.specs.Shapes.{opBool, opByte, over, Quantifies, Line, Lined, Plane, Source, Span};
 ghost use Rattle.nodes.specs.declared.forms.Form.the-variants.{Both};
 ghost use Rattle.nodes.specs.Forms.{tests, place, Upright, rowOf, Readable, Stands, lineCode, ranged, arranged, Reached, Closes, Reaches};
-use crate::exchange;
 use crate::forms;
 use crate::forms::Form;
 use crate::forms::Way;

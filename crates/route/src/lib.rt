@@ -40,7 +40,7 @@ fn show(
     let widths = l.widths;
     let pitch = widths.states() / 8;
     steps::fill_steps(work, 0, store, n, l);
-    nodes::exchange::exchange(work, 0, pitch * 8 * pitch, pitch);
+    exchange::exchange(work, 0, pitch * 8 * pitch, pitch);
     let count = search::draw(work, pitch, start, end, list);
     let needed = scan::work_needed(l);
     planes::clear(work, 0, needed);

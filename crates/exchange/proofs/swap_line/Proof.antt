@@ -1,4 +1,4 @@
--- `nodes::exchange::swap_line` meets its contract.
+-- `exchange::swap_line` meets its contract.
 use native.Mathlib.Omega.{arith}
 use mathlib.Core.Path.{_≡_, refl, _∙_}
 use mathlib.Core.Bool.{true}
@@ -7,10 +7,10 @@ use Prim.Native.Nat.{ℕ, _+_, _-_, _*_, _<_}
 use lib.ListN.{length}
 use Rattle.planes.specs.Plane.{bit}
 use Rattle.planes.specs.Laws.Places.{line-before}
-use Rattle.nodes.specs.Swapped.{Swapped}
-use Rattle.nodes.proofs.Exchanging.{swapped-over, swapped-set, swapped-line}
-use Rattle.nodes.proofs.exchange.swap_line.Statement.{statement}
-use Rattle.nodes.proofs.exchange.swap_line.Tie as tie
+use Rattle.exchange.specs.Swapped.{Swapped}
+use Rattle.exchange.proofs.Exchanging.{swapped-over, swapped-set, swapped-line}
+use Rattle.exchange.proofs.swap_line.Statement.{statement}
+use Rattle.exchange.proofs.swap_line.Tie as tie
 
 abbrev Inv-loop : tie.InvT-loop
 Inv-loop work₀ from to pitch x states line y₀ work y =

@@ -1,12 +1,12 @@
--- `nodes::exchange::put_block` meets its contract.
+-- `exchange::put_block` meets its contract.
 use native.Mathlib.Omega.{arith}
 use mathlib.Core.Path.{refl}
 use Prim.Native.Nat.{_-_, _≤_}
 use native.Mathlib.Nat.{mul-le-mul-right}
-use Rattle.nodes.specs.Blocks.{Spread}
-use Rattle.nodes.proofs.Blocks.{spread-none, spread-more, spread-all}
-use Rattle.nodes.proofs.exchange.put_block.Statement.{statement}
-use Rattle.nodes.proofs.exchange.put_block.Tie as tie
+use Rattle.exchange.specs.Blocks.{Spread}
+use Rattle.exchange.proofs.Blocks.{spread-none, spread-more, spread-all}
+use Rattle.exchange.proofs.put_block.Statement.{statement}
+use Rattle.exchange.proofs.put_block.Tie as tie
 
 abbrev Inv-loop : tie.InvT-loop
 Inv-loop p₀ a pitch v i₀ p i = (i ≤ 8) × Spread a pitch i v p₀ p

@@ -8,8 +8,8 @@ ghost use lib.Bits.{bitAnd, bitOr};
 ghost use Rattle.planes.specs.Plane.{cell, planeSize};
 ghost use Rattle.planes.specs.Lines.{Made};
 ghost use Rattle.reaching.specs.Into.{Apart};
-ghost use Rattle.nodes.specs.Swapped.{Swapped};
-ghost use Rattle.nodes.specs.Blocks.{Block, Turned, Spread, Blocked};
+ghost use Rattle.exchange.specs.Swapped.{Swapped};
+ghost use Rattle.exchange.specs.Blocks.{Block, Turned, Spread, Blocked};
 
 // Sets, in the plane at to, bit x of the line of each state that line x of the plane at from has.
 fn swap_line(work: &mut [u8], from: usize, to: usize, pitch: usize, x: usize)
@@ -129,7 +129,7 @@ fn sampled(work: &[u8], from: usize, pitch: usize) -> usize
     count
 }
 
-// Whether the plane at from has lines of whole words and few set bits, as measured against blocks; any answer will do for few.
+// Whether set bits are the quicker way, as measured: lines of whole words, and few set bits in the sample. A no will always do.
 fn few(work: &[u8], from: usize, pitch: usize) -> bool
     requires { ⌜ (from + planeSize pitch ≤ length (now work)) × (pitch ≤ 128) ⌝ }
     ensures { λ r. ⌜ (r ≡ true → pitch % 8 ≡ 0) ⌝ }

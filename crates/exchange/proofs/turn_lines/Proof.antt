@@ -1,14 +1,14 @@
--- `nodes::exchange::turn_lines` meets its contract.
+-- `exchange::turn_lines` meets its contract.
 use native.Mathlib.Omega.{arith}
 use borrow.Author.Needs.{needs}
 use mathlib.Core.Path.{_≡_, refl}
 use mathlib.Core.List.{List}
 use Prim.Native.Nat.{ℕ, _-_, _≤_}
 use lib.ListN.{length}
-use Rattle.nodes.specs.Blocks.{Blocked}
-use Rattle.nodes.proofs.Blocks.{blocked-lines}
-use Rattle.nodes.proofs.exchange.turn_lines.Statement.{statement}
-use Rattle.nodes.proofs.exchange.turn_lines.Tie as tie
+use Rattle.exchange.specs.Blocks.{Blocked}
+use Rattle.exchange.proofs.Blocks.{blocked-lines}
+use Rattle.exchange.proofs.turn_lines.Statement.{statement}
+use Rattle.exchange.proofs.turn_lines.Tie as tie
 
 abbrev Inv-loop : tie.InvT-loop
 Inv-loop work₀ from to pitch c r₀ work r =

@@ -1,8 +1,8 @@
--- `nodes::exchange::few` meets its contract.
+-- `exchange::few` meets its contract.
 use borrow.Author.Needs.{needs}
 use mathlib.Core.Bool.{false≢true}
-use Rattle.nodes.proofs.exchange.few.Statement.{statement}
-use Rattle.nodes.proofs.exchange.few.Tie as tie
+use Rattle.exchange.proofs.few.Statement.{statement}
+use Rattle.exchange.proofs.few.Tie as tie
 
 pub few-spec : {M : Type 1} → statement M
 few-spec = tie.close (tie.spec (λ c t. absurd (false≢true t)) (λ c κs. search needs) (λ c. search needs) (λ c. search needs))

@@ -1,9 +1,9 @@
--- `nodes::exchange::turn_block` meets its contract.
+-- `exchange::turn_block` meets its contract.
 use native.Mathlib.Omega.{arith}
 use borrow.Author.Needs.{needs}
-use Rattle.nodes.proofs.Blocks.{line-within, blocked-more}
-use Rattle.nodes.proofs.exchange.turn_block.Statement.{statement}
-use Rattle.nodes.proofs.exchange.turn_block.Tie as tie
+use Rattle.exchange.proofs.Blocks.{line-within, blocked-more}
+use Rattle.exchange.proofs.turn_block.Statement.{statement}
+use Rattle.exchange.proofs.turn_block.Tie as tie
 
 block-at-requires : tie.Need-block-at-requires
 block-at-requires c κs =

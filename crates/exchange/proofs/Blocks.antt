@@ -16,8 +16,8 @@ use Rattle.planes.specs.Lines.{Made}
 use Rattle.planes.specs.Laws.Bits.{bit-or, bit-above}
 use Rattle.planes.specs.Laws.Places.{bit-at, line-before, same-place}
 use Rattle.planes.specs.Laws.Lines.{plane-kept}
-use Rattle.nodes.specs.Blocks.{Block, Turned, Spread, Blocked}
-use Rattle.nodes.proofs.Masks.{bit-down, bit-cut, bit-under, bit-up, or-none}
+use Rattle.exchange.specs.Blocks.{Block, Turned, Spread, Blocked}
+use Rattle.exchange.proofs.Masks.{bit-down, bit-cut, bit-under, bit-up, or-none}
 
 -- v has the bits of the last of eight bytes, from the i-th on
 pub record Read (a pitch : ℕ) (bytes : List ℕ) (i v : ℕ) : Type 0 where

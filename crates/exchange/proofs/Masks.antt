@@ -14,7 +14,7 @@ use Rattle.planes.specs.Laws.Bits.{bit-and, bit-or, bit-block, bit-high, bit-ze
 use Rattle.planes.specs.Laws.Tests.{both}
 use Rattle.truth.specs.Computed.{allBelow}
 use Rattle.truth.specs.Laws.Tables.{all-iff}
-use Rattle.nodes.specs.Blocks.{Turned}
+use Rattle.exchange.specs.Blocks.{Turned}
 
 -- the bits of a number that is shifted down, cut to k bits, and shifted up
 pub bit-down : (v s i : ℕ) → bitOf (v / 2 ^ s) i ≡ bitOf v (s + i)

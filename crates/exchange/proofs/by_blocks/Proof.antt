@@ -1,10 +1,10 @@
--- `nodes::exchange::by_blocks` meets its contract.
+-- `exchange::by_blocks` meets its contract.
 use native.Mathlib.Omega.{arith}
 use Prim.Native.Nat.{_-_, _≤_}
-use Rattle.nodes.specs.Blocks.{Blocked}
-use Rattle.nodes.proofs.Blocks.{blocked-none, blocked-all}
-use Rattle.nodes.proofs.exchange.by_blocks.Statement.{statement}
-use Rattle.nodes.proofs.exchange.by_blocks.Tie as tie
+use Rattle.exchange.specs.Blocks.{Blocked}
+use Rattle.exchange.proofs.Blocks.{blocked-none, blocked-all}
+use Rattle.exchange.proofs.by_blocks.Statement.{statement}
+use Rattle.exchange.proofs.by_blocks.Tie as tie
 
 abbrev Inv-loop : tie.InvT-loop
 Inv-loop work₀ from to pitch c₀ work c = (c ≤ pitch) × Blocked from to pitch c 0 work₀ work

@@ -1,11 +1,11 @@
--- `nodes::exchange::block_at` meets its contract.
+-- `exchange::block_at` meets its contract.
 use native.Mathlib.Omega.{arith}
 use mathlib.Core.Path.{refl}
 use Prim.Native.Nat.{_+_, _*_, _-_, _≤_}
 use native.Mathlib.Nat.{mul-le-mul-right}
-use Rattle.nodes.proofs.Blocks.{Read, read-none, read-more, read-all}
-use Rattle.nodes.proofs.exchange.block_at.Statement.{statement}
-use Rattle.nodes.proofs.exchange.block_at.Tie as tie
+use Rattle.exchange.proofs.Blocks.{Read, read-none, read-more, read-all}
+use Rattle.exchange.proofs.block_at.Statement.{statement}
+use Rattle.exchange.proofs.block_at.Tie as tie
 
 abbrev Inv-loop : tie.InvT-loop
 Inv-loop p a pitch v₀ i₀ v i = (i ≤ 8) × Read a pitch p i v

@@ -1,7 +1,7 @@
--- `nodes::exchange::exchange` meets its contract.
+-- `exchange::exchange` meets its contract.
 use borrow.Author.Needs.{needs}
-use Rattle.nodes.proofs.exchange.exchange.Statement.{statement}
-use Rattle.nodes.proofs.exchange.exchange.Tie as tie
+use Rattle.exchange.proofs.exchange.Statement.{statement}
+use Rattle.exchange.proofs.exchange.Tie as tie
 
 by-bits-requires : tie.Need-by-bits-requires
 by-bits-requires c κs = (search needs, c .before .before .few .ensures (c .before .if1 .taken))

@@ -1,8 +1,8 @@
--- `nodes::exchange::turned` meets its contract.
+-- `exchange::turned` meets its contract.
 use borrow.Author.Needs.{needs}
-use Rattle.nodes.proofs.Masks.{swaps-turn}
-use Rattle.nodes.proofs.exchange.turned.Statement.{statement}
-use Rattle.nodes.proofs.exchange.turned.Tie as tie
+use Rattle.exchange.proofs.Masks.{swaps-turn}
+use Rattle.exchange.proofs.turned.Statement.{statement}
+use Rattle.exchange.proofs.turned.Tie as tie
 
 returns : tie.Need-returns
 returns c = swaps-turn (c .before .before .mixed .ensures) (c .before .mixed2 .ensures) (c .mixed3 .ensures)

@@ -1,11 +1,11 @@
--- `nodes::exchange::sampled` is safe and ends. The loop's invariant: the count is at most what so many bytes can have.
+-- `exchange::sampled` is safe and ends. The loop's invariant: the count is at most what so many bytes can have.
 use Prim.Native.Nat.{_+_, _-_, _*_, _≤_}
 use native.Mathlib.Nat.{mul-le-mul-right}
 use native.Mathlib.Omega.{arith}
 use borrow.Author.Needs.{needs}
 use Rattle.planes.specs.Plane.{planeSize}
-use Rattle.nodes.proofs.exchange.sampled.Statement.{statement}
-use Rattle.nodes.proofs.exchange.sampled.Tie as tie
+use Rattle.exchange.proofs.sampled.Statement.{statement}
+use Rattle.exchange.proofs.sampled.Tie as tie
 
 abbrev Inv-loop : tie.InvT-loop
 Inv-loop work from pitch size count₀ at₀ count at = (count ≤ at * 16) × (at ≤ planeSize pitch + 520)

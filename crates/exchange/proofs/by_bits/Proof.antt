@@ -1,14 +1,14 @@
--- `nodes::exchange::by_bits` meets its contract.
+-- `exchange::by_bits` meets its contract.
 use native.Mathlib.Omega.{arith}
 use borrow.Author.Needs.{needs}
 use mathlib.Core.Path.{_≡_, refl, _∙_}
 use mathlib.Core.List.{List}
 use Prim.Native.Nat.{ℕ, _-_, _*_, _≤_}
 use lib.ListN.{length}
-use Rattle.nodes.specs.Swapped.{Swapped}
-use Rattle.nodes.proofs.Exchanging.{swapped-none, swapped-all}
-use Rattle.nodes.proofs.exchange.by_bits.Statement.{statement}
-use Rattle.nodes.proofs.exchange.by_bits.Tie as tie
+use Rattle.exchange.specs.Swapped.{Swapped}
+use Rattle.exchange.proofs.Exchanging.{swapped-none, swapped-all}
+use Rattle.exchange.proofs.by_bits.Statement.{statement}
+use Rattle.exchange.proofs.by_bits.Tie as tie
 
 abbrev Inv-loop : tie.InvT-loop
 Inv-loop work₀ from to pitch states x₀ work x =

@@ -13,7 +13,7 @@ use Rattle.planes.specs.Laws.Places.{byte-at, line-before, same-place}
 use Rattle.planes.specs.Laws.Lines.{plane-kept}
 use Rattle.planes.specs.Laws.Planes.{made-cleared}
 use Rattle.reaching.specs.Words.{First}
-use Rattle.nodes.specs.Swapped.{Swapped}
+use Rattle.exchange.specs.Swapped.{Swapped}
 
 module _ (from to pitch : ℕ) (apart : (from + planeSize pitch ≤ to) ⊎ (to + planeSize pitch ≤ from)) where
   abbrev S : ℕ
