@@ -2,7 +2,7 @@
 ghost use mathlib.Core.Path.{_≡_};
 ghost use Prim.Native.Nat.{_+_, _*_, _≤_, _<_};
 ghost use lib.ListN.{length};
-ghost use Rattle.nodes.specs.Node.{Makeable};
+ghost use Rattle.nodes.specs.Node.{formAt, Makeable};
 ghost use Rattle.nodes.specs.Forms.{tests, place};
 ghost use Rattle.verdict.specs.Evaluated.{nodesAt, NodeAt, PolicyReady, Asked, Given, Settled, stateOf, Tested};
 ghost use Rattle.verdict.specs.Computed.{firstFrom};
@@ -32,7 +32,7 @@ fn node_at(store: &[u8], i: usize) -> Node
     }
 }
 
-// Makes node k; answers the codes with that of its form.
+// Makes node k, and keeps the code of its form.
 fn settle(
     work: &mut [u8],
     ext: &[u8; 128],
@@ -40,18 +40,16 @@ fn settle(
     n: Node,
     pitch: usize,
     k: usize,
-    codes: [u8; 32],
-) -> [u8; 32]
+    codes: &mut [u8; 32],
+)
     requires { ⌜ Makeable (n .kind) (n .a) (n .b) k pitch closed (now work) ⌝ }
-    ensures { λ r. ⌜ Settled codes n k pitch (now (ext .entry)) (now (work .entry)) r (now (work .exit)) ⌝ }
+    ensures { λ _. ⌜ Settled (now (codes .entry)) n k pitch (now (ext .entry)) (now (work .entry)) (now (codes .exit)) (now (work .exit)) ⌝ }
 {
-    let code = node::make(work, ext, closed, &codes, n.kind, n.a, n.b, k, pitch);
-    let mut next = codes;
-    next[k] = code;
-    next
+    let code = node::make(work, ext, closed, codes, n.kind, n.a, n.b, k, pitch);
+    codes[k] = code;
 }
 
-// Works out node k of a policy, its operands first, unless it is made; answers the codes of the nodes' forms.
+// Works out node k of a policy, its operands first, unless it is made, and keeps the codes of their forms.
 fn eval(
     store: &[u8],
     start: usize,
@@ -61,13 +59,13 @@ fn eval(
     work: &mut [u8],
     pitch: usize,
     k: usize,
-    codes: [u8; 32],
-) -> [u8; 32]
-    requires { ⌜ Asked (now store) start count (now ext) closed (now work) pitch k codes ⌝ }
-    ensures { λ r. ⌜ Given (nodesAt (now (store .entry)) start count) pitch (now (ext .entry)) k codes (now (work .entry)) r (now (work .exit)) ⌝ }
+    codes: &mut [u8; 32],
+)
+    requires { ⌜ Asked (now store) start count (now ext) closed (now work) pitch k (now codes) ⌝ }
+    ensures { λ _. ⌜ Given (nodesAt (now (store .entry)) start count) pitch (now (ext .entry)) k (now (codes .entry)) (now (work .entry)) (now (codes .exit)) (now (work .exit)) ⌝ }
 {
     if codes[k] != 0 {
-        return codes;
+        return;
     }
     let n = node_at(store, start + k);
     let arity = n.arity;
@@ -75,15 +73,15 @@ fn eval(
         0 => settle(work, ext, closed, n, pitch, k, codes),
         1 => {
             let a = n.a as usize;
-            let first = eval(store, start, count, ext, closed, work, pitch, a, codes);
-            settle(work, ext, closed, n, pitch, k, first)
+            eval(store, start, count, ext, closed, work, pitch, a, codes);
+            settle(work, ext, closed, n, pitch, k, codes);
         }
         2..=255 => {
             let a = n.a as usize;
             let b = n.b as usize;
-            let first = eval(store, start, count, ext, closed, work, pitch, a, codes);
-            let second = eval(store, start, count, ext, closed, work, pitch, b, first);
-            settle(work, ext, closed, n, pitch, k, second)
+            eval(store, start, count, ext, closed, work, pitch, a, codes);
+            eval(store, start, count, ext, closed, work, pitch, b, codes);
+            settle(work, ext, closed, n, pitch, k, codes);
         }
     }
 }
@@ -103,6 +101,14 @@ fn lowest_state(work: &[u8], f: Form, pitch: usize) -> Offender
     Offender::None
 }
 
+// The form of node j, by the codes of the nodes.
+fn form_at(codes: &[u8; 32], j: usize, pitch: usize) -> Form
+    requires { ⌜ (j < 256) × (pitch ≤ 128) ⌝ }
+    ensures { λ r. ⌜ r ≡ formAt (now (codes .entry)) pitch j ⌝ }
+{
+    node::form_at(codes, j, pitch)
+}
+
 // The lowest state that breaks the policy of the count nodes from record start on.
 pub fn test(
     store: &[u8],
@@ -118,7 +124,8 @@ pub fn test(
     ensures { λ r. ⌜ Tested (nodesAt (now (store .entry)) start count) pitch (now (ext .entry)) (now (work .entry)) r (now (work .exit)) ⌝ }
 {
     let last = count - 1;
-    let codes = eval(
+    let mut codes = [0u8; 32];
+    eval(
         store,
         start,
         count,
@@ -127,8 +134,8 @@ pub fn test(
         work,
         pitch,
         last,
-        [0u8; 32],
+        &mut codes,
     );
-    let f = node::form_at(&codes, last, pitch);
+    let f = form_at(&codes, last, pitch);
     lowest_state(work, f, pitch)
 }

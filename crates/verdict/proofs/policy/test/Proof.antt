@@ -15,19 +15,16 @@ use Rattle.verdict.proofs.policy.test.Statement.{statement}
 use Rattle.verdict.proofs.policy.test.Tie as tie
 
 eval-requires : tie.Need-eval-requires
-eval-requires c κs = ask-last _ _ _ _ _ _ _ (c .before .before .before .pre .0) (c .before .before .before .pre .1)
-
-form-at-requires : tie.Need-form-at-requires
-form-at-requires c κs = let R = c .before .before .before .before .before .before .before .pre .0 in (omega (arith, R .few), R .small)
+eval-requires c κs = ask-last _ _ _ _ _ _ _ (c .before .before .before .before .pre .0) (c .before .before .before .before .pre .1)
 
 lowest-state-requires : tie.Need-lowest-state-requires
 lowest-state-requires c κs =
     rw (c .before .form-at .ensures)
-    (last-plane _ _ _ _ _ _ (c .before .before .before .before .before .eval .result) _ (c .before .before .before .before .before .eval .ensures .worked .len) (c .before .before .before .before .before .before .before .before .before .pre .0) (c .before .before .before .before .before .before .before .before .before .pre .1))
+    (last-plane _ _ _ _ _ _ (c .before .before .before .before .before .eval .last .1 .1 .1 .1 .1 .1 .1 .1 .0) _ (c .before .before .before .before .before .eval .ensures .worked .len) (c .before .before .before .before .before .before .before .before .before .before .pre .0) (c .before .before .before .before .before .before .before .before .before .before .pre .1))
 
 returns : tie.Need-returns
 returns c =
-    let at-start = c .before .before .before .before .before .before .before .before .before .before in
+    let at-start = c .before .before .before .before .before .before .before .before .before .before .before in
     let store = now (at-start .args .store) in
     let start = at-start .args .start in
     let count = at-start .args .count in
@@ -46,4 +43,4 @@ returns c =
     }
 
 pub test-spec : {M : Type 1} → statement M
-test-spec = tie.close (tie.spec (λ c. search needs) eval-requires (λ c. search needs) form-at-requires lowest-state-requires (λ c. search needs) returns)
+test-spec = tie.close (tie.spec (λ c. search needs) eval-requires (λ c κs. search needs) lowest-state-requires (λ c. search needs) returns)
