@@ -45,11 +45,7 @@ module _ (work : List ℕ) (pitch x k : ℕ) where
     pub marked-kept : (getD l y 0 ≡ 0 → ⊥) → Marked work pitch x k (y + 1) a l
     marked-kept h = one-left (has-distance (getD l y 0) (cell work 0 pitch y x) k h)
 
-    -- or does not step to x
-    pub marked-off : cell work 0 pitch y x ≡ false → Marked work pitch x k (y + 1) a l
-    marked-off t = one-left (ap (λ (s : Bool). orOneMore (getD l y 0) s k) t ∙ no-distance (getD l y 0) k)
-
-    -- as none of a byte does
+    -- or since none of them steps to x
     pub marked-skip : (z : ℕ) → y ≤ z → ((u : ℕ) → y ≤ u → u < z → cell work 0 pitch u x ≡ false) → Marked work pitch x k z a l
     marked-skip z h off = left z h (λ u i j. ap (λ (s : Bool). orOneMore (getD l u 0) s k) (off u i j) ∙ no-distance (getD l u 0) k)
 

@@ -16,23 +16,31 @@ use Rattle.planes.proofs.LaidBytes.{laid-more}
 use Rattle.planes.specs.Laws.Tests.{not-both}
 use Rattle.verdict.specs.Computed.{firstFrom}
 use Rattle.verdict.specs.Laws.FirstState.{FirstPassing, first-is}
+use Rattle.reaching.specs.Words.{First}
 use Rattle.route.specs.Route.{Route}
 use Rattle.route.specs.Computed.{isOnward, orCount, nextState}
 use Rattle.route.specs.Laws.Meant.{route-short, route-by}
 use Rattle.route.specs.Search.{Steps, Nearer, routeAlong, Writable}
 use Rattle.route.specs.Laws.Onward.{onward-iff, onward-at, onward-length}
 use Rattle.route.specs.Laws.Searching.{at-distance, of-distance}
-use Rattle.route.proofs.StepPlane.{no-step}
+use Rattle.route.proofs.StepPlane.{step-bit}
 
--- a byte without a step has no state that passes
-pub none-passes : (work : List ℕ) (pitch : ℕ) (ds : List ℕ) (x k y : ℕ) → getD work (x * pitch + y / 8) 0 ≡ 0
-    → ((z : ℕ) → z < y → cell work 0 pitch x z ≡ true → getD ds z 0 ≡ k → ⊥)
-    → (z : ℕ) → z < (y / 8 + 1) * 8 → cell work 0 pitch x z ≡ true → getD ds z 0 ≡ k → ⊥
-none-passes work pitch ds x k y e no-earlier z h = go (decLt z y)
-  where
-    go : Dec (z < y) → cell work 0 pitch x z ≡ true → getD ds z 0 ≡ k → ⊥
-    go (yes i) = no-earlier z i
-    go (no i) = λ t q. not-both t (no-step work 0 pitch x y z (ap (λ (n : ℕ). getD work (n + y / 8) 0) (zero-add (x * pitch)) ∙ e) (omega (arith, i)) h)
+-- no state passes below the first one that x steps to, nor between one that is not at the distance and the next
+module _ (work : List ℕ) (pitch : ℕ) (ds : List ℕ) (x k : ℕ) where
+  off : (a r z : ℕ) → First work (x * pitch) pitch a r → a ≤ z → z < r → cell work 0 pitch x z ≡ true → getD ds z 0 ≡ k → ⊥
+  off a r z F i h t q = not-both t (sym (step-bit work pitch x z) ∙ F .none z i h)
+
+  pub none-first : (r : ℕ) → First work (x * pitch) pitch 0 r → (z : ℕ) → z < r → cell work 0 pitch x z ≡ true → getD ds z 0 ≡ k → ⊥
+  none-first r F z h = off 0 r z F (omega arith) h
+
+  pub none-more : (y r : ℕ) → ((z : ℕ) → z < y → cell work 0 pitch x z ≡ true → getD ds z 0 ≡ k → ⊥) → (getD ds y 0 ≡ k → ⊥) → First work (x * pitch) pitch (y + 1) r
+      → (z : ℕ) → z < r → cell work 0 pitch x z ≡ true → getD ds z 0 ≡ k → ⊥
+  none-more y r no-earlier not-here F z h = go (decLt z y) (decLt y z)
+    where
+      go : Dec (z < y) → Dec (y < z) → cell work 0 pitch x z ≡ true → getD ds z 0 ≡ k → ⊥
+      go (yes i) j = no-earlier z i
+      go (no i) (yes j) = off (y + 1) r z F (omega arith) h
+      go (no i) (no j) = λ t q. not-here (subst (λ (n : ℕ). getD ds n 0 ≡ k) (omega (arith, i, j)) q)
 
 -- what the code finds is the next state
 pub nearer-is : (work : List ℕ) (pitch : ℕ) (ds : List ℕ) (b x k y : ℕ) → 1 ≤ k → x < pitch * 8 → Nearer work pitch ds x k y

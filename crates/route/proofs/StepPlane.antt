@@ -1,15 +1,11 @@
 -- The step plane at the front of the work buffer, as the code reads it.
-use mathlib.Core.Path.{_≡_, ap, _∙_}
-use mathlib.Core.Bool.{false}
+use mathlib.Core.Path.{_≡_, ap}
 use mathlib.Core.List.{List}
-use Prim.Native.Nat.{ℕ, _+_, _*_, _/_, _%_, _<_, _≤_}
+use Prim.Native.Nat.{ℕ, _+_, _*_, _<_, _≤_}
 use native.Mathlib.Nat.{mul-le-mul-right}
 use native.Mathlib.Omega.{arith}
-use lib.ListN.{getD}
-use Rattle.planes.specs.Bit.{bitOf}
 use Rattle.planes.specs.Plane.{bit, cell, planeSize}
-use Rattle.planes.specs.Laws.Bits.{bit-zero}
-use Rattle.planes.specs.Laws.Places.{bit-at, line-before}
+use Rattle.planes.specs.Laws.Places.{line-before}
 
 -- a plane has at most 131,072 bytes
 pub plane-small : (pitch : ℕ) → pitch ≤ 128 → planeSize pitch ≤ 131072
@@ -22,16 +18,6 @@ line-small pitch x h hx = omega (arith, plane-small pitch h, line-before x (pitc
 -- and its bytes are within each plane
 pub line-in : (pitch x : ℕ) → x < pitch * 8 → x * pitch + pitch ≤ planeSize pitch
 line-in pitch x h = line-before x (pitch * 8) pitch h
-
--- a byte without a step: the states from y up to its last are not stepped to
-pub no-step : (work : List ℕ) (base pitch x y u : ℕ) → getD work (base + x * pitch + y / 8) 0 ≡ 0 → y ≤ u → u < (y / 8 + 1) * 8
-    → cell work base pitch x u ≡ false
-no-step work base pitch x y u e h k =
-    let q : u / 8 ≡ y / 8 = omega arith in
-    bit-at work (base + x * pitch) u
-    ∙ ap (λ (j : ℕ). bitOf (getD work (base + x * pitch + j) 0) (u % 8)) q
-    ∙ ap (λ (v : ℕ). bitOf v (u % 8)) e
-    ∙ bit-zero (u % 8)
 
 -- the bit that is read is the step
 pub step-bit : (work : List ℕ) (pitch x y : ℕ) → bit work (x * pitch * 8 + y) ≡ cell work 0 pitch x y

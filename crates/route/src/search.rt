@@ -4,7 +4,39 @@
 ghost use mathlib.Core.Path.{_≡_};
 ghost use Prim.Native.Nat.{ℕ, _+_, _*_, _<_, _≤_};
 ghost use lib.ListN.{length, getD};
+ghost use Rattle.reaching.specs.Words.{First};
 ghost use Rattle.route.specs.Search.{Searchable, Marked, Advanced, Measured, Nearer, Writable, RouteWritten, Drawn};
+
+// The first state from k on of the line of pitch bytes at a, bit by bit.
+fn next_bit(p: &[u8], a: usize, pitch: usize, k: usize) -> usize
+    requires { ⌜ (a + pitch ≤ length (now p)) × (pitch ≤ 128) × (k ≤ pitch * 8) ⌝ }
+    ensures { λ r. ⌜ First (now (p .entry)) a pitch k r × (r ≤ pitch * 8) ⌝ }
+{
+    let states = pitch * 8;
+    let mut i = k;
+    while i < states {
+        if planes::get_at(p, a, i) {
+            return i;
+        }
+        i += 1;
+    }
+    i
+}
+
+// The same: by words, where the line is of whole words; pitch * 8 where there is none.
+fn next_state(p: &[u8], a: usize, pitch: usize, k: usize) -> usize
+    requires { ⌜ (a + pitch ≤ length (now p)) × (pitch ≤ 128) × (k ≤ pitch * 8) ⌝ }
+    ensures { λ r. ⌜ First (now (p .entry)) a pitch k r × (r ≤ pitch * 8) ⌝ }
+{
+    if pitch % 8 != 0 {
+        return next_bit(p, a, pitch, k);
+    }
+    let found = reaching::next_at(p, a, pitch, k);
+    if pitch * 8 < found {
+        return pitch * 8;
+    }
+    found
+}
 
 // Gives the distance k + 1 to each state without one that steps to x.
 fn mark(work: &[u8], pitch: usize, distances: &mut [u16; 1024], x: usize, k: usize)
@@ -15,19 +47,12 @@ fn mark(work: &[u8], pitch: usize, distances: &mut [u16; 1024], x: usize, k: usi
     let states = pitch * 8;
     let line = states * pitch + x * pitch;
     let distance = (k + 1) as u16;
-    let mut y: usize = 0;
+    let mut y = next_state(work, line, pitch, 0);
     while y < states {
-        if work[line + y / 8] == 0 {
-            // No step is in this byte.
-            y = (y / 8 + 1) * 8;
-        } else {
-            if distances[y] == 0 {
-                if planes::get_at(work, line, y) {
-                    distances[y] = distance;
-                }
-            }
-            y += 1;
+        if distances[y] == 0 {
+            distances[y] = distance;
         }
+        y = next_state(work, line, pitch, y + 1);
     }
 }
 
@@ -79,21 +104,14 @@ fn nearer(work: &[u8], pitch: usize, distances: &[u16; 1024], x: usize, k: usize
     let states = pitch * 8;
     let line = x * pitch;
     let distance = k as u16;
-    let mut y: usize = 0;
+    let mut y = next_state(work, line, pitch, 0);
     while y < states {
-        if work[line + y / 8] == 0 {
-            // No step is in this byte.
-            y = (y / 8 + 1) * 8;
-        } else {
-            if distances[y] == distance {
-                if planes::get_at(work, line, y) {
-                    return y;
-                }
-            }
-            y += 1;
+        if distances[y] == distance {
+            return y;
         }
+        y = next_state(work, line, pitch, y + 1);
     }
-    states
+    y
 }
 
 // Writes the route into the list, by the distances, and answers the count of its states.
