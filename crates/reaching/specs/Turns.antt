@@ -13,7 +13,7 @@ use Rattle.closure.specs.Walk.{Walk}
 pub record Joined (bytes : List ℕ) (at pitch : ℕ) (before after : List ℕ) : Type 0 where
   pub inside : (j : ℕ) → j < pitch → getD after j 0 ≡ bitOr (getD before j 0) (getD bytes (at + j) 0)
 
--- r is a state of line that is in among and not in done; at least pitch * 8 where there is none
+-- r is a state of line, or at least pitch * 8 where done has every state of line that is in among
 pub record Open (line done among : List ℕ) (pitch r : ℕ) : Type 0 where
   pub set : r < pitch * 8 → bit line r ≡ true
   pub none : pitch * 8 ≤ r → (j : ℕ) → j < pitch * 8 → bit line j ≡ true → bit among j ≡ true → bit done j ≡ true

@@ -135,7 +135,7 @@ fn next_open(line: &[u8; 128], done: &[u8; 128], among: &[u8; 128], pitch: usize
     j * 8
 }
 
-// Whether k is a state of line that is not in done.
+// Whether k is a state of line that is not in done; a no will always do.
 fn is_open(line: &[u8; 128], done: &[u8; 128], k: usize, pitch: usize) -> bool
     requires { ⌜ pitch ≤ 128 ⌝ }
     ensures { λ r. ⌜ (r ≡ true → (k < pitch * 8) × (bit (now (line .entry)) k ≡ true)) ⌝ }
