@@ -1,4 +1,4 @@
--- The bits of a number that is made of bytes, its lowest bit, and its bits shifted.
+-- The bits of a number that is made of bytes, and its lowest bit.
 use mathlib.Core.Path.{_≡_, refl, sym, ap, ap₂, _∙_}
 use mathlib.Core.Bool.{true, false}
 use mathlib.Core.List.{List}
@@ -6,20 +6,13 @@ use Prim.Native.Nat.{ℕ, zero, suc, _+_, _-_, _*_, _/_, _%_, _^_, _<_, _≤_}
 use native.Mathlib.Nat.{not-suc-le-zero, le-of-suc-le-suc, pow-suc, add-zero}
 use native.Mathlib.Decide.{decLt}
 use native.Mathlib.Omega.{arith}
-use lib.Dec.{eqb}
 use lib.Count.{trailingZeros, under}
 use lib.ListN.{getD}
-use lib.Pow.{shr-shr}
 use Rattle.planes.specs.Bit.{bitOf}
 use Rattle.planes.specs.Plane.{bit}
 use Rattle.planes.specs.Laws.Bits.{bit-low, bit-half, bit-block, bit-high}
 use Rattle.planes.specs.Laws.Places.{bit-at, in-line}
 use Rattle.reaching.specs.Words.{Word, Lowest}
-
--- the bits of a number that is shifted
-pub bit-shift : (v s i : ℕ) → bitOf (v / 2 ^ s) i ≡ bitOf v (s + i)
-unfolding bitOf
-bit-shift v s i = ap (λ (m : ℕ). eqb (m % 2) 1) (shr-shr v s i)
 
 -- a byte, and a number above it
 low-bits : (low high i : ℕ) → i < 8 → bitOf (low + 256 * high) i ≡ bitOf low i

@@ -3,18 +3,19 @@ use mathlib.Core.Path.{_≡_, refl, sym, ap, subst, _∙_}
 use mathlib.Core.List.{List}
 use mathlib.Core.Logic.{_⊎_, inl, inr}
 use Prim.Native.Nat.{ℕ, _+_, _*_, _<_, _≤_}
-use native.Mathlib.Nat.{not-suc-le-zero}
 use native.Mathlib.Omega.{arith}
-use borrow.Author.Count.{below-more}
-use lib.ListN.{length, getD, set, length-set}
-use lib.Seq.{getD-set-same, getD-set-other}
+use lib.ListN.{length, getD, set}
 use Rattle.planes.specs.Plane.{cell, On, planeSize}
-use Rattle.planes.specs.Lines.{Laid}
+use Rattle.planes.specs.Lines.{Laid, Made}
+use Rattle.planes.specs.Tabulated.{gridTest}
 use Rattle.planes.specs.Laws.Places.{bit-at, line-before}
 use Rattle.planes.specs.Laws.Lines.{line-bit}
+use Rattle.planes.proofs.LaidBytes.{laid-more}
 use Rattle.closure.specs.Walk.{Walk}
 use Rattle.closure.specs.Walk.Walk.{one, more}
 use Rattle.closure.specs.Closed.{Closed}
+use Rattle.closure.specs.Computed.{closed}
+use Rattle.closure.specs.Laws.Closing.{closed-iff}
 use Rattle.closure.specs.Laws.Walks.{start, end, map-walk}
 use Rattle.reaching.specs.Into.{Apart, ClosedInto}
 use Rattle.reaching.specs.Turns.{Between, Stable}
@@ -28,22 +29,7 @@ module _ (from to pitch j : ℕ) (a l : List ℕ) (A : Apart from to pitch (leng
   unread (inr h) = I .over (from + j) (omega arith)
 
   pub copied-more : Laid (λ i. getD a (from + i) 0) to (j + 1) a (set l (to + j) (getD l (from + j) 0))
-  copied-more =
-      let v = getD l (from + j) 0 in
-      record {
-        len = length-set l (to + j) v ∙ I .len;
-        inside = below-more (λ (m : ℕ). getD (set l (to + j) v) (to + m) 0 ≡ getD a (from + m) 0) j
-            (λ m h. getD-set-other l (to + j) (to + m) v 0 (λ q. omega arith) ∙ I .inside m h)
-            (getD-set-same l (to + j) v 0 (omega (arith, I .len, A .second)) ∙ unread (A .apart));
-        under = λ m h. getD-set-other l (to + j) m v 0 (λ q. omega arith) ∙ I .under m h;
-        over = λ m h. getD-set-other l (to + j) m v 0 (λ q. omega arith) ∙ I .over m (omega arith);
-      }
-
-pub copied-none : (from to : ℕ) (a : List ℕ) → Laid (λ i. getD a (from + i) 0) to 0 a a
-copied-none from to a = record { len = refl; inside = λ j h. absurd (not-suc-le-zero h); under = λ m h. refl; over = λ m h. refl }
-
-pub copied-all : {f : ℕ → ℕ} {to j n : ℕ} {a l : List ℕ} → Laid f to j a l × (j ≤ n) → n ≤ j → Laid f to n a l
-copied-all {j = j} {n = n} I h = let e : j ≡ n = omega arith in rw (← e) (I .0)
+  copied-more = laid-more _ to j (planeSize pitch) a l I hj (A .second) (getD l (from + j) 0) (unread (A .apart))
 
 module _ (from to pitch : ℕ) (a l : List ℕ) (C : Laid (λ i. getD a (from + i) 0) to (planeSize pitch) a l) where
   copied-cell : (x y : ℕ) → x < pitch * 8 → y < pitch * 8 → cell l to pitch x y ≡ cell a from pitch x y
@@ -103,4 +89,15 @@ between-closed from to pitch a l m B C = record {
   reaches = λ x y hx hy. (λ t. flat (B .sound) (C .reaches x y hx hy .0 t), λ p. C .reaches x y hx hy .1 (map-walk (B .grows) p));
   under = λ n h. C .under n h ∙ B .under n h;
   over = λ n h. C .over n h ∙ B .over n h;
+}
+
+-- a plane that was made the computed closure is the closure
+pub made-closed : (from to pitch : ℕ) (a l : List ℕ) → Made (λ x y. gridTest (closed (pitch * 8) (cell a from pitch)) x y) pitch to (pitch * 8) a l → ClosedInto from to pitch a l
+made-closed from to pitch a l M = record {
+  len = M .len;
+  reaches = λ x y hx hy.
+      let C = closed-iff (pitch * 8) (cell a from pitch) x y hx hy in
+      (λ t. C .0 (sym (M .here x y hx hy) ∙ t), λ p. M .here x y hx hy ∙ C .1 p);
+  under = M .under;
+  over = M .over;
 }

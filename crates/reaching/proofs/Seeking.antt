@@ -8,11 +8,10 @@ use native.Mathlib.Omega.{arith}
 use lib.Bits.{bitAnd}
 use Rattle.planes.specs.Bit.{bitOf}
 use Rattle.planes.specs.Plane.{bit}
-use Rattle.planes.specs.Laws.Bits.{bit-zero, bit-above, bit-and, bit-not}
+use Rattle.planes.specs.Laws.Bits.{bit-shift, bit-zero, bit-above, bit-and, bit-not}
 use Rattle.planes.specs.Laws.Tests.{not-both, and-left}
 use Rattle.reaching.specs.Words.{Word, Lowest, First}
 use Rattle.reaching.specs.Turns.{Open}
-use Rattle.reaching.proofs.Digits.{bit-shift}
 
 -- the line at a has no state from k on that is below i
 pub record Sought (bytes : List ℕ) (a k i : ℕ) : Type 0 where

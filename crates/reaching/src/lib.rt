@@ -406,9 +406,6 @@ fn by_search(work: &mut [u8], to: usize, pitch: usize) -> bool
     requires { ⌜ (to + planeSize pitch ≤ length (now work)) × (pitch ≤ 128) ⌝ }
     ensures { λ r. ⌜ MetAll to pitch (now (work .entry)) r (now (work .exit)) ⌝ }
 {
-    if pitch < 8 {
-        return false;
-    }
     if pitch % 8 != 0 {
         return false;
     }
@@ -418,11 +415,16 @@ fn by_search(work: &mut [u8], to: usize, pitch: usize) -> bool
     meet_all(work, to, pitch, &order, &idle)
 }
 
-// The plane at to becomes the closure of the plane at from: by search, or else by rounds.
+// The plane at to becomes the closure of the plane at from: on words where a line is no longer than one, by search, or else by
+// rounds.
 pub fn close_into(work: &mut [u8], from: usize, to: usize, pitch: usize)
     requires { ⌜ Apart from to pitch (length (now work)) ⌝ }
     ensures { λ _. ⌜ ClosedInto from to pitch (now (work .entry)) (now (work .exit)) ⌝ }
 {
+    if pitch <= 4 {
+        narrow::close_into(work, from, to, pitch);
+        return;
+    }
     copy_plane(work, from, to, pitch);
     if by_search(work, to, pitch) {
         return;

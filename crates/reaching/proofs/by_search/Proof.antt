@@ -7,15 +7,11 @@ use Rattle.reaching.proofs.by_search.Tie as tie
 returns : tie.Need-returns
 returns c = met-no-line _ _ _
 
-returns-2 : tie.Need-returns-2
-returns-2 c = met-no-line _ _ _
-
 pub by-search-spec : {M : Type 1} → statement M
 by-search-spec =
     tie.close
     (tie.spec
     returns
-    returns-2
     (λ c κs. search needs)
     (λ c κs. search needs)
     (λ c κs. search needs)

@@ -1,0 +1,2 @@
+-- The closure of a narrow plane, on words.
+pub mod Words
