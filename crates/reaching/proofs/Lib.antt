@@ -1,4 +1,5 @@
 -- Laws that belong to no one function.
+pub mod Blanks
 pub mod Digits
 pub mod Seeking
 pub mod Gathering

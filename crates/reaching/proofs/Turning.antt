@@ -16,8 +16,7 @@ use Rattle.closure.specs.Walk.{Walk}
 use Rattle.closure.specs.Walk.Walk.{one, more}
 use Rattle.closure.specs.Laws.Walks.{start, join}
 use Rattle.reaching.specs.Into.{Apart}
-use Rattle.reaching.specs.Words.{First}
-use Rattle.reaching.specs.Turns.{Between, Stable, Idle, Noted, Through, Searched, Met, MetAll}
+use Rattle.reaching.specs.Turns.{Between, Stable, Idle, Blank, Noted, Through, Searched, Met, MetAll}
 
 -- a line is within the bytes
 pub line-fits : (base pitch x len : ℕ) → base + planeSize pitch ≤ len → x < pitch * 8 → base + x * pitch + pitch ≤ len
@@ -128,11 +127,11 @@ met-same to pitch met l G = record { between = between-none to pitch l; through 
 pub noted-none : (l : List ℕ) (at pitch x : ℕ) (idle : List ℕ) → Noted l at pitch x idle idle
 noted-none l at pitch x idle j s = inl s
 
-pub noted-one : (l : List ℕ) (at pitch x first : ℕ) (idle idle′ : List ℕ) → First l at pitch 0 first → pitch * 8 ≤ first → BitSet x idle idle′ → Noted l at pitch x idle idle′
-noted-one l at pitch x first idle idle′ F h S j s = go (ℕ-discrete j x)
+pub noted-one : (l : List ℕ) (at pitch x : ℕ) (idle idle′ : List ℕ) → Blank l at pitch → BitSet x idle idle′ → Noted l at pitch x idle idle′
+noted-one l at pitch x idle idle′ blank S j s = go (ℕ-discrete j x)
   where
-    go : Dec (j ≡ x) → (bit idle j ≡ true) ⊎ ((j ≡ x) × ((y : ℕ) → y < pitch * 8 → bit l (at * 8 + y) ≡ false))
-    go (yes e) = inr (e, λ y hy. F .none y (omega arith) (omega arith))
+    go : Dec (j ≡ x) → (bit idle j ≡ true) ⊎ ((j ≡ x) × Blank l at pitch)
+    go (yes e) = inr (e, blank)
     go (no g) = inl (sym (S .others j g) ∙ s)
 
 pub idle-none : (to pitch n : ℕ) (l : List ℕ) → Idle to pitch (replicate n 0) l
@@ -141,7 +140,7 @@ idle-none to pitch n l x y hx hy s t = not-both s (no-bit n x)
 pub idle-more : (to pitch x : ℕ) (l idle idle′ : List ℕ) → Idle to pitch idle l → Noted l (to + x * pitch) pitch x idle idle′ → Idle to pitch idle′ l
 idle-more to pitch x l idle idle′ I N j y hj hy s t = go (N j s)
   where
-    go : (bit idle j ≡ true) ⊎ ((j ≡ x) × ((y : ℕ) → y < pitch * 8 → bit l ((to + x * pitch) * 8 + y) ≡ false)) → ⊥
+    go : (bit idle j ≡ true) ⊎ ((j ≡ x) × Blank l (to + x * pitch) pitch) → ⊥
     go (inl p) = I j y hj hy p t
     go (inr (e, none)) = not-both (subst (λ (n : ℕ). On l to pitch n y) e t) (none y hy)
 

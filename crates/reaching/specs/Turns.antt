@@ -27,9 +27,13 @@ pub record Taken (bytes : List ℕ) (to pitch k : ℕ) (met line done line′ do
 abbrev pub Idle : ℕ → ℕ → List ℕ → List ℕ → Type 0
 Idle to pitch idle bytes = (x y : ℕ) → x < pitch * 8 → y < pitch * 8 → bit idle x ≡ true → On bytes to pitch x y → ⊥
 
+-- the line at `at` has no state
+abbrev pub Blank : List ℕ → ℕ → ℕ → Type 0
+Blank bytes at pitch = (y : ℕ) → y < pitch * 8 → bit bytes (at * 8 + y) ≡ false
+
 -- idle has no more than x, and this only if the line at `at` has no state
 abbrev pub Noted : List ℕ → ℕ → ℕ → ℕ → List ℕ → List ℕ → Type 0
-Noted bytes at pitch x idle idle′ = (j : ℕ) → bit idle′ j ≡ true → (bit idle j ≡ true) ⊎ ((j ≡ x) × ((y : ℕ) → y < pitch * 8 → bit bytes (at * 8 + y) ≡ false))
+Noted bytes at pitch x idle idle′ = (j : ℕ) → bit idle′ j ≡ true → (bit idle j ≡ true) ⊎ ((j ≡ x) × Blank bytes at pitch)
 
 -- line x of the plane at to has the lines of its states
 abbrev pub Stable : ℕ → ℕ → List ℕ → ℕ → Type 0

@@ -7,7 +7,7 @@ ghost use Rattle.planes.specs.Plane.{bit, planeSize};
 ghost use Rattle.planes.specs.Lines.{BitSet, Laid};
 ghost use Rattle.reaching.specs.Into.{Apart, ClosedInto, lieApart, ClosedApart};
 ghost use Rattle.reaching.specs.Words.{Word, Lowest, First};
-ghost use Rattle.reaching.specs.Turns.{Joined, Open, Taken, Noted, Idle, Through, Searched, Met, MetAll};
+ghost use Rattle.reaching.specs.Turns.{Joined, Open, Taken, Blank, Noted, Idle, Through, Searched, Met, MetAll};
 
 // A byte as a word.
 fn wide(b: u8) -> u64
@@ -158,11 +158,15 @@ fn pick(line: &[u8; 128], done: &[u8; 128], met: &[u8; 128], last: usize, pitch:
     if is_open(line, done, last, pitch) {
         return last;
     }
+    let any = next_open(line, done, line, pitch);
+    if pitch * 8 <= any {
+        return any;
+    }
     let k = next_open(line, done, met, pitch);
     if k < pitch * 8 {
         return k;
     }
-    next_open(line, done, line, pitch)
+    any
 }
 
 // ORs line k of the plane at to into line. Done is k then, and where k is met, every state of its line.
@@ -320,12 +324,37 @@ fn marked(seen: &[u8; 128], x: usize) -> bool
     planes::get_bit(seen, x)
 }
 
+// Whether the pitch bytes of p from at on are all zero.
+fn all_zero(p: &[u8], at: usize, pitch: usize) -> bool
+    requires { ⌜ at + pitch ≤ length (now p) ⌝ }
+    ensures { λ r. ⌜ (r ≡ true → Blank (now (p .entry)) at pitch) ⌝ }
+{
+    let mut b: u8 = 0;
+    let mut j: usize = 0;
+    while j < pitch {
+        b = b | p[at + j];
+        j += 1;
+    }
+    b == 0
+}
+
+// Whether the line of pitch bytes at `at` has no state: where pitch is 128, by a loop of a known length.
+fn is_blank(work: &[u8], at: usize, pitch: usize) -> bool
+    requires { ⌜ (at + pitch ≤ length (now work)) × (pitch ≤ 128) × (pitch % 8 ≡ 0) ⌝ }
+    ensures { λ r. ⌜ (r ≡ true → Blank (now (work .entry)) at pitch) ⌝ }
+{
+    if pitch == 128 {
+        return all_zero(work, at, 128);
+    }
+    pitch * 8 <= next_at(work, at, pitch, 0)
+}
+
 // Notes x as idle where its line, at `at`, has no state.
 fn note_idle(work: &[u8], at: usize, pitch: usize, x: usize, idle: &mut [u8; 128])
     requires { ⌜ (at + pitch ≤ length (now work)) × (pitch ≤ 128) × (pitch % 8 ≡ 0) × (x < 1024) ⌝ }
     ensures { λ _. ⌜ Noted (now (work .entry)) at pitch x (now (idle .entry)) (now (idle .exit)) ⌝ }
 {
-    if pitch * 8 <= next_at(work, at, pitch, 0) {
+    if is_blank(work, at, pitch) {
         mark(idle, x);
     }
 }

@@ -11,7 +11,13 @@ returns c =
     open-is _ _ _ _ _ (found .0) (found .1)
 
 returns-2 : tie.Need-returns-2
-returns-2 c = open-is _ _ _ _ _ (c .if2 .taken) (c .before .next-open .ensures .set (c .if2 .taken))
+returns-2 c = c .before .next-open .ensures
+
+returns-3 : tie.Need-returns-3
+returns-3 c = open-is _ _ _ _ _ (c .if3 .taken) (c .before .next-open2 .ensures .set (c .if3 .taken))
+
+returns-4 : tie.Need-returns-4
+returns-4 c = c .before .before .before .next-open .ensures
 
 pub pick-spec : {M : Type 1} → statement M
 pick-spec =
@@ -23,4 +29,6 @@ pick-spec =
     (λ c. search needs)
     returns-2
     (λ c κs. search needs)
-    (λ c. search needs))
+    (λ c. search needs)
+    returns-3
+    returns-4)
