@@ -28,7 +28,7 @@
 #endif
 
 /* The version of the library. */
-#define WEGBARO_VERSION "0.7.2"
+#define WEGBARO_VERSION "0.7.3"
 
 /* ---- Sizes ---- */
 

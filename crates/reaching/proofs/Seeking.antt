@@ -65,6 +65,37 @@ module _ (bytes : List ℕ) (a k i v : ℕ) (S : Sought bytes a k i) (W : Word (
             let e : a * 8 + j ≡ a * 8 + (i + (j - i)) = omega arith in
             ap (λ (n : ℕ). bit bytes n) e ∙ ahead (j - i) (omega (arith, near)) ∙ L .none (j - i) (omega arith)
 
+-- the same where a word begins at byte j of the line
+module _ (bytes : List ℕ) (a k j v : ℕ) (S : Sought bytes a k (j * 8)) (W : Word (a + j) bytes v) (whole : j % 8 ≡ 0) where
+  W′ : Word (a + j * 8 / 64 * 8) bytes v
+  W′ = let e : a + j ≡ a + j * 8 / 64 * 8 = omega arith in subst (λ (n : ℕ). Word n bytes v) e W
+
+  unshifted : v / 2 ^ (j * 8 % 64) ≡ v
+  unshifted =
+      let e : j * 8 % 64 ≡ 0 = omega arith in
+      let f : v / 1 ≡ v = omega arith in
+      ap (λ (n : ℕ). v / 2 ^ n) e ∙ f
+
+  pub word-more : v ≡ 0 → Sought bytes a k ((j + 8) * 8)
+  word-more z =
+      let e : (j * 8 / 64 + 1) * 64 ≡ (j + 8) * 8 = omega arith in
+      subst (Sought bytes a k) e (sought-more bytes a k (j * 8) v S W′ (unshifted ∙ z))
+
+  pub word-found : (pitch t : ℕ) → Lowest v t → First bytes a pitch k (j * 8 + t)
+  word-found pitch t L = sought-found bytes a k (j * 8) v S W′ pitch t (subst (λ (n : ℕ). Lowest n t) (sym unshifted) L)
+
+-- none before i, and then from i on
+pub first-on : (bytes : List ℕ) (a pitch k i r : ℕ) → Sought bytes a k i → First bytes a pitch i r → First bytes a pitch k r
+first-on bytes a pitch k i r S F = record {
+  later = omega (arith, S .later, F .later);
+  none = λ j h l. go j h l (decLt j i);
+  set = F .set;
+}
+  where
+    go : (j : ℕ) → k ≤ j → j < r → Dec (j < i) → bit bytes (a * 8 + j) ≡ false
+    go j h l (yes s) = S .none j h s
+    go j h l (no g) = F .none j (omega (arith, g)) l
+
 -- of the states below n, done has those of line that are in among
 abbrev pub Spent : List ℕ → List ℕ → List ℕ → ℕ → Type 0
 Spent line done among n = (i : ℕ) → i < n → bit line i ≡ true → bit among i ≡ true → bit done i ≡ true

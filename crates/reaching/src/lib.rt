@@ -40,21 +40,36 @@ fn lowest(v: u64) -> usize
     u64::trailing_zeros(v) as usize
 }
 
+// The first state of the line of pitch bytes at a, from its byte j on, with which a word begins.
+fn next_word(p: &[u8], a: usize, pitch: usize, j: usize) -> usize
+    requires { ⌜ (a + pitch ≤ length (now p)) × (pitch ≤ 128) × (pitch % 8 ≡ 0) × (j ≤ pitch) × (j % 8 ≡ 0) ⌝ }
+    ensures { λ r. ⌜ First (now (p .entry)) a pitch (j * 8) r ⌝ }
+{
+    let mut i = j;
+    while i < pitch {
+        let v = eight(p, a + i);
+        if v != 0 {
+            return i * 8 + lowest(v);
+        }
+        i += 8;
+    }
+    i * 8
+}
+
 // The first state from k on of the line of pitch bytes at a.
 pub fn next_at(p: &[u8], a: usize, pitch: usize, k: usize) -> usize
     requires { ⌜ (a + pitch ≤ length (now p)) × (pitch ≤ 128) × (pitch % 8 ≡ 0) ⌝ }
     ensures { λ r. ⌜ First (now (p .entry)) a pitch k r ⌝ }
 {
-    let states = pitch * 8;
-    let mut i = k;
-    while i < states {
-        let left = eight(p, a + i / 64 * 8) >> (i % 64);
-        if left != 0 {
-            return i + lowest(left);
-        }
-        i = (i / 64 + 1) * 64;
+    if pitch * 8 <= k {
+        return k;
     }
-    i
+    let j = k / 64 * 8;
+    let left = eight(p, a + j) >> (k % 64);
+    if left != 0 {
+        return k + lowest(left);
+    }
+    next_word(p, a, pitch, j + 8)
 }
 
 // ORs the pitch bytes of p from at on into line.

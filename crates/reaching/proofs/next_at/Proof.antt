@@ -1,49 +1,42 @@
 -- `reaching::next_at` meets its contract.
-use Prim.Native.Nat.{_-_, _*_}
+use mathlib.Core.Path.{_≡_, subst}
+use Prim.Native.Nat.{ℕ, _+_, _*_, _/_}
 use native.Mathlib.Omega.{arith}
-use Rattle.reaching.proofs.Seeking.{Sought, sought-none, sought-all, sought-more, sought-found}
+use borrow.Author.Needs.{needs}
+use denote.Ref.{now}
+use Rattle.reaching.specs.Words.{First}
+use Rattle.reaching.proofs.Seeking.{sought-none, sought-all, sought-more, sought-found, first-on}
 use Rattle.reaching.proofs.next_at.Statement.{statement}
 use Rattle.reaching.proofs.next_at.Tie as tie
 
-abbrev Inv-loop : tie.InvT-loop
-Inv-loop p a pitch k states i₀ i = Sought p a k i
+returns : tie.Need-returns
+returns c = sought-all _ _ _ _ _ (sought-none _ _ _) (c .if1 .taken)
 
-abbrev μ-loop : tie.MeasureT-loop
-μ-loop p a pitch k states i₀ i = pitch * 8 - i
+returns-2 : tie.Need-returns-2
+returns-2 c = sought-found _ _ _ _ _ (sought-none _ _ _) (c .before .before .eight .ensures) _ _ (c .lowest .ensures)
 
-loop-holds : tie.Need-loop-holds Inv-loop μ-loop
-loop-holds c = sought-none _ _ _
-
-returns : tie.Need-returns Inv-loop μ-loop
-returns c =
-    let at-loop = c .before .before .before .before in
-    sought-found _ _ _ _ _ (at-loop .loop .inv) (c .before .before .eight .ensures) _ _ (c .lowest .ensures)
-
-loop-again : tie.Need-loop-again Inv-loop μ-loop
-loop-again c =
-    let at-loop = c .before .before .before in
-    sought-more _ _ _ _ _ (at-loop .loop .inv) (c .before .eight .ensures) (c .if1 .left)
-
-returns-2 : tie.Need-returns-2 Inv-loop μ-loop
-returns-2 c = sought-all _ _ _ _ _ (c .before .loop .inv) (c .loop-test .left)
+returns-3 : tie.Need-returns-3
+returns-3 c =
+    let read = c .before .before in
+    let a = read .before .before .before .args in
+    let e : (a .k / 64 * 8 + 8) * 8 ≡ (a .k / 64 + 1) * 64 = omega arith in
+    first-on _ _ _ _ _ _
+    (sought-more _ _ _ _ _ (sought-none _ _ _) (read .eight .ensures) (c .before .if2 .left))
+    (subst (λ (n : ℕ). First (now (a .p)) (a .a) (a .pitch) n (c .next-word .result)) e (c .next-word .ensures))
 
 pub next-at-spec : {M : Type 1} → statement M
 next-at-spec =
     tie.close
     (tie.spec
-    Inv-loop
-    μ-loop
-    (λ c. omega arith)
-    loop-holds
-    (λ c. omega arith)
-    (λ c. omega arith)
-    (λ c κs. omega arith)
-    (λ c. omega arith)
-    (λ c κs. omega arith)
-    (λ c. omega arith)
+    (λ c. search needs)
     returns
-    (λ c. omega arith)
-    (λ c. omega arith)
-    (λ c. omega arith)
-    loop-again
-    returns-2)
+    (λ c. search needs)
+    (λ c. search needs)
+    (λ c κs. search needs)
+    (λ c. search needs)
+    (λ c κs. search needs)
+    (λ c. search needs)
+    returns-2
+    (λ c. search needs)
+    (λ c κs. search needs)
+    returns-3)
