@@ -1,12 +1,10 @@
 // The fields of one record: ranges, widths, patterns and unnamed bytes.
 use crate::MOST_POLICIES;
 use crate::Widths;
-use crate::groups::group_good;
 use crate::wire::version_good;
 ghost use mathlib.Core.Path.{_≡_};
 ghost use mathlib.Core.Bool.{true};
 ghost use mathlib.Core.List.{[], _∷_};
-ghost use mathlib.Core.Logic.{_⊎_};
 ghost use Prim.Native.Nat.{_≤_, _<_, _^_};
 ghost use lib.Dec.{ltb};
 ghost use lib.ListN.{length};
@@ -16,19 +14,19 @@ ghost use Rattle.records.specs.State.{ordinary};
 ghost use Rattle.records.specs.Pattern.{patternGood};
 ghost use Rattle.records.specs.Fields.{zeros, pointGood, noPattern, matchGood, actionGood, actionsGood, nodeGood, fieldsGood, commandGood};
 
-// The bytes from the first up to the last are zero.
+// The bytes from the first up to the last are zero: all are ORed, with no way out at the first that is not, so that the machine
+// may take many at a time.
 pub fn zeros(r: &[u8], first: usize, last: usize) -> bool
     requires { ⌜ (first ≤ last) × (last < length (now r)) ⌝ }
     ensures { λ z. ⌜ z ≡ zeros first last (now (r .entry)) ⌝ }
 {
+    let mut all: u8 = 0;
     let mut i = first;
     while i <= last {
-        if r[i] != 0 {
-            return false;
-        }
+        all = all | r[i];
         i += 1;
     }
-    true
+    all == 0
 }
 
 // A number is within a width of k bits.
@@ -176,7 +174,7 @@ pub fn node_good(w: Widths, k: u8, a: u8, b: u8) -> bool
 }
 
 // The fields of a link.
-fn link_good(w: Widths, r: &[u8]) -> bool
+pub fn link_good(w: Widths, r: &[u8]) -> bool
     requires { ⌜ (length (now r) ≡ 24) × (withinLimits w ≡ true) × (kind (now r) ≡ 2) ⌝ }
     ensures { λ g. ⌜ g ≡ fieldsGood w (now (r .entry)) ⌝ }
 {
@@ -190,7 +188,7 @@ fn link_good(w: Widths, r: &[u8]) -> bool
 }
 
 // The fields of a miss.
-fn miss_good(w: Widths, r: &[u8]) -> bool
+pub fn miss_good(w: Widths, r: &[u8]) -> bool
     requires { ⌜ (length (now r) ≡ 24) × (withinLimits w ≡ true) × (kind (now r) ≡ 3) ⌝ }
     ensures { λ g. ⌜ g ≡ fieldsGood w (now (r .entry)) ⌝ }
 {
@@ -207,7 +205,7 @@ fn miss_good(w: Widths, r: &[u8]) -> bool
 }
 
 // The fields of a rule.
-fn rule_good(w: Widths, r: &[u8]) -> bool
+pub fn rule_good(w: Widths, r: &[u8]) -> bool
     requires { ⌜ (length (now r) ≡ 24) × (withinLimits w ≡ true) × (kind (now r) ≡ 4) ⌝ }
     ensures { λ g. ⌜ g ≡ fieldsGood w (now (r .entry)) ⌝ }
 {
@@ -222,7 +220,7 @@ fn rule_good(w: Widths, r: &[u8]) -> bool
 }
 
 // The fields of a policy node.
-fn policy_node_good(w: Widths, r: &[u8]) -> bool
+pub fn policy_node_good(w: Widths, r: &[u8]) -> bool
     requires { ⌜ (length (now r) ≡ 24) × (withinLimits w ≡ true) × (kind (now r) ≡ 5) ⌝ }
     ensures { λ g. ⌜ g ≡ fieldsGood w (now (r .entry)) ⌝ }
 {
@@ -235,8 +233,8 @@ fn policy_node_good(w: Widths, r: &[u8]) -> bool
     zeros(r, 5, 23)
 }
 
-// The fields of the widths record, besides the widths: its version.
-fn widths_record_good(r: &[u8]) -> bool
+// The fields of the widths record, besides the widths: its version. No widths are needed for it.
+pub fn widths_record_good(r: &[u8]) -> bool
     requires { ⌜ (length (now r) ≡ 24) × (kind (now r) ≡ 1) ⌝ }
     ensures { λ g. ⌜ ((w : Widths) → g ≡ fieldsGood w (now (r .entry))) ⌝ }
 {
@@ -244,23 +242,6 @@ fn widths_record_good(r: &[u8]) -> bool
         return false;
     }
     zeros(r, 5, 23)
-}
-
-// The fields of a record, as its kind reads them; for the widths record no widths are needed yet.
-pub fn fields_good(w: Widths, r: &[u8]) -> bool
-    requires { ⌜ (length (now r) ≡ 24) × ((kind (now r) ≡ 1) ⊎ (withinLimits w ≡ true)) ⌝ }
-    ensures { λ g. ⌜ g ≡ fieldsGood w (now (r .entry)) ⌝ }
-{
-    let k = r[0];
-    match k {
-        1 => widths_record_good(r),
-        2 => link_good(w, r),
-        3 => miss_good(w, r),
-        4 => rule_good(w, r),
-        5 => policy_node_good(w, r),
-        9 => group_good(w, r),
-        0 | 6..=8 | 10..=255 => false,
-    }
 }
 
 // The widths that a record's bytes 1 to 3 give.

@@ -10,6 +10,7 @@ pub mod Good
 pub mod Groups
 pub mod Links
 pub mod NodeRows
+pub mod Noted
 pub mod Passing
 pub mod Points
 pub mod Spread

@@ -4,6 +4,7 @@ pub mod Refusal
 pub mod Found
 pub mod Policies
 pub mod Groups
+pub mod Noted
 pub mod Count
 pub mod Ascending
 pub mod Computing

@@ -112,11 +112,12 @@ pub fn buckets_there(there: &[u8; 32], r: &[u8]) -> bool
     true
 }
 
-// What is known of the groups of the records before: how many there are, and the switch and number of the last.
+// What is known of the groups of the records before: how many there are, and the switch and number of the last, as wide as the
+// count so that the bytes stand with no gap between and are copied as words.
 pub struct Groups {
     pub count: usize,
-    pub switch: u8,
-    pub number: u8,
+    pub switch: usize,
+    pub number: usize,
 }
 
 impl Groups {
@@ -129,13 +130,13 @@ impl Groups {
         if self.count == 0 {
             return false;
         }
-        if sw < r[1] {
+        if sw < r[1] as usize {
             return false;
         }
-        if sw != r[1] {
+        if sw != r[1] as usize {
             return true;
         }
-        r[2] <= self.number
+        (r[2] as usize) <= self.number
     }
 
     // With the group r.
@@ -145,8 +146,8 @@ impl Groups {
     {
         Groups {
             count: self.count + 1,
-            switch: r[1],
-            number: r[2],
+            switch: r[1] as usize,
+            number: r[2] as usize,
         }
     }
 }

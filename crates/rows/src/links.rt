@@ -1,17 +1,20 @@
-// Links: the points where they end.
+// Links: the points where they end, noted as bits.
 ghost use mathlib.Core.Path.{_≡_};
-ghost use Prim.Native.Nat.{_+_, _*_, _≤_, _<_};
+ghost use Prim.Native.Nat.{_≤_, _<_};
 ghost use mathlib.Core.Bool.{_&&_};
+ghost use mathlib.Core.List.{[], _∷_, _++_};
 ghost use lib.Dec.{eqb};
 ghost use lib.ListN.{length};
-ghost use Rattle.records.specs.Record.{kind, records, endsAt, linked};
+ghost use Rattle.planes.specs.Plane.{bit};
+ghost use Rattle.records.specs.Record.{Net, kind};
 ghost use Rattle.records.specs.Widths.{widthsOf};
 ghost use Rattle.rows.specs.Rows.{row6};
+ghost use Rattle.rows.specs.Noted.{pointBit, PointsNoted, EndsNamed};
 use records::Widths;
 use records::fields::is_ordinary;
 
 // Port p of switch a is port q of switch b.
-pub fn same_point(a: u8, p: u8, b: u8, q: u8) -> bool
+fn same_point(a: u8, p: u8, b: u8, q: u8) -> bool
     ensures { λ r. ⌜ r ≡ (eqb a b && eqb p q) ⌝ }
 {
     if a != b {
@@ -20,42 +23,25 @@ pub fn same_point(a: u8, p: u8, b: u8, q: u8) -> bool
     p == q
 }
 
-// A record is a link that ends at the point of a switch and a port.
-pub fn ends_at(r: &[u8], sw: u8, p: u8) -> bool
-    requires { ⌜ length (now r) ≡ 24 ⌝ }
-    ensures { λ b. ⌜ b ≡ (eqb (kind (now (r .entry))) 2 && endsAt sw p (now (r .entry))) ⌝ }
+// The bit of a point.
+fn point_bit(sw: u8, p: u8) -> usize
+    ensures { λ r. ⌜ r ≡ pointBit sw p ⌝ }
 {
-    if r[0] != 2 {
-        return false;
-    }
-    if same_point(r[1], r[2], sw, p) {
-        return true;
-    }
-    same_point(r[3], r[4], sw, p)
+    (sw as usize) * 16 + p as usize
 }
 
-// Some link of the first n records ends at the point of a switch and a port.
-pub fn is_linked(store: &[u8], n: usize, sw: u8, p: u8) -> bool
-    requires { ⌜ n * 24 ≤ length (now store) ⌝ }
-    ensures { λ r. ⌜ r ≡ linked (records n (now (store .entry))) sw p ⌝ }
+// A point is noted.
+fn is_noted(points: &[u8; 32], sw: u8, p: u8) -> bool
+    requires { ⌜ (sw < 16) × (p < 16) ⌝ }
+    ensures { λ r. ⌜ r ≡ bit (now (points .entry)) (pointBit sw p) ⌝ }
 {
-    let mut i = 0;
-    while i < n {
-        let a = i * 24;
-        let e = a + 24;
-        if ends_at(&store[a..e], sw, p) {
-            return true;
-        }
-        i += 1;
-    }
-    false
+    planes::get_bit(points, point_bit(sw, p))
 }
 
-// The link r, after the first i records, ends at a port not ordinary or at a point already linked, or twice at one point.
-pub fn is_misplaced(store: &[u8], i: usize, w: Widths, r: &[u8]) -> bool
-    requires { ⌜ (i * 24 ≤ length (now store)) × (length (now r) ≡ 24) × (kind (now r) ≡ 2) ⌝ }
-    requires { ⌜ (w ≡ widthsOf (records i (now store))) × (w .p ≤ 4) ⌝ }
-    ensures { λ b. ⌜ b ≡ row6 (records i (now (store .entry))) (now (r .entry)) ⌝ }
+// The link r ends at a port not ordinary or at a point already linked, or twice at one point, where the linked points are noted.
+pub fn is_misplaced(points: &[u8; 32], w: Widths, r: &[u8]) -> bool
+    requires { ⌜ (length (now r) ≡ 24) × (kind (now r) ≡ 2) × EndsNamed (now r) × (w .p ≤ 4) ⌝ }
+    ensures { λ b. ⌜ ((before : Net) → w ≡ widthsOf before → PointsNoted before (now (points .entry)) → b ≡ row6 before (now (r .entry))) ⌝ }
 {
     if !is_ordinary(w, r[2]) {
         return true;
@@ -63,11 +49,20 @@ pub fn is_misplaced(store: &[u8], i: usize, w: Widths, r: &[u8]) -> bool
     if !is_ordinary(w, r[4]) {
         return true;
     }
-    if is_linked(store, i, r[1], r[2]) {
+    if is_noted(points, r[1], r[2]) {
         return true;
     }
-    if is_linked(store, i, r[3], r[4]) {
+    if is_noted(points, r[3], r[4]) {
         return true;
     }
     same_point(r[1], r[2], r[3], r[4])
+}
+
+// Notes the points where the link r ends.
+pub fn note_ends(points: &mut [u8; 32], r: &[u8])
+    requires { ⌜ (length (now r) ≡ 24) × (kind (now r) ≡ 2) × EndsNamed (now r) ⌝ }
+    ensures { λ _. ⌜ ((before : Net) → PointsNoted before (now (points .entry)) → PointsNoted (before ++ (now (r .entry) ∷ [])) (now (points .exit))) ⌝ }
+{
+    planes::set_bit(points, point_bit(r[1], r[2]));
+    planes::set_bit(points, point_bit(r[3], r[4]));
 }

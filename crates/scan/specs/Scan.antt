@@ -3,7 +3,7 @@ use mathlib.Core.Path.{_≡_}
 use mathlib.Core.Bool.{Bool, true, false}
 use mathlib.Core.List.{List, [], _∷_, _++_}
 use mathlib.Core.Option.{none, some}
-use Prim.Native.Nat.{ℕ, zero, suc, _-_, _*_, _≤_, _<_}
+use Prim.Native.Nat.{ℕ, _-_, _*_, _≤_, _<_}
 use lib.Dec.{eqb}
 use lib.ListN.{length, getD}
 use Rattle.records.specs.Record.{Rec, Net, mostGroups, kind, records, ofKind}
@@ -13,9 +13,14 @@ use Rattle.rows.specs.Refusal.{Refusal, orElse, row, recordRow}
 use Rattle.scan.specs.declared.turns.Seen.{Seen}
 use Rattle.scan.specs.declared.turns.Turn.{Turn}
 use Rattle.scan.specs.declared.turns.Turn.the-variants.{Next, Stop}
-use Rattle.records.specs.Fields.{fieldsGood}
 use Rattle.rows.specs.Policies.{PoliciesOf}
 use Rattle.rows.specs.Groups.{GroupsOf, There}
+use Rattle.rows.specs.Noted.{KeysNoted, PointsNoted}
+
+-- what is noted of the records before: the keys of their rules, and the points where their links end
+pub record NotedOf (before : Net) (bits table : List ℕ) : Type 0 where
+  pub keys : KeysNoted before bits
+  pub points : PointsNoted before table
 
 -- the widths are within their limits once the widths record was passed
 abbrev pub Limited : Seen → Type 0
@@ -33,11 +38,6 @@ pub record SeenOf (before : Net) (s : Seen) : Type 0 where
   pub policies : PoliciesOf before (s .policies)
   pub groups : GroupsOf before (s .groups)
 
--- the refusal of a row at a place; 0 is no row
-abbrev pub rowAt : ℕ → ℕ → Refusal
-rowAt zero place = none
-rowAt (suc k) place = some (suc k, place)
-
 -- whether a record meets row 3; if not, the widths record was passed
 pub record Placed (r : Rec) (s : Seen) (met : Bool) : Type 0 where
   pub is : (before : Net) → SeenOf before s → met ≡ row3 before r
@@ -47,16 +47,15 @@ pub record Placed (r : Rec) (s : Seen) (met : Bool) : Type 0 where
 abbrev pub formRow : Net → Rec → Refusal
 formRow before r = orElse (row (row3 before r) 3 (length before)) (row (row5 before r) 5 (length before))
 
--- which of rows 3 and 5 a record meets; if none, the widths record was passed, and its fields are good
-pub record Formed (r : Rec) (s : Seen) (k : ℕ) : Type 0 where
-  pub first : (before : Net) → SeenOf before s → rowAt k (length before) ≡ formRow before r
-  pub later : k ≡ 0 → s .last ≡ 0 → ⊥
-  pub good : k ≡ 0 → fieldsGood (s .widths) r ≡ true
-
 -- what a turn answers: the lowest row that the record meets, or what is known after it
 abbrev pub Turned : Net → Rec → Net → Turn → Type 0
 Turned before r after (Stop k) = recordRow before r after ≡ some (k, length before)
 Turned before r after (Next s) = (recordRow before r after ≡ none) × SeenOf (before ++ (r ∷ [])) s
+
+-- what holds where a turn goes on to the next record
+abbrev pub Onward : Turn → Type 0 → Type 0
+Onward (Stop k) holds = Unit {0}
+Onward (Next s) holds = holds
 
 -- whether a group meets row 16; if not, its number among the groups is small
 pub record GroupMet (r : Rec) (s : Seen) (there : List ℕ) (met : Bool) : Type 0 where

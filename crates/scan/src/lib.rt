@@ -94,10 +94,12 @@ pub fn scan(store: &[u8], n: usize) -> Reading
     ensures { λ r. ⌜ Read (records n (now (store .entry))) (fileRow [] (records n (now (store .entry)))) r ⌝ }
 {
     let there = groups_there(store, n);
+    let mut keys = [0u8; 512];
+    let mut points = [0u8; 32];
     let mut s = start();
     let mut i = 0;
     while i < n {
-        let t = turns::turn_at(store, n, i, s, &there);
+        let t = turns::turn_at(store, n, i, s, &there, &mut keys, &mut points);
         match t {
             Turn::Stop(number) => {
                 return Reading::Refused { number, place: i };

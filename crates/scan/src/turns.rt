@@ -1,17 +1,19 @@
 // A turn of the scan at each kind of record: the lowest row that the record meets, or what is known of the records before the next.
 ghost use mathlib.Core.Path.{_≡_};
-ghost use Prim.Native.Nat.{_*_, _^_, _≤_, _<_};
+ghost use Prim.Native.Nat.{_+_, _*_, _^_, _≤_, _<_};
 ghost use mathlib.Core.Bool.{true};
-ghost use mathlib.Core.List.{_∷_, _++_};
+ghost use mathlib.Core.List.{[], _∷_, _++_};
 ghost use lib.Dec.{ltb};
 ghost use lib.ListN.{length};
 ghost use Rattle.records.specs.Record.{Net, kind, records};
 ghost use Rattle.records.specs.Search.{recordAt, recordsAfter};
 ghost use Rattle.records.specs.Widths.{withinLimits};
 ghost use Rattle.rows.specs.Groups.{There};
-ghost use Rattle.scan.specs.Scan.{SeenOf, Limited, Placed, Formed, GroupMet, Later, Turned, BeforeTurn};
+ghost use Rattle.rows.specs.Noted.{KeysNoted, PointsNoted};
+ghost use Rattle.scan.specs.Scan.{SeenOf, NotedOf, Limited, Placed, GroupMet, Later, Turned, Onward, BeforeTurn};
 use records::Widths;
 use records::fields;
+use records::groups::group_good;
 use rows::groups;
 use rows::groups::Groups;
 use rows::links;
@@ -50,28 +52,12 @@ fn misplaced(r: &[u8], s: Seen) -> bool
     r[0] < last
 }
 
-// The lowest of rows 3 and 5 that a record of kind 2 to 5 meets, or 0.
-fn form_row(r: &[u8], s: Seen) -> u8
-    requires { ⌜ (length (now r) ≡ 24) × (2 ≤ kind (now r)) × (kind (now r) ≤ 5) × Limited s ⌝ }
-    ensures { λ k. ⌜ Formed (now (r .entry)) s k ⌝ }
-{
-    if misplaced(r, s) {
-        return 3;
-    }
-    let w = s.widths;
-    if !fields::fields_good(w, r) {
-        return 5;
-    }
-    0
-}
-
 // The widths record.
 fn widths_turn(r: &[u8], s: Seen) -> Turn
     requires { ⌜ (length (now r) ≡ 24) × (kind (now r) ≡ 1) ⌝ }
     ensures { λ t. ⌜ ((before after : Net) → SeenOf before s → Turned before (now (r .entry)) after t) ⌝ }
 {
     let last = s.last;
-    let none = s.widths;
     if last != 0 {
         return Turn::Stop(3);
     }
@@ -79,7 +65,7 @@ fn widths_turn(r: &[u8], s: Seen) -> Turn
     if !w.within_limits() {
         return Turn::Stop(4);
     }
-    if !fields::fields_good(none, r) {
+    if !fields::widths_record_good(r) {
         return Turn::Stop(5);
     }
     let mut next = s;
@@ -96,19 +82,22 @@ pub fn incomplete(misses: usize, w: u8) -> bool
     misses < 1usize << w
 }
 
-// A link, after the first i records.
-fn link_turn(store: &[u8], i: usize, r: &[u8], s: Seen) -> Turn
-    requires { ⌜ BeforeTurn (now store) i (now r) s × (kind (now r) ≡ 2) ⌝ }
-    ensures { λ t. ⌜ ((after : Net) → Turned (records i (now (store .entry))) (now (r .entry)) after t) ⌝ }
+// A link, where the points at which the links before end are noted; if it is let in, so are its own.
+fn link_turn(r: &[u8], s: Seen, points: &mut [u8; 32]) -> Turn
+    requires { ⌜ (length (now r) ≡ 24) × (kind (now r) ≡ 2) × Limited s × (s .links + 1 < 2 ^ 64) ⌝ }
+    ensures { λ t. ⌜ ((before after : Net) → SeenOf before s → PointsNoted before (now (points .entry)) → Turned before (now (r .entry)) after t × Onward t (PointsNoted (before ++ (now (r .entry) ∷ [])) (now (points .exit)))) ⌝ }
 {
-    let row = form_row(r, s);
-    if row != 0 {
-        return Turn::Stop(row);
+    if misplaced(r, s) {
+        return Turn::Stop(3);
     }
     let w = s.widths;
-    if links::is_misplaced(store, i, w, r) {
+    if !fields::link_good(w, r) {
+        return Turn::Stop(5);
+    }
+    if links::is_misplaced(points, w, r) {
         return Turn::Stop(6);
     }
+    links::note_ends(points, r);
     let mut next = s;
     next.last = 2;
     next.links = s.links + 1;
@@ -120,9 +109,12 @@ fn miss_turn(r: &[u8], s: Seen, there: &[u8; 32]) -> Turn
     requires { ⌜ (length (now r) ≡ 24) × (kind (now r) ≡ 3) × Limited s ⌝ }
     ensures { λ t. ⌜ ((before after : Net) → SeenOf before s → There (before ++ (now (r .entry) ∷ after)) (now (there .entry)) → Turned before (now (r .entry)) after t) ⌝ }
 {
-    let row = form_row(r, s);
-    if row != 0 {
-        return Turn::Stop(row);
+    if misplaced(r, s) {
+        return Turn::Stop(3);
+    }
+    let w = s.widths;
+    if !fields::miss_good(w, r) {
+        return Turn::Stop(5);
     }
     let misses = s.misses;
     let sw = r[1] as usize;
@@ -138,21 +130,31 @@ fn miss_turn(r: &[u8], s: Seen, there: &[u8; 32]) -> Turn
     Turn::Next(next)
 }
 
-// A rule, after the first i records, where these groups are there.
-fn rule_turn(store: &[u8], i: usize, r: &[u8], s: Seen, there: &[u8; 32]) -> Turn
-    requires { ⌜ BeforeTurn (now store) i (now r) s × (kind (now r) ≡ 4) ⌝ }
-    ensures { λ t. ⌜ ((after : Net) → There (records i (now (store .entry)) ++ (now (r .entry) ∷ after)) (now (there .entry)) → Turned (records i (now (store .entry))) (now (r .entry)) after t) ⌝ }
+// A rule, after the first i records, where these groups are there and the keys of the rules before are noted; if it is let in,
+// so is its own.
+fn rule_turn(
+    store: &[u8],
+    i: usize,
+    r: &[u8],
+    s: Seen,
+    there: &[u8; 32],
+    keys: &mut [u8; 512],
+) -> Turn
+    requires { ⌜ BeforeTurn (now store) i (now r) s × (kind (now r) ≡ 4) × KeysNoted (records i (now store)) (now keys) ⌝ }
+    ensures { λ t. ⌜ ((after : Net) → There (records i (now (store .entry)) ++ (now (r .entry) ∷ after)) (now (there .entry)) → Turned (records i (now (store .entry))) (now (r .entry)) after t) × Onward t (KeysNoted (records i (now (store .entry)) ++ (now (r .entry) ∷ [])) (now (keys .exit))) ⌝ }
 {
-    let row = form_row(r, s);
-    if row != 0 {
-        return Turn::Stop(row);
+    if misplaced(r, s) {
+        return Turn::Stop(3);
     }
     let w = s.widths;
+    if !fields::rule_good(w, r) {
+        return Turn::Stop(5);
+    }
     let rules = s.rules;
     if incomplete(s.misses, w.w) {
         return Turn::Stop(7);
     }
-    if rules::is_present(store, i, r) {
+    if rules::is_repeated(store, i, r, keys) {
         return Turn::Stop(8);
     }
     if records::MOST_RULES <= rules {
@@ -173,11 +175,13 @@ fn node_turn(store: &[u8], n: usize, i: usize, r: &[u8], s: Seen) -> Turn
     requires { ⌜ (n * 24 ≤ length (now store)) × (i < n) ⌝ }
     ensures { λ t. ⌜ Turned (records i (now (store .entry))) (now (r .entry)) (recordsAfter n (now (store .entry)) i) t ⌝ }
 {
-    let row = form_row(r, s);
-    if row != 0 {
-        return Turn::Stop(row);
+    if misplaced(r, s) {
+        return Turn::Stop(3);
     }
     let w = s.widths;
+    if !fields::policy_node_good(w, r) {
+        return Turn::Stop(5);
+    }
     let known = s.policies;
     if incomplete(s.misses, w.w) {
         return Turn::Stop(7);
@@ -201,7 +205,7 @@ fn group_faulty(r: &[u8], s: Seen, there: &[u8; 32]) -> bool
 {
     let w = s.widths;
     let known = s.groups;
-    if !fields::fields_good(w, r) {
+    if !group_good(w, r) {
         return true;
     }
     if known.out_of_order(r) {
@@ -235,11 +239,20 @@ fn group_turn(r: &[u8], s: Seen, there: &[u8; 32]) -> Turn
     Turn::Next(next)
 }
 
-// Record i of n, where these groups are there: the kind byte decides how the other 23 are read.
-pub fn turn_at(store: &[u8], n: usize, i: usize, s: Seen, there: &[u8; 32]) -> Turn
+// Record i of n, where these groups are there, and the keys and points of the records before are noted: the kind byte decides how
+// the other 23 are read.
+pub fn turn_at(
+    store: &[u8],
+    n: usize,
+    i: usize,
+    s: Seen,
+    there: &[u8; 32],
+    keys: &mut [u8; 512],
+    points: &mut [u8; 32],
+) -> Turn
     requires { ⌜ (n * 24 ≤ length (now store)) × (i < n) × SeenOf (records i (now store)) s ⌝ }
-    requires { ⌜ There (records n (now store)) (now there) ⌝ }
-    ensures { λ t. ⌜ Turned (records i (now (store .entry))) (recordAt (now (store .entry)) i) (recordsAfter n (now (store .entry)) i) t ⌝ }
+    requires { ⌜ There (records n (now store)) (now there) × NotedOf (records i (now store)) (now keys) (now points) ⌝ }
+    ensures { λ t. ⌜ Turned (records i (now (store .entry))) (recordAt (now (store .entry)) i) (recordsAfter n (now (store .entry)) i) t × Onward t (NotedOf (records (i + 1) (now (store .entry))) (now (keys .exit)) (now (points .exit))) ⌝ }
 {
     let a = i * 24;
     let e = a + 24;
@@ -248,9 +261,9 @@ pub fn turn_at(store: &[u8], n: usize, i: usize, s: Seen, there: &[u8; 32]) -> T
     match kind {
         0 => Turn::Stop(3),
         1 => widths_turn(r, s),
-        2 => link_turn(store, i, r, s),
+        2 => link_turn(r, s, points),
         3 => miss_turn(r, s, there),
-        4 => rule_turn(store, i, r, s, there),
+        4 => rule_turn(store, i, r, s, there, keys),
         5 => node_turn(store, n, i, r, s),
         9 => group_turn(r, s, there),
         6..=8 | 10..=255 => Turn::Stop(3),

@@ -1,5 +1,5 @@
 -- Fields of a record: read from a rule's body, bytes 1 to 20; by the record's kind; action by action; and zero bytes one at a time.
-use mathlib.Core.Path.{_≡_, refl, sym, ap, _∙_}
+use mathlib.Core.Path.{_≡_, refl, sym, ap, ap₂, _∙_}
 use mathlib.Core.Bool.{Bool, true, false, _&&_, and-false, false≢true}
 use mathlib.Core.List.{List, _∷_}
 use mathlib.Core.Logic.{_⊎_, inl, inr}
@@ -7,13 +7,16 @@ use Prim.Native.Nat.{ℕ, zero, suc, _+_, _-_, _*_, _^_, _≤_, _<_}
 use native.Mathlib.Numerals.{one-add}
 use native.Mathlib.Omega.{arith}
 use native.Mathlib.Decide.{decLt}
-use borrow.Author.Tests.{eqb-true, ltb-true, leb-true, lt-ltb, le-ltb, le-leb, lt-leb}
+use borrow.Author.Tests.{eq-eqb, eqb-true, ltb-true, leb-true, lt-ltb, le-ltb, le-leb, lt-leb}
+use lib.Bits.{bitOr}
 use lib.Dec.{eqb, leb, ltb, lit<, lit≤}
 use lib.ListN.{length, getD, take, drop, length-drop}
 use lib.Seq.{length-take-le, getD-take, getD-drop, slice-cons, slice-empty}
-use Rattle.planes.specs.Laws.Tests.{true-of, not-both, and-left, and-right}
+use Rattle.planes.specs.Bit.{bitOf}
+use Rattle.planes.specs.Laws.Bits.{bit-or, bit-zero, bits-ext}
+use Rattle.planes.specs.Laws.Tests.{same-test, true-of, not-both, and-both, and-left, and-right, both, or-none}
 use Rattle.records.specs.Lists.{all}
-use Rattle.records.specs.Record.{Rec, mostPolicies, at, kind, kNoRecord, recordKind, commandKind, kNoAction, actionKind}
+use Rattle.records.specs.Record.{Rec, mostPolicies, at, kind, recordKind, commandKind, kNoAction, actionKind}
 use Rattle.records.specs.Group.{bucketValue, bucketCare, bucketKind, bucketTarget, kNoTarget, targetKind}
 use Rattle.records.specs.Version.{versionGood}
 use Rattle.records.specs.Pattern.{patternGood}
@@ -155,21 +158,6 @@ module _ (w : Widths) (r : Rec) (count j : ℕ) where
   unfolding bucketGood
   bucket-unused h = rw (le-ltb j count h, bucketGood)
 
--- no record of a network has a kind from 6 on but 9
-no-kind : (k : ℕ) → 6 ≤ k → (k ≡ 9 → ⊥) → recordKind k ≡ kNoRecord
-unfolding recordKind
-no-kind zero h n = absurd (omega arith)
-no-kind (suc zero) h n = absurd (omega arith)
-no-kind (suc (suc zero)) h n = absurd (omega arith)
-no-kind (suc (suc (suc zero))) h n = absurd (omega arith)
-no-kind (suc (suc (suc (suc zero)))) h n = absurd (omega arith)
-no-kind (suc (suc (suc (suc (suc zero))))) h n = absurd (omega arith)
-no-kind (suc (suc (suc (suc (suc (suc zero)))))) h n = refl
-no-kind (suc (suc (suc (suc (suc (suc (suc zero))))))) h n = refl
-no-kind (suc (suc (suc (suc (suc (suc (suc (suc zero)))))))) h n = refl
-no-kind (suc (suc (suc (suc (suc (suc (suc (suc (suc zero))))))))) h n = absurd (n refl)
-no-kind (suc (suc (suc (suc (suc (suc (suc (suc (suc (suc k)))))))))) h n = refl
-
 -- the fields of a record by its kind
 module _ (w : Widths) (r : Rec) where
   pub widths-fields : kind r ≡ 1 → fieldsGood w r ≡ (versionGood (at r 4) && zeros 5 23 r)
@@ -216,10 +204,6 @@ module _ (w : Widths) (r : Rec) where
         and-right (names && zeros 3 7 r) (bucketsGood w r) all-parts,
       )
 
-  pub no-record : 6 ≤ kind r → (kind r ≡ 9 → ⊥) → fieldsGood w r ≡ false
-  unfolding fieldsGood
-  no-record h n = rw (no-kind (kind r) h n)
-
 -- the fields of a command by its kind
 module _ (w : Widths) (c : Rec) where
   pub change-fields : (kind c ≡ 6) ⊎ (kind c ≡ 7) → commandGood w c ≡ (matchGood w c && (actionsGood w c && zeros 21 23 c))
@@ -230,6 +214,19 @@ module _ (w : Widths) (c : Rec) where
   pub delete-fields : kind c ≡ 8 → commandGood w c ≡ (matchGood w c && zeros 8 23 c)
   unfolding commandGood commandKind
   delete-fields e = rw e
+
+-- an OR is zero where both are
+no-bits : (a : ℕ) → ((i : ℕ) → bitOf a i ≡ false) → 0 ≡ a
+no-bits a h = bits-ext 0 a (λ i. bit-zero i ∙ sym (h i))
+
+pub or-zero : (a b : ℕ) → eqb (bitOr a b) 0 ≡ (eqb a 0 && eqb 0 b)
+or-zero a b =
+    same-test _ _
+    (λ e. and-both _ _ (eq-eqb a 0 (sym (no-bits a (λ i. none e i .0)))) (eq-eqb 0 b (no-bits b (λ i. none e i .1))))
+    (λ e. let q = both (eqb a 0) (eqb 0 b) e in eq-eqb (bitOr a b) 0 (ap₂ bitOr (eqb-true a 0 (q .0)) (sym (eqb-true 0 b (q .1)))))
+  where
+    none : eqb (bitOr a b) 0 ≡ true → (i : ℕ) → (bitOf a i ≡ false) × (bitOf b i ≡ false)
+    none e i = or-none (bitOf a i) (bitOf b i) (sym (bit-or a b i) ∙ ap (λ (m : ℕ). bitOf m i) (eqb-true (bitOr a b) 0 e) ∙ bit-zero i)
 
 -- no byte, and one more byte
 pub zeros-none : (m : ℕ) (r : Rec) → zeros (suc m) m r ≡ true

@@ -46,25 +46,24 @@ module _ (r : Rec) (table : List ℕ) where
   unfolding isGroup
   noted-number h = noted-none (λ sw g hs hg. rw (ne-eqb (at r 2) g (λ e. omega (arith, e)), and-false, and-false))
 
+-- no two numbers below 16 at switches have one bit
+pub one-bit : (sw g a b : ℕ) → g < 16 → b < 16 → eqb (groupBit sw g) (groupBit a b) ≡ (eqb a sw && eqb b g)
+one-bit sw g a b lg lb =
+    same-test _ _
+    (λ e. let q = eqb-true (groupBit sw g) (groupBit a b) e in and-both _ _ (eq-eqb a sw (omega (arith, q))) (eq-eqb b g (omega (arith, q))))
+    (λ e. let q = both (eqb a sw) (eqb b g) e in eq-eqb _ _ (sym (ap₂ groupBit (eqb-true a sw (q .0)) (eqb-true b g (q .1)))))
+
 -- one that is a group sets its bit
 pub noted-group : (r : Rec) (n : ℕ) (a b : List ℕ) → n ≡ groupBit (at r 1) (at r 2) → kind r ≡ 9 → at r 1 < 16 → at r 2 < 16 → BitSet n a b → Noted r a b
 unfolding isGroup
 noted-group r n a b e k hs hg S = record {
   is = λ sw g ls lg.
       set-bit n (groupBit sw g) a b S
-      ∙ ap (λ (x : Bool). x || bit a (groupBit sw g)) (ap (eqb (groupBit sw g)) e ∙ one-bit sw g lg ∙ sym (named sw g));
+      ∙ ap (λ (x : Bool). x || bit a (groupBit sw g)) (ap (eqb (groupBit sw g)) e ∙ one-bit sw g (at r 1) (at r 2) lg hg ∙ sym (named sw g));
 }
   where
     named : (sw g : ℕ) → (eqb (kind r) 9 && (eqb (at r 1) sw && eqb (at r 2) g)) ≡ (eqb (at r 1) sw && eqb (at r 2) g)
     named sw g = rw k
-
-    one-bit : (sw g : ℕ) → g < 16 → eqb (groupBit sw g) (groupBit (at r 1) (at r 2)) ≡ (eqb (at r 1) sw && eqb (at r 2) g)
-    one-bit sw g lg =
-        same-test _ _
-        (λ e. let q = eqb-true (groupBit sw g) (groupBit (at r 1) (at r 2)) e in
-        and-both _ _ (eq-eqb (at r 1) sw (omega (arith, q))) (eq-eqb (at r 2) g (omega (arith, q))))
-        (λ e. let q = both (eqb (at r 1) sw) (eqb (at r 2) g) e in
-        eq-eqb _ _ (sym (ap₂ groupBit (eqb-true (at r 1) sw (q .0)) (eqb-true (at r 2) g (q .1)))))
 
 -- the table of the first records of a store: of none, and of one more
 pub there-none : (s : List ℕ) → There (records 0 s) (replicate 32 0)

@@ -17,7 +17,7 @@ use Rattle.records.specs.Fields.{fieldsGood}
 use Rattle.rows.specs.Refusal.{Refusal, orElse, row, recordRow}
 use Rattle.records.specs.Laws.Groups.{widths-there, link-there, miss-there, rule-there, node-there, group-there}
 use Rattle.rows.specs.Laws.Passing.{kind-known}
-use Rattle.scan.specs.Scan.{SeenOf, rowAt, formRow, Later}
+use Rattle.scan.specs.Scan.{SeenOf, Placed, formRow, Later}
 use Rattle.rows.specs.Policies.{nodeRow}
 use Rattle.scan.specs.declared.turns.Seen.{Seen}
 
@@ -29,14 +29,6 @@ or-else-none (some f) = refl
 pub or-else-assoc : (x y z : Refusal) → orElse x (orElse y z) ≡ orElse (orElse x y) z
 or-else-assoc none y z = refl
 or-else-assoc (some f) y z = refl
-
--- a row that is met comes before the others, and no row lets them come
-pub row-first : (k p : ℕ) (f x : Refusal) → rowAt k p ≡ f → (k ≡ 0 → ⊥) → orElse f x ≡ some (k, p)
-row-first zero p f x e h = absurd (h refl)
-row-first (suc k) p f x e h = rw (← e)
-
-pub row-none : (k p : ℕ) (f x : Refusal) → rowAt k p ≡ f → k ≡ 0 → orElse f x ≡ x
-row-none k p f x e h = rw (← e, h)
 
 module _ (before : Net) (r : Rec) (after : Net) where
   -- rows 3 and 5 first, then those of the kind
@@ -114,6 +106,13 @@ module _ (before : Net) (r : Rec) (after : Net) where
   unfolding recordRow row3
   kind-above h n = rw (le-ltb (kind r) 1 (omega arith), lt-ltb 5 (kind r) h, ne-eqb (kind r) 9 n)
 
+-- the kinds 2 to 5 come after the widths, and are no group
+pub later : (r : Rec) → 2 ≤ kind r → kind r ≤ 5 → Later r
+later r low high = (low, λ g. absurd (omega arith))
+
+no-group : (r : Rec) → kind r ≤ 5 → kind r ≡ 9 → ⊥
+no-group r high e = omega arith
+
 positive : (n : ℕ) → ltb 0 n ≡ not (eqb n 0)
 positive zero = refl
 positive (suc n) = lt-ltb 0 (suc n) (omega arith) ∙ ap not (sym (eqb·suc-zero n))
@@ -155,6 +154,17 @@ module _ (before : Net) (s : Seen) (known : SeenOf before s) (r : Rec) where
   pub fields-row : (kind r ≡ 9 → ⊥) → row5 before r ≡ not (fieldsGood (s .widths) r)
   unfolding row5
   fields-row n = rw (known .widths, ne-eqb (kind r) 9 n)
+
+  -- row 3 is met; row 5 is, and not row 3; neither is
+  module _ (met : Bool) (placed : Placed r s met) (x : Refusal) where
+    pub order-first : met ≡ true → orElse (formRow before r) x ≡ some (3, length before)
+    order-first e = rw (sym (placed .is before known) ∙ e)
+
+    pub fields-first : met ≡ false → kind r ≤ 5 → fieldsGood (s .widths) r ≡ false → orElse (formRow before r) x ≡ some (5, length before)
+    fields-first e h f = rw (sym (placed .is before known) ∙ e, fields-row (no-group r h), f)
+
+    pub formed : met ≡ false → kind r ≤ 5 → fieldsGood (s .widths) r ≡ true → orElse (formRow before r) x ≡ x
+    formed e h f = rw (sym (placed .is before known) ∙ e, fields-row (no-group r h), f)
 
   -- row 16 of a group by what is known
   pub group-row : (after : Net) → kind r ≡ 9

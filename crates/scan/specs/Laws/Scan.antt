@@ -1,12 +1,12 @@
 -- Laws of what the scan knows, as one record more comes.
-use mathlib.Core.Path.{_≡_, refl, sym, ap, _∙_}
+use mathlib.Core.Path.{_≡_, refl, sym, ap, subst, _∙_}
 use mathlib.Core.Bool.{true, cond}
 use mathlib.Core.List.{List, [], _∷_, _++_}
 use mathlib.Core.Logic.{⊎-elim}
 use Prim.Native.Nat.{ℕ, _+_, _-_, _^_, _<_, _≤_}
 use native.Mathlib.Omega.{arith}
 use lib.Dec.{eqb, ltb}
-use lib.ListN.{length, length-append}
+use lib.ListN.{length, replicate, length-append}
 use borrow.Author.Tests.{eq-eqb, ne-eqb, eqb-true, eqb-false}
 use Rattle.records.specs.Lists.{keep}
 use Rattle.records.specs.Record.{Rec, Net, kind, records, ofKind}
@@ -15,9 +15,12 @@ use Rattle.records.specs.Policy.{nodesOf, policyCount, longestOf, longest, free
 use Rattle.rows.specs.Rows.{missesIncomplete, lastGroup}
 use Rattle.rows.specs.Policies.{PoliciesOf}
 use Rattle.rows.specs.Groups.{GroupsOf}
-use Rattle.scan.specs.Scan.{SeenOf}
+use Rattle.rows.specs.Laws.Noted.{keys-none, keys-other, points-none, points-other}
+use Rattle.scan.specs.Scan.{SeenOf, NotedOf, Onward}
 use Rattle.records.specs.declared.Widths.{Widths}
 use Rattle.scan.specs.declared.turns.Seen.{Seen}
+use Rattle.scan.specs.declared.turns.Turn.{Turn}
+use Rattle.scan.specs.declared.turns.Turn.the-variants.{Next, Stop}
 use Rattle.records.specs.Laws.Kinds.{kind-count, widths-append, last-kind}
 use Rattle.records.specs.Laws.Lists.{keep-fewer}
 use Rattle.records.specs.Laws.Records.{length-records}
@@ -154,3 +157,22 @@ seen-none = record {
   policies = record { count = refl; nodes = refl; marks = marks-none; longest = refl };
   groups = record { count = refl; switch = refl; number = refl };
 }
+
+-- what holds onward: where more does, once the turn has gone on, and where it holds however the turn goes
+pub onward-from : {P Q : Type 0} (t : Turn) → (P → Q) → Onward t P → Onward t Q
+onward-from (Stop k) f h = tt
+onward-from (Next s) f h = f h
+
+pub onward-next : {P : Type 0} (t : Turn) (s : Seen) → t ≡ Next s → Onward t P → P
+onward-next {P} t s e h = subst (λ (u : Turn). Onward u P) e h
+
+pub onward-all : {P : Type 0} (t : Turn) → P → Onward t P
+onward-all (Stop k) h = tt
+onward-all (Next s) h = h
+
+-- nothing is noted of no record; one that is neither a link nor a rule leaves what is noted
+pub noted-none : (s : List ℕ) → NotedOf (records 0 s) (replicate 512 0) (replicate 32 0)
+noted-none s = record { keys = keys-none s; points = points-none s }
+
+pub noted-other : (before : Net) (keys points : List ℕ) (r : Rec) → NotedOf before keys points → (kind r ≡ 2 → ⊥) → (kind r ≡ 4 → ⊥) → NotedOf (before ++ (r ∷ [])) keys points
+noted-other before keys points r N l k = record { keys = keys-other before keys r (N .keys) k; points = points-other before points r (N .points) l }

@@ -1,41 +1,42 @@
 use borrow.Author.Needs.{needs}
 use mathlib.Core.Path.{_≡_, sym, ap, _∙_}
+use mathlib.Core.Bool.{_&&_, and-assoc, and-true}
 use denote.Ref.{now}
 use Prim.Native.Nat.{ℕ, suc, _≤_, _-_}
 use native.Mathlib.Numerals.{add-one}
 use native.Mathlib.Omega.{arith}
-use borrow.Author.Tests.{eq-eqb, ne-eqb}
+use lib.Bits.{bitOr}
+use lib.Dec.{eqb}
+use lib.ListN.{getD}
 use Rattle.records.specs.Fields.{zeros}
-use Rattle.records.specs.Laws.Fields.{zeros-none, zeros-more}
+use Rattle.records.specs.Laws.Fields.{or-zero, zeros-none, zeros-more}
 use Rattle.records.proofs.fields.zeros.Statement.{statement}
 use Rattle.records.proofs.fields.zeros.Tie as tie
 
--- What is left to test decides the answer.
+-- What was ORed and what is left to OR decide the answer.
 abbrev Inv-loop : tie.InvT-loop
-Inv-loop r first last i₀ i = (i ≤ suc last) × (zeros first last r ≡ zeros i last r)
+Inv-loop r first last all₀ i₀ all i = (i ≤ suc last) × (zeros first last r ≡ (eqb all 0 && zeros i last r))
 
 abbrev μ-loop : tie.MeasureT-loop
-μ-loop r first last i₀ i = suc last - i
-
-returns : tie.Need-returns Inv-loop μ-loop
-returns c =
-    let a = c .before .before .before .before .args in
-    let l = c .before .before .before .loop in
-    let h : l .i ≤ a .last = c .before .before .loop-test .taken in
-    rw (l .inv .1, zeros-more (l .i) (a .last) (now (a .r)) h (omega arith), ne-eqb 0 _ (λ e. c .if1 .taken (sym e)))
+μ-loop r first last all₀ i₀ all i = suc last - i
 
 loop-again : tie.Need-loop-again Inv-loop μ-loop
 loop-again c =
-    let a = c .before .before .before .before .args in
-    let l = c .before .before .before .loop in
-    let h : l .i ≤ a .last = c .before .before .loop-test .taken in
-    (omega arith, rw (l .inv .1, zeros-more (l .i) (a .last) (now (a .r)) h (omega arith), eq-eqb 0 _ (sym (c .if1 .left)), add-one (l .i)))
+    let a = c .before .before .before .args in
+    let l = c .before .before .loop in
+    let h : l .i ≤ a .last = c .before .loop-test .taken in
+    let byte = getD (now (a .r)) (l .i) 0 in
+    let rest = zeros (suc (l .i)) (a .last) (now (a .r)) in
+    let next : zeros (a .first) (a .last) (now (a .r)) ≡ (eqb (bitOr (l .all) byte) 0 && rest) =
+    rw (l .inv .1, zeros-more (l .i) (a .last) (now (a .r)) h (omega arith), or-zero (l .all) byte) (sym (and-assoc (eqb (l .all) 0) (eqb 0 byte) rest)) in
+    (omega arith, rw (add-one (l .i)) next)
 
-returns-2 : tie.Need-returns-2 Inv-loop μ-loop
-returns-2 c =
+returns : tie.Need-returns Inv-loop μ-loop
+returns c =
     let a = c .before .before .args in
-    let e : c .before .loop .i ≡ suc (a .last) = omega arith in
-    sym (c .before .loop .inv .1 ∙ ap (λ (n : ℕ). zeros n (a .last) (now (a .r))) e ∙ zeros-none (a .last) (now (a .r)))
+    let l = c .before .loop in
+    let e : l .i ≡ suc (a .last) = omega arith in
+    sym (l .inv .1 ∙ ap (λ (n : ℕ). eqb (l .all) 0 && zeros n (a .last) (now (a .r))) e ∙ rw (zeros-none (a .last) (now (a .r))) (and-true _))
 
 pub zeros-spec : {M : Type 1} → statement M
 zeros-spec =
@@ -45,8 +46,7 @@ zeros-spec =
     μ-loop
     (λ c. search needs)
     (λ c. search needs)
-    returns
     (λ c. search needs)
     (λ c. search needs)
     loop-again
-    returns-2)
+    returns)

@@ -20,43 +20,43 @@ unfolding row6
 link-row w before r k e = rw (k, e)
 
 returns : tie.Need-returns
-returns c =
-    let p = c .before .before .before .before .before .pre in
+returns c before w P =
+    let p = c .before .before .before .before .pre in
     let first = sym (c .before .is-ordinary .ensures) ∙ not-true _ (c .if1 .taken) in
-    sym (link-row _ _ _ (p .0 .2) (p .1 .0) ∙ simp first)
+    sym (link-row _ before _ (p .1) w ∙ simp first)
 
 returns-2 : tie.Need-returns-2
-returns-2 c =
-    let p = c .before .before .before .before .before .before .before .before .pre in
+returns-2 c before w P =
+    let p = c .before .before .before .before .before .before .before .pre in
     let first = sym (c .before .before .before .before .is-ordinary .ensures) ∙ not-false _ (c .before .before .before .if1 .left) in
     let second = sym (c .before .is-ordinary2 .ensures) ∙ not-true _ (c .if2 .taken) in
-    sym (link-row _ _ _ (p .0 .2) (p .1 .0) ∙ simp (first, second))
+    sym (link-row _ before _ (p .1) w ∙ simp (first, second))
 
 returns-3 : tie.Need-returns-3
-returns-3 c =
-    let p = c .before .before .before .before .before .before .before .before .before .before .before .before .pre in
+returns-3 c before w P =
+    let p = c .before .before .before .before .before .before .before .before .before .before .before .pre in
     let first = sym (c .before .before .before .before .before .before .before .before .is-ordinary .ensures) ∙ not-false _ (c .before .before .before .before .before .before .before .if1 .left) in
     let second = sym (c .before .before .before .before .before .is-ordinary2 .ensures) ∙ not-false _ (c .before .before .before .before .if2 .left) in
-    let third = sym (c .before .is-linked .ensures) ∙ c .if3 .taken in
-    sym (link-row _ _ _ (p .0 .2) (p .1 .0) ∙ simp (first, second, third))
+    let third = sym (P .is _ _ (p .2 .one .0) (p .2 .one .1)) ∙ sym (c .before .is-noted .ensures) ∙ c .if3 .taken in
+    sym (link-row _ before _ (p .1) w ∙ simp (first, second, third))
 
 returns-4 : tie.Need-returns-4
-returns-4 c =
-    let p = c .before .before .before .before .before .before .before .before .before .before .before .before .before .before .before .before .pre in
+returns-4 c before w P =
+    let p = c .before .before .before .before .before .before .before .before .before .before .before .before .before .before .before .pre in
     let first = sym (c .before .before .before .before .before .before .before .before .before .before .before .before .is-ordinary .ensures) ∙ not-false _ (c .before .before .before .before .before .before .before .before .before .before .before .if1 .left) in
     let second = sym (c .before .before .before .before .before .before .before .before .before .is-ordinary2 .ensures) ∙ not-false _ (c .before .before .before .before .before .before .before .before .if2 .left) in
-    let third = sym (c .before .before .before .before .before .is-linked .ensures) ∙ c .before .before .before .before .if3 .left in
-    let fourth = sym (c .before .is-linked2 .ensures) ∙ c .if4 .taken in
-    sym (link-row _ _ _ (p .0 .2) (p .1 .0) ∙ simp (first, second, third, fourth))
+    let third = sym (P .is _ _ (p .2 .one .0) (p .2 .one .1)) ∙ sym (c .before .before .before .before .before .is-noted .ensures) ∙ c .before .before .before .before .if3 .left in
+    let fourth = sym (P .is _ _ (p .2 .other .0) (p .2 .other .1)) ∙ sym (c .before .is-noted2 .ensures) ∙ c .if4 .taken in
+    sym (link-row _ before _ (p .1) w ∙ simp (first, second, third, fourth))
 
 returns-5 : tie.Need-returns-5
-returns-5 c =
-    let p = c .before .before .before .before .before .before .before .before .before .before .before .before .before .before .before .before .before .before .before .before .before .pre in
+returns-5 c before w P =
+    let p = c .before .before .before .before .before .before .before .before .before .before .before .before .before .before .before .before .before .before .before .before .pre in
     let first = sym (c .before .before .before .before .before .before .before .before .before .before .before .before .before .before .before .before .before .is-ordinary .ensures) ∙ not-false _ (c .before .before .before .before .before .before .before .before .before .before .before .before .before .before .before .before .if1 .left) in
     let second = sym (c .before .before .before .before .before .before .before .before .before .before .before .before .before .before .is-ordinary2 .ensures) ∙ not-false _ (c .before .before .before .before .before .before .before .before .before .before .before .before .before .if2 .left) in
-    let third = sym (c .before .before .before .before .before .before .before .before .before .before .is-linked .ensures) ∙ c .before .before .before .before .before .before .before .before .before .if3 .left in
-    let fourth = sym (c .before .before .before .before .before .before .is-linked2 .ensures) ∙ c .before .before .before .before .before .if4 .left in
-    sym (link-row _ _ _ (p .0 .2) (p .1 .0) ∙ simp (first, second, third, fourth) (sym (c .same-point .ensures)))
+    let third = sym (P .is _ _ (p .2 .one .0) (p .2 .one .1)) ∙ sym (c .before .before .before .before .before .before .before .before .before .before .is-noted .ensures) ∙ c .before .before .before .before .before .before .before .before .before .if3 .left in
+    let fourth = sym (P .is _ _ (p .2 .other .0) (p .2 .other .1)) ∙ sym (c .before .before .before .before .before .before .is-noted2 .ensures) ∙ c .before .before .before .before .before .if4 .left in
+    sym (link-row _ before _ (p .1) w ∙ simp (first, second, third, fourth) (sym (c .same-point .ensures)))
 
 pub is-misplaced-spec : {M : Type 1} → statement M
 is-misplaced-spec =

@@ -48,8 +48,11 @@ out-of-order-spec =
     (tie.spec
     returns
     (λ c. search needs)
+    (λ c. omega (arith, c .shared-slice-known .given 1))
     returns-2
     (λ c. search needs)
+    (λ c. omega (arith, c .shared-slice-known2 .given 1))
     returns-3
     (λ c. search needs)
+    (λ c. omega (arith, c .shared-slice-known3 .given 2))
     returns-4)

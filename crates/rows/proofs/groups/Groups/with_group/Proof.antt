@@ -2,6 +2,7 @@ use borrow.Author.Needs.{needs}
 use mathlib.Core.Path.{sym, ap, _∙_}
 use denote.Ref.{now}
 use Prim.Native.Nat.{ℕ, _+_}
+use native.Mathlib.Omega.{arith}
 use Rattle.records.specs.Record.{Rec, at}
 use Rattle.records.specs.Laws.Kinds.{kind-count}
 use Rattle.rows.specs.Laws.Groups.{last-group}
@@ -20,4 +21,12 @@ returns c before G =
     }
 
 pub with-group-spec : {M : Type 1} → statement M
-with-group-spec = tie.close (tie.spec (λ c. search needs) (λ c. search needs) (λ c. search needs) returns)
+with-group-spec =
+    tie.close
+    (tie.spec
+    (λ c. search needs)
+    (λ c. search needs)
+    (λ c. omega (arith, c .shared-slice-known .given 1))
+    (λ c. search needs)
+    (λ c. omega (arith, c .shared-slice-known2 .given 2))
+    returns)
