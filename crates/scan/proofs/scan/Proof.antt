@@ -2,7 +2,7 @@ use denote.Ref.{now}
 use borrow.Author.Needs.{needs}
 use mathlib.Core.Path.{_≡_, sym, ap, subst, _∙_}
 use mathlib.Core.List.{List, []}
-use Prim.Native.Nat.{ℕ, _-_, _*_, _≤_, _<_}
+use Prim.Native.Nat.{ℕ, _+_, _-_, _*_, _≤_, _<_}
 use native.Mathlib.Omega.{arith}
 use lib.ListN.{length}
 use Rattle.records.specs.Record.{Net, records}
@@ -63,7 +63,8 @@ loop-again c =
     let s = now (a .store) in
     let l = c .before .before .before .before .before .before .before .before .loop in
     let turned = subst (λ (t : Turn). Turned (records (l .i) s) (recordAt s (l .i)) (recordsAfter (a .n) s (l .i)) t) (c .before .t2 .given .1) (c .before .before .before .turn-at .ensures .0) in
-    let noted = onward-next _ _ (c .before .t2 .given .1) (c .before .before .before .turn-at .ensures .1) in
+    let tables = c .before .before .before .turn-at .last .1 .1 .1 .1 .1 in
+    let noted = onward-next {P = NotedOf (records (l .i + 1) s) (tables .0) (tables .1 .0)} _ _ (c .before .t2 .given .1) (c .before .before .before .turn-at .ensures .1) in
     (omega arith, rw (records-more s (l .i)) (turned .1), l .inv .2 ∙ file-next s (a .n) (l .i) (c .before .before .before .before .before .before .before .loop-test .taken) (turned .0), noted)
 
 end-requires : tie.Need-end-requires Inv-loop μ-loop
