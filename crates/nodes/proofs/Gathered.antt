@@ -1,99 +1,150 @@
--- A line that is gathered of the lines of a plane which shares no byte with its own.
-use mathlib.Core.Path.{_≡_, refl, sym, ap, ap₂, _∙_}
+-- The operation on two forms, line by line, and lines that are gathered of these.
+use mathlib.Core.Path.{_≡_, refl, sym, ap, ap₂, subst, _∙_}
 use mathlib.Core.Bool.{Bool}
 use mathlib.Core.List.{List}
-use mathlib.Core.Logic.{inl, inr, ⊎-elim}
-use Prim.Native.Nat.{ℕ, _+_, _*_, _/_, _%_, _<_, _≤_}
-use native.Mathlib.Nat.{not-suc-le-zero}
-use native.Mathlib.Decide.{decLt}
+use Prim.Native.Nat.{ℕ, _+_, _*_, _/_, _%_, _≤_, _<_}
+use native.Mathlib.Nat.{zero-add}
 use native.Mathlib.Omega.{arith}
-use lib.ListN.{length, getD, set, length-set}
-use lib.Seq.{getD-set-same, getD-set-other}
+use lib.ListN.{length, getD, set, replicate, getD-replicate}
 use Rattle.planes.specs.Bit.{bitOf}
-use Rattle.planes.specs.Plane.{cell, planeSize}
+use Rattle.planes.specs.Plane.{bit}
 use Rattle.planes.specs.Lines.{Laid}
-use Rattle.planes.specs.Laws.Lines.{line-bit, plane-kept}
-use Rattle.planes.specs.Laws.Places.{bit-at}
+use Rattle.planes.proofs.LaidBytes.{laid-more}
+use Rattle.records.specs.Policy.{Var}
+use Rattle.truth.specs.Truth.{withX, withY}
+use Rattle.truth.specs.Laws.Tables.{withX-lt, withY-lt}
+use Rattle.nodes.specs.declared.forms.Way.the-variants.{OverX, OverY}
 use Rattle.nodes.specs.declared.lines.Op.{Op}
-use Rattle.nodes.specs.Shapes.{opBool, opByte, over, unitByte, unit, Quantifies, Outside, Lined, Source}
-use Rattle.nodes.specs.Laws.LineBits.{full-bit}
-use Rattle.nodes.specs.Laws.PlaneShapes.{line-small, source-in}
-use Rattle.nodes.specs.Laws.Forms.{laid-lined}
-use Rattle.nodes.proofs.LinesLaid.{spans-lined}
-use Rattle.nodes.proofs.Quantified.{over-none, over-more, over-same}
+use Rattle.nodes.specs.declared.lines.Row.{Row}
+use Rattle.nodes.specs.declared.lines.Row.the-variants.{Full, From}
+use Rattle.nodes.specs.declared.lines.Join.{Join}
+use Rattle.nodes.specs.declared.lines.Join.the-variants.{Same, Two}
+use Rattle.nodes.specs.declared.forms.Form.{Form}
+use Rattle.nodes.specs.declared.forms.Form.the-variants.{OfX, OfY, Both, Turned}
+use Rattle.nodes.specs.Shapes.{opBool, opByte, over, unit, unitByte, fullByte, Quantifies, Line, Plane, Source, rowByte, Even, RowWithin, joinByte, Joins, LineIs}
+use Rattle.nodes.specs.Forms.{tests, place, turned, Upright, rowOf, Pairs, Paired, joined, ranged}
+use Rattle.nodes.specs.Laws.LineBits.{full-bit, op-bit}
+use Rattle.nodes.specs.Laws.Forms.{turned-tests, turned-place, line-room, first-room, source-plane}
+use Rattle.nodes.proofs.LinesLaid.{row-tests}
+use Rattle.nodes.proofs.Quantified.{over-same, over-none, over-more, twice, comm, right-unit, decides}
 
--- while the line is laid, the plane at p is as before
-module _ (g : ℕ → Bool) (n pitch base : ℕ) (a l : List ℕ) (L : Lined g n pitch base a l) (p : ℕ) (S : Source a pitch base p) where
-  pub plane-still : (x y : ℕ) → x < pitch * 8 → y < pitch * 8 → cell l p pitch x y ≡ cell a p pitch x y
-  plane-still = plane-kept p pitch a l (λ m lo hi. L .rest m (⊎-elim (λ q. inl (omega arith)) (λ q. inr (omega arith)) (S .apart)))
+-- joins of rows, by their kinds
+module _ (t : Op) where
+  pub joins-full : (c d v : ℕ) → v ≡ opByte t c d → Joins t (Full c) (Full d) (Same v)
+  joins-full c d v e = record { within = λ n len p q. tt; is = λ bytes j i l. ap (λ (w : ℕ). bitOf w i) e ∙ op-bit t c d i l }
 
-  pub source-still : Source l pitch base p
-  source-still = source-in a l pitch base p (L .len) S
+  pub joins-two : (a b : ℕ) → Joins t (From a) (From b) (Two a b)
+  joins-two a b = record { within = λ n len p q. (p, q); is = λ bytes j i l. op-bit t (getD bytes (a + j) 0) (getD bytes (b + j) 0) i l }
 
--- over x: the line, filled with what no test gives, has the tests of x lines
-module _ (o : Op) (h : Quantifies o) (pitch base p : ℕ) (l : List ℕ) where
-  pub gathered-none : (c : ℕ) (a : List ℕ) → c ≡ unitByte o → Laid (λ j. c) base pitch a l → Lined (λ y. over o 0 (λ x. cell l p pitch x y)) (pitch * 8) pitch base l l
-  gathered-none c a e L = record {
-    len = refl;
-    here = λ z hz.
-        line-bit (λ j. c) base pitch l (L .inside) z hz
-        ∙ ap (λ (v : ℕ). bitOf v (z % 8)) e
-        ∙ full-bit (unit o) (z % 8) (omega arith)
-        ∙ sym (over-none o h (λ x. cell l p pitch x z));
-    rest = λ m out. refl;
-  }
-
-  pub gathered-more : (x : ℕ) (n m : List ℕ) → Source l pitch base p → x < pitch * 8 → Lined (λ y. over o x (λ i. cell l p pitch i y)) (pitch * 8) pitch base l n
-      → Laid (λ j. opByte o (getD n (base + j) 0) (getD n (p + x * pitch + j) 0)) base pitch n m → Lined (λ y. over o (x + 1) (λ i. cell l p pitch i y)) (pitch * 8) pitch base l m
-  gathered-more x n m S hx L J =
-      let N = spans-lined o base (p + x * pitch) base pitch n m J in
-      record {
-        len = N .len ∙ L .len;
-        here = λ y hy.
-            N .here y hy
-            ∙ ap₂ (opBool o) (L .here y hy) (plane-still (λ z. over o x (λ i. cell l p pitch i z)) (pitch * 8) pitch base l n L p S x y hx hy)
-            ∙ sym (over-more o h x (λ i. cell l p pitch i y));
-        rest = λ k out. N .rest k out ∙ L .rest k out;
-      }
-
--- and the plane that was gathered is as it was before the line was filled
-pub gathered-all : (o : Op) (pitch base p x c : ℕ) (a l m : List ℕ) → Laid (λ j. c) base pitch a l → Source a pitch base p → x ≡ pitch * 8
-    → Lined (λ y. over o x (λ i. cell l p pitch i y)) (pitch * 8) pitch base l m → Lined (λ y. over o (pitch * 8) (λ i. cell a p pitch i y)) (pitch * 8) pitch base a m
-gathered-all o pitch base p x c a l m F S e L =
-    let N = laid-lined (λ j. c) (λ z. bitOf c (z % 8)) pitch base a l F (λ z h. refl) in
-    record {
-      len = L .len ∙ N .len;
-      here = λ y hy.
-          L .here y hy
-          ∙ ap (λ (n : ℕ). over o n (λ i. cell l p pitch i y)) e
-          ∙ over-same o (pitch * 8) (λ i. cell l p pitch i y) (λ i. cell a p pitch i y) (λ i hi. plane-still (λ z. bitOf c (z % 8)) (pitch * 8) pitch base a l N p S i y hi hy);
-      rest = λ k out. L .rest k out ∙ N .rest k out;
+  module _ (h : Quantifies t) where
+    pub joins-unit : (c a u : ℕ) → u ≡ unitByte t → c ≡ u → Joins t (Full c) (From a) (Two a a)
+    joins-unit c a u e q = record {
+      within = λ n len p r. (r, r);
+      is = λ bytes j i l.
+          let v = getD bytes (a + j) 0 in
+          op-bit t v v i l
+          ∙ twice t h (bitOf v i)
+          ∙ sym (right-unit t h (bitOf v i))
+          ∙ comm t h (bitOf v i) (unit t)
+          ∙ ap (λ (s : Bool). opBool t s (bitOf v i)) (sym (full-bit (unit t) i l) ∙ ap (λ (w : ℕ). bitOf w i) (sym (q ∙ e)));
     }
 
--- byte by byte: one more byte of eight tests
-pub byte-more : (g : ℕ → Bool) (pitch base j v : ℕ) (a l : List ℕ) → Lined g (j * 8) pitch base a l → base + planeSize pitch ≤ length a → j < pitch
-    → ((i : ℕ) → i < 8 → bitOf v i ≡ g (j * 8 + i)) → Lined g ((j + 1) * 8) pitch base a (set l (base + j) v)
-byte-more g pitch base j v a l L room hj is = record {
-  len = length-set l (base + j) v ∙ L .len;
-  here = λ z hz. bit-at (set l (base + j) v) base z ∙ go z hz (decLt z (j * 8));
-  rest = λ m out. getD-set-other l (base + j) m v 0 (λ q. beside m out q) ∙ L .rest m out;
-}
-  where
-    go : (z : ℕ) → z < (j + 1) * 8 → Dec (z < j * 8) → bitOf (getD (set l (base + j) v) (base + z / 8) 0) (z % 8) ≡ g z
-    go z hz (yes h) =
-        ap (λ (w : ℕ). bitOf w (z % 8)) (getD-set-other l (base + j) (base + z / 8) v 0 (λ q. omega arith))
-        ∙ sym (bit-at l base z)
-        ∙ L .here z h
-    go z hz (no n) =
-        let e : base + z / 8 ≡ base + j = omega (arith, n) in
-        let d : j * 8 + z % 8 ≡ z = omega (arith, n) in
-        ap (λ (k : ℕ). bitOf (getD (set l (base + j) v) k 0) (z % 8)) e
-        ∙ ap (λ (w : ℕ). bitOf w (z % 8)) (getD-set-same l (base + j) v 0 (omega (arith, L .len, line-small pitch)))
-        ∙ is (z % 8) (omega arith)
-        ∙ ap g d
+    pub joins-other : (c a u : ℕ) → Even (Full c) → u ≡ unitByte t → (c ≡ u → ⊥) → Joins t (Full c) (From a) (Same c)
+    joins-other c a u E e n = record {
+      within = λ k len p r. tt;
+      is = λ bytes j i l.
+          let s = ap (λ (w : ℕ). bitOf w i) (E .1) ∙ full-bit (E .0) i l in
+          s
+          ∙ sym (decides t h (E .0) (bitOf (getD bytes (a + j) 0) i) (λ q. n (E .1 ∙ ap fullByte q ∙ sym e)))
+          ∙ ap (λ (b : Bool). opBool t b (bitOf (getD bytes (a + j) 0) i)) (sym s);
+    }
 
-    beside : (m : ℕ) → Outside pitch base m → m ≡ base + j → ⊥
-    beside m out q = ⊎-elim (λ h. omega arith) (λ h. omega (arith, line-small pitch)) out
+    pub joins-swap : (p q : Row) (e : Join) → Joins t p q e → Joins t q p e
+    joins-swap p q e J = record {
+      within = λ n len x y. J .within n len y x;
+      is = λ bytes j i l. J .is bytes j i l ∙ comm t h (bitOf (rowByte p bytes j) i) (bitOf (rowByte q bytes j) i);
+    }
 
-pub byte-none : (g : ℕ → Bool) (pitch base : ℕ) (a : List ℕ) → Lined g (0 * 8) pitch base a a
-byte-none g pitch base a = record { len = refl; here = λ z h. absurd (not-suc-le-zero h); rest = λ m out. refl }
+-- line x of a form
+module _ (bytes : List ℕ) (pitch x : ℕ) where
+  pub row-even : (f : Form) → Even (rowOf f bytes pitch x)
+  row-even (OfX at) = (bit bytes (at * 8 + x), refl)
+  row-even (OfY at) = tt
+  row-even (Both at) = tt
+  row-even (Turned at) = tt
+
+  module _ (hx : x < pitch * 8) where
+    row-within : (f : Form) → Plane bytes pitch (place f) → RowWithin (length bytes) pitch (rowOf f bytes pitch x)
+    row-within (OfX at) P = tt
+    row-within (OfY at) P = first-room bytes pitch at P
+    row-within (Both at) P = line-room bytes pitch at P x hx
+    row-within (Turned at) P = first-room bytes pitch at P
+
+    pub line-is : (t : Op) (a b : Form) (e : Join) → Paired bytes pitch a b → Joins t (rowOf a bytes pitch x) (rowOf b bytes pitch x) e → LineIs (λ y. joined t a b bytes pitch x y) t bytes pitch e
+    line-is t a b e P J = record {
+      within = J .within (length bytes) pitch (row-within a (P .first)) (row-within b (P .second));
+      is = λ y.
+          J .is bytes (y / 8) (y % 8) (omega arith)
+          ∙ ap₂ (opBool t) (row-tests bytes pitch 0 x hx a (P .upright .0) y) (row-tests bytes pitch 0 x hx b (P .upright .1) y);
+    }
+
+-- two forms that share no byte with the plane at base
+module _ (bytes : List ℕ) (pitch base : ℕ) (a b : Form) (P : Plane bytes pitch base) (S : Source bytes pitch base (place a)) (R : Source bytes pitch base (place b)) where
+  pub paired : Upright a × Upright b → Paired bytes pitch a b
+  paired U = record { first = source-plane bytes pitch base (place a) (P .small) S; second = source-plane bytes pitch base (place b) (P .small) R; upright = U }
+
+  pub paired-turned : Upright (turned a) × Upright (turned b) → Paired bytes pitch (turned a) (turned b)
+  paired-turned U = record {
+    first = rw (turned-place a) (source-plane bytes pitch base (place a) (P .small) S);
+    second = rw (turned-place b) (source-plane bytes pitch base (place b) (P .small) R);
+    upright = U;
+  }
+
+-- lines stand upright
+pub over-x : (a b : Form) → Pairs a b OverX → Upright a × Upright b
+over-x a b p = (subst Upright (sym (p .0)) tt, subst Upright (sym (p .1)) tt)
+
+pub over-y : (a b : Form) → Pairs a b OverY → Upright a × Upright b
+over-y a b p = (subst Upright (sym (p .0)) tt, subst Upright (sym (p .1)) tt)
+
+pub turned-joined : (t : Op) (a b : Form) (bytes : List ℕ) (pitch x y : ℕ) → joined t (turned a) (turned b) bytes pitch x y ≡ joined t a b bytes pitch y x
+turned-joined t a b bytes pitch x y = ap₂ (opBool t) (turned-tests a bytes pitch x y) (turned-tests b bytes pitch x y)
+
+-- forms with the same tests
+pub ranged-same : (o t : Op) (v : Var) (a b c d : Form) (pitch : ℕ) (m n : List ℕ)
+    → ((x y : ℕ) → x < pitch * 8 → y < pitch * 8 → tests a m pitch x y ≡ tests c n pitch x y)
+    → ((x y : ℕ) → x < pitch * 8 → y < pitch * 8 → tests b m pitch x y ≡ tests d n pitch x y)
+    → (x y : ℕ) → x < pitch * 8 → y < pitch * 8 → ranged o v t a b m pitch x y ≡ ranged o v t c d n pitch x y
+ranged-same o t v a b c d pitch m n p q x y hx hy =
+    over-same o (pitch * 8) (λ z. joined t a b m pitch (withX v z x) (withY v z y)) (λ z. joined t c d n pitch (withX v z x) (withY v z y))
+    (λ z hz.
+    ap₂ (opBool t)
+    (p (withX v z x) (withY v z y) (withX-lt v hz hx) (withY-lt v hz hy))
+    (q (withX v z x) (withY v z y) (withX-lt v hz hx) (withY-lt v hz hy)))
+
+-- one byte more of a line that takes in others
+pub first-more : (f : ℕ → ℕ) (j pitch v : ℕ) (a l : List ℕ) → Laid f 0 j a l → j < pitch → pitch ≤ length a → v ≡ f j → Laid f 0 (j + 1) a (set l j v)
+first-more f j pitch v a l L hj hw e = rw (zero-add) at (laid-more f 0 j pitch a l L hj (omega arith) v e)
+
+-- a line that takes in line after line, by an operation
+module _ (o : Op) (h : Quantifies o) (pitch : ℕ) where
+  pub taken-none : (c : ℕ) (g : ℕ → ℕ → Bool) → c ≡ unitByte o → pitch ≤ 128 → Line (λ y. over o 0 (λ x. g x y)) (pitch * 8) (replicate 128 c)
+  unfolding bit
+  taken-none c g e l = record {
+    is = λ y hy.
+        ap (λ (v : ℕ). bitOf v (y % 8)) (getD-replicate 128 (y / 8) c 0 (omega arith) ∙ e)
+        ∙ full-bit (unit o) (y % 8) (omega arith)
+        ∙ sym (over-none o h (λ x. g x y));
+  }
+
+  pub taken-more : (t : Op) (g : ℕ → ℕ → Bool) (x : ℕ) (bytes : List ℕ) (e : Join) (r s : List ℕ) → Line (λ y. over o x (λ i. g i y)) (pitch * 8) r → LineIs (g x) t bytes pitch e
+      → Laid (λ j. opByte o (getD r j 0) (joinByte t e bytes j)) 0 pitch r s → Line (λ y. over o (x + 1) (λ i. g i y)) (pitch * 8) s
+  unfolding bit
+  taken-more t g x bytes e r s L J T = record {
+    is = λ y hy.
+        ap (λ (m : ℕ). bitOf (getD s m 0) (y % 8)) (sym (zero-add (y / 8)))
+        ∙ ap (λ (v : ℕ). bitOf v (y % 8)) (T .inside (y / 8) (omega arith))
+        ∙ op-bit o (getD r (y / 8) 0) (joinByte t e bytes (y / 8)) (y % 8) (omega arith)
+        ∙ ap₂ (opBool o) (L .is y hy) (J .is y)
+        ∙ sym (over-more o h x (λ i. g i y));
+  }

@@ -36,14 +36,7 @@ pub span-bit : (o : Op) (p q to len : ℕ) (l m : List ℕ) → Laid (λ j. opBy
 span-bit o p q to len l m L y h =
     row-bit o (From p) (From q) to len l m L y h ∙ ap₂ (opBool o) (sym (bit-at l p y)) (sym (bit-at l q y))
 
--- a line of a plane that shares no byte with the one at base
-pub source-span : (bytes : List ℕ) (pitch base a : ℕ) → Source bytes pitch base a → (x : ℕ) → x < pitch * 8 → Span bytes pitch base (a + x * pitch)
-source-span bytes pitch base a S x hx = record {
-  within = omega (arith, S .within, line-before x (pitch * 8) pitch hx);
-  ahead = ⊎-elim (λ q. inl (omega (arith, line-before x (pitch * 8) pitch hx))) (λ q. inr (omega arith)) (S .apart);
-}
-
--- and its first bytes
+-- the first bytes of a plane that shares no byte with the one at base
 pub first-span : (bytes : List ℕ) (pitch base a : ℕ) → Source bytes pitch base a → Span bytes pitch base a
 first-span bytes pitch base a S = record {
   within = omega (arith, S .within, line-small pitch);

@@ -1,25 +1,21 @@
 -- For all, and for some, over the bits of a byte and of a line.
 use mathlib.Core.Path.{_≡_, refl, sym, ap, ap₂, _∙_}
 use mathlib.Core.Bool.{Bool, true, false, not, _&&_, _||_}
-use mathlib.Core.List.{List}
-use Prim.Native.Nat.{ℕ, zero, suc, _+_, _*_, _/_, _%_, _<_}
-use native.Mathlib.Nat.{add-suc, add-zero, not-suc-le-zero}
+use Prim.Native.Nat.{ℕ, zero, suc, _+_, _-_, _*_, _/_, _%_, _<_}
+use native.Mathlib.Nat.{add-suc, add-zero}
 use native.Mathlib.Numerals.{add-one}
 use native.Mathlib.Decide.{decLt}
 use native.Mathlib.Omega.{arith}
 use borrow.Author.Tests.{eqb-true, eq-eqb}
 use lib.Dec.{eqb}
-use lib.ListN.{getD}
 use Rattle.planes.specs.Bit.{bitOf}
-use Rattle.planes.specs.Plane.{bit}
 use Rattle.planes.specs.Laws.Tests.{same-test, true-of, false-of, not-both}
 use Rattle.planes.specs.Laws.Bits.{bits-ext, bit-above, bit-zero}
-use Rattle.planes.specs.Laws.Places.{bit-at}
 use Rattle.nodes.specs.declared.lines.Op.{Op}
 use Rattle.nodes.specs.declared.lines.Op.the-variants.{Not, And, Or}
 use Rattle.truth.specs.Computed.{anyBelow, allBelow}
 use Rattle.truth.specs.Laws.Tables.{any-iff, all-iff}
-use Rattle.nodes.specs.Shapes.{opBool, opByte, over, unit, unitByte, Quantifies}
+use Rattle.nodes.specs.Shapes.{opBool, opByte, over, unit, unitByte, Quantifies, bitsOf}
 use Rattle.nodes.specs.Laws.LineBits.{op-bit, full-bit}
 
 and-last : (p q : Bool) → _≡_ {A = Bool} (elim q [ true ↦ p | false ↦ false ]) (p && q)
@@ -39,7 +35,7 @@ unit-unit Not q = absurd q
 unit-unit And q = refl
 unit-unit Or q = refl
 
-right-unit : (o : Op) → Quantifies o → (p : Bool) → opBool o p (unit o) ≡ p
+pub right-unit : (o : Op) → Quantifies o → (p : Bool) → opBool o p (unit o) ≡ p
 right-unit Not q p = absurd q
 right-unit And q true = refl
 right-unit And q false = refl
@@ -53,7 +49,7 @@ assoc And h false q r = refl
 assoc Or h true q r = refl
 assoc Or h false q r = refl
 
-comm : (o : Op) → Quantifies o → (p q : Bool) → opBool o p q ≡ opBool o q p
+pub comm : (o : Op) → Quantifies o → (p q : Bool) → opBool o p q ≡ opBool o q p
 comm Not h p q = absurd h
 comm And h true true = refl
 comm And h true false = refl
@@ -70,6 +66,14 @@ twice And h true = refl
 twice And h false = refl
 twice Or h true = refl
 twice Or h false = refl
+
+-- what is not the unit decides
+pub decides : (o : Op) → Quantifies o → (p q : Bool) → (p ≡ unit o → ⊥) → opBool o p q ≡ p
+decides Not h p q n = absurd h
+decides And h true q n = absurd (n refl)
+decides And h false q n = refl
+decides Or h true q n = refl
+decides Or h false q n = absurd (n refl)
 
 -- the same tests, the same answer
 pub over-same : (o : Op) (n : ℕ) (g h : ℕ → Bool) → ((i : ℕ) → i < n → g i ≡ h i) → over o n g ≡ over o n h
@@ -104,15 +108,6 @@ module _ (o : Op) (h : Quantifies o) where
   pub over-more : (n : ℕ) (g : ℕ → Bool) → over o (n + 1) g ≡ opBool o (over o n g) (g n)
   over-more n g = ap (λ (m : ℕ). over o m g) (add-one n) ∙ over-suc n g
 
-  -- one test for all
-  ones : (n : ℕ) (t : Bool) → over o (suc n) (λ i. t) ≡ t
-  ones zero t = over-suc 0 (λ i. t) ∙ ap (λ (p : Bool). opBool o p t) (over-none (λ i. t)) ∙ comm o h (unit o) t ∙ right-unit o h t
-  ones (suc n) t = over-suc (suc n) (λ i. t) ∙ ap (λ (p : Bool). opBool o p t) (ones n t) ∙ twice o h t
-
-  pub over-one : (n : ℕ) (t : Bool) → 0 < n → over o n (λ i. t) ≡ t
-  over-one zero t l = absurd (not-suc-le-zero l)
-  over-one (suc n) t l = ones n t
-
   four : (p q r s : Bool) → opBool o (opBool o p q) (opBool o r s) ≡ opBool o (opBool o p r) (opBool o q s)
   four p q r s =
       assoc o h (opBool o p q) r s
@@ -145,26 +140,50 @@ module _ (o : Op) (h : Quantifies o) where
   units-over (suc n) g e =
       over-suc n g ∙ ap₂ (opBool o) (units-over n g (λ i l. e i (omega arith))) (e n (omega arith)) ∙ unit-unit o h
 
-  -- the line at byte at, tested byte by byte
-  pub bytes-none : (r : List ℕ) (at : ℕ) → over o 8 (bitOf (unitByte o)) ≡ over o 0 (λ y. bit r (at * 8 + y))
-  bytes-none r at = units-over 8 (bitOf (unitByte o)) (λ i l. full-bit (unit o) i l) ∙ sym (over-none (λ y. bit r (at * 8 + y)))
+  -- the bytes f 0, f 1, .. tested one by one
+  pub bytes-none : (f : ℕ → ℕ) → over o 8 (bitOf (unitByte o)) ≡ over o 0 (bitsOf f)
+  bytes-none f = units-over 8 (bitOf (unitByte o)) (λ i l. full-bit (unit o) i l) ∙ sym (over-none (bitsOf f))
 
-  pub bytes-more : (r : List ℕ) (at b j : ℕ) → over o 8 (bitOf b) ≡ over o (j * 8) (λ y. bit r (at * 8 + y))
-      → over o 8 (bitOf (opByte o b (getD r (at + j) 0))) ≡ over o ((j + 1) * 8) (λ y. bit r (at * 8 + y))
-  bytes-more r at b j e =
+  last-byte : (f : ℕ → ℕ) (j : ℕ) → over o ((j + 1) * 8) (bitsOf f) ≡ opBool o (over o (j * 8) (bitsOf f)) (over o 8 (bitOf (f j)))
+  last-byte f j =
       let q : (j + 1) * 8 ≡ j * 8 + 8 = omega arith in
-      let v = getD r (at + j) 0 in
-      over-same o 8 (bitOf (opByte o b v)) (λ i. opBool o (bitOf b i) (bitOf v i)) (λ i l. op-bit o b v i l)
-      ∙ both 8 (bitOf b) (bitOf v)
-      ∙ ap₂ (opBool o) e (over-same o 8 (bitOf v) (λ i. bit r (at * 8 + (j * 8 + i))) (λ i l. sym (inside i l)))
-      ∙ sym (parts (j * 8) 8 (λ y. bit r (at * 8 + y)))
-      ∙ ap (λ (n : ℕ). over o n (λ y. bit r (at * 8 + y))) (sym q)
+      ap (λ (n : ℕ). over o n (bitsOf f)) q
+      ∙ parts (j * 8) 8 (bitsOf f)
+      ∙ ap (opBool o (over o (j * 8) (bitsOf f))) (over-same o 8 (λ i. bitsOf f (j * 8 + i)) (bitOf (f j)) (λ i l. inside i l))
     where
-      inside : (i : ℕ) → i < 8 → bit r (at * 8 + (j * 8 + i)) ≡ bitOf (getD r (at + j) 0) i
+      inside : (i : ℕ) → i < 8 → bitsOf f (j * 8 + i) ≡ bitOf (f j) i
       inside i l =
-          let d : at + (j * 8 + i) / 8 ≡ at + j = omega arith in
+          let d : (j * 8 + i) / 8 ≡ j = omega arith in
           let m : (j * 8 + i) % 8 ≡ i = omega arith in
-          bit-at r at (j * 8 + i) ∙ ap₂ (λ (a c : ℕ). bitOf (getD r a 0) c) d m
+          ap₂ (λ (a c : ℕ). bitOf (f a) c) d m
+
+  pub bytes-more : (f : ℕ → ℕ) (c j v : ℕ) → over o 8 (bitOf c) ≡ over o (j * 8) (bitsOf f) → v ≡ f j
+      → over o 8 (bitOf (opByte o c v)) ≡ over o ((j + 1) * 8) (bitsOf f)
+  bytes-more f c j v e w =
+      ap (λ (n : ℕ). over o 8 (bitOf (opByte o c n))) w
+      ∙ over-same o 8 (bitOf (opByte o c (f j))) (λ i. opBool o (bitOf c i) (bitOf (f j) i)) (λ i l. op-bit o c (f j) i l)
+      ∙ both 8 (bitOf c) (bitOf (f j))
+      ∙ ap (λ (t : Bool). opBool o t (over o 8 (bitOf (f j)))) e
+      ∙ sym (last-byte f j)
+
+  -- one byte over and over
+  same-bytes : (c n : ℕ) → over o ((n + 1) * 8) (bitsOf (λ j. c)) ≡ over o 8 (bitOf c)
+  same-bytes c zero =
+      last-byte (λ j. c) 0
+      ∙ ap (λ (t : Bool). opBool o t (over o 8 (bitOf c))) (over-none (bitsOf (λ j. c)))
+      ∙ comm o h (unit o) (over o 8 (bitOf c))
+      ∙ right-unit o h (over o 8 (bitOf c))
+  same-bytes c (suc n) =
+      let e : suc n ≡ n + 1 = omega arith in
+      last-byte (λ j. c) (suc n)
+      ∙ ap (λ (m : ℕ). opBool o (over o (m * 8) (bitsOf (λ j. c))) (over o 8 (bitOf c))) e
+      ∙ ap (λ (t : Bool). opBool o t (over o 8 (bitOf c))) (same-bytes c n)
+      ∙ twice o h (over o 8 (bitOf c))
+
+  pub bytes-same : (c n : ℕ) → 0 < n → over o 8 (bitOf c) ≡ over o (n * 8) (bitsOf (λ j. c))
+  bytes-same c n l =
+      let e : (n - 1) + 1 ≡ n = omega arith in
+      sym (same-bytes c (n - 1)) ∙ ap (λ (m : ℕ). over o (m * 8) (bitsOf (λ j. c))) e
 
 -- a byte of whose bits all are set, and one of which none is
 all-set : (b : ℕ) → b < 256 → ((i : ℕ) → i < 8 → bitOf b i ≡ true) → b ≡ 255

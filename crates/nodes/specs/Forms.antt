@@ -9,7 +9,7 @@ use Rattle.planes.specs.Plane.{bit, cell, On, planeSize}
 use Rattle.records.specs.Policy.{Var, X, Y}
 use Rattle.closure.specs.Walk.{Walk}
 use Rattle.truth.specs.Truth.{value, withX, withY}
-use Rattle.nodes.specs.Shapes.{fullByte, over, Outside, Source}
+use Rattle.nodes.specs.Shapes.{opBool, fullByte, over, Outside, Plane, Source}
 use Rattle.nodes.specs.declared.lines.Op.{Op}
 use Rattle.nodes.specs.declared.lines.Row.{Row}
 use Rattle.nodes.specs.declared.lines.Row.the-variants.{Full, From}
@@ -79,9 +79,19 @@ Pairs a b SecondTurned = (b ≡ Turned (place b)) × Upright a
 abbrev pub Readable : List ℕ → ℕ → ℕ → Form → Type 0
 Readable bytes pitch base f = Source bytes pitch base (place f) ⊎ (f ≡ Both base)
 
--- a form with the variable v running over every state
-abbrev pub ranged : Op → Var → Form → List ℕ → ℕ → ℕ → ℕ → Bool
-ranged o v f bytes pitch x y = over o (pitch * 8) (λ z. tests f bytes pitch (withX v z x) (withY v z y))
+-- two forms lie within a buffer, and can be read line by line
+pub record Paired (bytes : List ℕ) (pitch : ℕ) (a b : Form) : Type 0 where
+  pub first : Plane bytes pitch (place a)
+  pub second : Plane bytes pitch (place b)
+  pub upright : Upright a × Upright b
+
+-- the operation on two forms
+abbrev pub joined : Op → Form → Form → List ℕ → ℕ → ℕ → ℕ → Bool
+joined t a b bytes pitch x y = opBool t (tests a bytes pitch x y) (tests b bytes pitch x y)
+
+-- the same with the variable v running over every state, by another operation
+abbrev pub ranged : Op → Var → Op → Form → Form → List ℕ → ℕ → ℕ → ℕ → Bool
+ranged o v t a b bytes pitch x y = over o (pitch * 8) (λ z. joined t a b bytes pitch (withX v z x) (withY v z y))
 
 -- the form that a code names with the variables (u, v) for (X, Y)
 abbrev pub arranged : Var → Var → ℕ → ℕ → List ℕ → ℕ → ℕ → ℕ → Bool

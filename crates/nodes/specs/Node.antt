@@ -2,7 +2,7 @@
 -- for each node.
 use mathlib.Core.Path.{_≡_}
 use mathlib.Core.Bool.{Bool, true}
-use mathlib.Core.List.{List}
+use mathlib.Core.List.{List, [], _∷_}
 use mathlib.Core.Logic.{_↔_, _⊎_}
 use Prim.Native.Nat.{ℕ, _+_, _*_, _≤_, _<_}
 use lib.ListN.{length, getD}
@@ -11,6 +11,8 @@ use Rattle.records.specs.Record.{mostNodes}
 use Rattle.records.specs.Policy.{Formula, NodeKind, kBIT, kR, kE, kNOT, kAND, kOR, kSOME, kALL, kTC, kNone, nodeKind, nodeSays}
 use Rattle.truth.specs.Truth.{Model, Truth}
 use Rattle.nodes.specs.Shapes.{Outside}
+use Rattle.nodes.specs.declared.lines.Op.{Op}
+use Rattle.nodes.specs.declared.lines.Op.the-variants.{Not, And, Or}
 use Rattle.nodes.specs.declared.forms.Form.{Form}
 use Rattle.nodes.specs.Forms.{tests, formOf, Reached}
 
@@ -57,12 +59,31 @@ pub record Makeable (kind a b k pitch : ℕ) (closed : Bool) (work : List ℕ) :
   pub bits : kind ≡ 0 → b < 64
   pub reached : closed ≡ true → Reached pitch work
 
--- the form of node k, which the answer names, is the truth of what the node says, where those of its operands are the truth of
--- theirs; every byte outside of the node's plane is as before
-pub record NodeMade (codes : List ℕ) (kind a b k pitch : ℕ) (ext before : List ℕ) (code : ℕ) (after : List ℕ) : Type 0 where
+-- the form of node k, which the answer names, is the truth of what is said of the nodes `Of`, where the forms of these are the
+-- truth of theirs; every byte outside of the node's plane is as before
+pub record FormMade (Of : ℕ → Type 0) (says : (ℕ → Formula) → Formula) (codes : List ℕ) (k pitch : ℕ) (ext before : List ℕ) (code : ℕ) (after : List ℕ) : Type 0 where
   pub len : length after ≡ length before
   pub named : 0 < code
   pub shows : (operand : ℕ → Formula)
-      → ((j : ℕ) → Operand (nodeKind kind) a b j → Shows (modelAt pitch ext before) pitch (formAt codes pitch j) before (operand j))
-      → Shows (modelAt pitch ext before) pitch (formOf code (planeAt pitch k) (planeSize pitch)) after (nodeSays (nodeKind kind) a b operand)
+      → ((j : ℕ) → Of j → Shows (modelAt pitch ext before) pitch (formAt codes pitch j) before (operand j))
+      → Shows (modelAt pitch ext before) pitch (formOf code (planeAt pitch k) (planeSize pitch)) after (says operand)
   pub rest : (m : ℕ) → Outside pitch (planeAt pitch k) m → getD after m 0 ≡ getD before m 0
+
+-- node k is made of its operands
+abbrev pub NodeMade : List ℕ → ℕ → ℕ → ℕ → ℕ → ℕ → List ℕ → List ℕ → ℕ → List ℕ → Type 0
+NodeMade codes kind a b k pitch ext before code after =
+    FormMade (Operand (nodeKind kind) a b) (nodeSays (nodeKind kind) a b) codes k pitch ext before code after
+
+-- node k, a SOME or ALL over v, is made of the operands of the AND or OR below it
+abbrev pub OverMade : List ℕ → ℕ → ℕ → ℕ → ℕ → ℕ → ℕ → ℕ → List ℕ → List ℕ → ℕ → List ℕ → Type 0
+OverMade codes kind v inner a b k pitch ext before code after =
+    FormMade (Operand (nodeKind inner) a b) (λ operand. nodeSays (nodeKind kind) 0 v (λ j. nodeSays (nodeKind inner) a b operand)) codes k pitch ext before code after
+
+-- the operation of a node's kind
+unfoldable pub opOf : ℕ → Op
+opOf kind = getD (Not ∷ Not ∷ Not ∷ Not ∷ And ∷ Or ∷ Or ∷ And ∷ []) kind Not
+
+-- a SOME or ALL stands over an AND or OR
+pub record Over (kind inner : ℕ) : Type 0 where
+  pub ranges : (kind ≡ 6) ⊎ (kind ≡ 7)
+  pub joins : (inner ≡ 4) ⊎ (inner ≡ 5)

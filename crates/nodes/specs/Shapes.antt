@@ -3,7 +3,7 @@ use mathlib.Core.Path.{_≡_}
 use mathlib.Core.Bool.{Bool, true, false, not, _&&_, _||_}
 use mathlib.Core.List.{List}
 use mathlib.Core.Logic.{_⊎_}
-use Prim.Native.Nat.{ℕ, zero, suc, _+_, _*_, _^_, _≤_, _<_}
+use Prim.Native.Nat.{ℕ, zero, suc, _+_, _*_, _/_, _%_, _^_, _≤_, _<_}
 use lib.ListN.{length, getD}
 use lib.Bits.{bitAnd, bitOr, bitXor}
 use Rattle.planes.specs.Bit.{bitOf}
@@ -13,6 +13,8 @@ use Rattle.nodes.specs.declared.lines.Op.{Op}
 use Rattle.nodes.specs.declared.lines.Op.the-variants.{Not, And, Or}
 use Rattle.nodes.specs.declared.lines.Row.{Row}
 use Rattle.nodes.specs.declared.lines.Row.the-variants.{Full, From}
+use Rattle.nodes.specs.declared.lines.Join.{Join}
+use Rattle.nodes.specs.declared.lines.Join.the-variants.{Same, Two}
 
 -- an operation on tests; NOT is of the first
 abbrev pub opBool : Op → Bool → Bool → Bool
@@ -98,6 +100,40 @@ rowByte (From a) bytes j = getD bytes (a + j) 0
 abbrev pub Ready : List ℕ → ℕ → ℕ → Row → Type 0
 Ready bytes len to (Full c) = Unit {0}
 Ready bytes len to (From a) = Span bytes len to a
+
+-- a row of one byte over and over has equal tests
+abbrev pub Even : Row → Type 0
+Even (Full c) = (s : Bool) × (c ≡ fullByte s)
+Even (From a) = Unit {0}
+
+-- the len bytes of a row are within a buffer of n bytes
+abbrev pub RowWithin : ℕ → ℕ → Row → Type 0
+RowWithin n len (Full c) = Unit {0}
+RowWithin n len (From a) = a + len ≤ n
+
+-- byte j of a join by an operation
+abbrev pub joinByte : Op → Join → List ℕ → ℕ → ℕ
+joinByte t (Same c) bytes j = c
+joinByte t (Two a b) bytes j = opByte t (getD bytes (a + j) 0) (getD bytes (b + j) 0)
+
+-- its len bytes are made of bytes within a buffer of n bytes
+abbrev pub JoinWithin : ℕ → ℕ → Join → Type 0
+JoinWithin n len (Same c) = Unit {0}
+JoinWithin n len (Two a b) = (a + len ≤ n) × (b + len ≤ n)
+
+-- a join is the operation on two rows, test by test
+pub record Joins (t : Op) (p q : Row) (e : Join) : Type 0 where
+  pub within : (n len : ℕ) → RowWithin n len p → RowWithin n len q → JoinWithin n len e
+  pub is : (bytes : List ℕ) (j i : ℕ) → i < 8 → bitOf (joinByte t e bytes j) i ≡ opBool t (bitOf (rowByte p bytes j) i) (bitOf (rowByte q bytes j) i)
+
+-- bit y of the bytes f 0, f 1, ..
+abbrev pub bitsOf : (ℕ → ℕ) → ℕ → Bool
+bitsOf f y = bitOf (f (y / 8)) (y % 8)
+
+-- a join is a line of a plane, with the tests g
+pub record LineIs (g : ℕ → Bool) (t : Op) (bytes : List ℕ) (pitch : ℕ) (e : Join) : Type 0 where
+  pub within : JoinWithin (length bytes) pitch e
+  pub is : (y : ℕ) → bitsOf (joinByte t e bytes) y ≡ g y
 
 -- a byte lies outside of the plane at base
 abbrev pub Outside : ℕ → ℕ → ℕ → Type 0

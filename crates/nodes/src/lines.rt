@@ -3,9 +3,10 @@ ghost use mathlib.Core.Path.{_≡_};
 ghost use Prim.Native.Nat.{_+_, _*_, _/_, _≤_, _<_};
 ghost use lib.ListN.{length, getD};
 ghost use Rattle.planes.specs.Bit.{bitOf};
-ghost use Rattle.planes.specs.Plane.{bit};
 ghost use Rattle.planes.specs.Lines.{Laid};
-ghost use Rattle.nodes.specs.Shapes.{opByte, unitByte, over, Quantifies, weightIf, fullByte, bitByte, Pushed, Span, rowByte, Ready};
+ghost use Rattle.nodes.specs.declared.lines.Row.the-variants.{Full, From};
+ghost use Rattle.nodes.specs.declared.lines.Join.the-variants.{Two};
+ghost use Rattle.nodes.specs.Shapes.{opByte, unitByte, over, Quantifies, weightIf, fullByte, bitByte, bitsOf, Pushed, Span, rowByte, Ready, Even, joinByte, JoinWithin, Joins};
 
 // An operation on tests.
 pub enum Op {
@@ -182,17 +183,104 @@ fn byte_over(o: Op, b: u8) -> bool
     }
 }
 
-// All bits of the pitch bytes from at on, or some.
-pub fn line_over(work: &[u8], o: Op, at: usize, pitch: usize) -> bool
-    requires { ⌜ at + pitch ≤ length (now work) ⌝ }
-    requires { ⌜ Quantifies o ⌝ }
-    ensures { λ t. ⌜ t ≡ over o (pitch * 8) (λ y. bit (now (work .entry)) (at * 8 + y)) ⌝ }
+// The bytes of an operation on two rows: one over and over, or the operation on those from two places on.
+pub enum Join {
+    Same(u8),
+    Two(usize, usize),
+}
+
+// The operation on c over and over and on the bytes from a on: these, or c.
+fn join_full(t: Op, c: u8, a: usize) -> Join
+    requires { ⌜ Quantifies t ⌝ }
+    requires { ⌜ Even (Full c) ⌝ }
+    ensures { λ r. ⌜ Joins t (Full c) (From a) r ⌝ }
 {
-    let mut b = units(o);
+    if c == units(t) {
+        Join::Two(a, a)
+    } else {
+        Join::Same(c)
+    }
+}
+
+// The operation on two rows.
+pub fn join_of(t: Op, p: Row, q: Row) -> Join
+    requires { ⌜ Quantifies t ⌝ }
+    requires { ⌜ Even p × Even q ⌝ }
+    ensures { λ r. ⌜ Joins t p q r ⌝ }
+{
+    match p {
+        Row::Full(c) => match q {
+            Row::Full(d) => Join::Same(byte_op(t, c, d)),
+            Row::From(b) => join_full(t, c, b),
+        },
+        Row::From(a) => match q {
+            Row::Full(d) => join_full(t, d, a),
+            Row::From(b) => Join::Two(a, b),
+        },
+    }
+}
+
+// All bits, or some, of the operation t on the len bytes from a on and from b on.
+pub fn span_over(work: &[u8], o: Op, t: Op, a: usize, b: usize, len: usize) -> bool
+    requires { ⌜ (a + len ≤ length (now work)) × (b + len ≤ length (now work)) ⌝ }
+    requires { ⌜ Quantifies o ⌝ }
+    ensures { λ s. ⌜ s ≡ over o (len * 8) (bitsOf (joinByte t (Two a b) (now (work .entry)))) ⌝ }
+{
+    let mut c = units(o);
     let mut j: usize = 0;
-    while j < pitch {
-        b = byte_op(o, b, work[at + j]);
+    while j < len {
+        c = byte_op(o, c, byte_op(t, work[a + j], work[b + j]));
         j += 1;
     }
-    byte_over(o, b)
+    byte_over(o, c)
+}
+
+// All bits of the len bytes of a join, or some.
+pub fn join_over(work: &[u8], o: Op, t: Op, e: Join, len: usize) -> bool
+    requires { ⌜ JoinWithin (length (now work)) len e ⌝ }
+    requires { ⌜ 0 < len ⌝ }
+    requires { ⌜ Quantifies o ⌝ }
+    ensures { λ s. ⌜ s ≡ over o (len * 8) (bitsOf (joinByte t e (now (work .entry)))) ⌝ }
+{
+    match e {
+        Join::Same(c) => byte_over(o, c),
+        Join::Two(a, b) => span_over(work, o, t, a, b, len),
+    }
+}
+
+// The first len bytes of r become the operation on them and c.
+fn take_full(r: &mut [u8], o: Op, c: u8, len: usize)
+    requires { ⌜ len ≤ length (now r) ⌝ }
+    ensures { λ _. ⌜ Laid (λ j. opByte o (getD (now (r .entry)) j 0) c) 0 len (now (r .entry)) (now (r .exit)) ⌝ }
+{
+    let mut j: usize = 0;
+    while j < len {
+        r[j] = byte_op(o, r[j], c);
+        j += 1;
+    }
+}
+
+// The first len bytes of r become the operation o on them and on what t gives of those from a on and from b on.
+fn take_span(r: &mut [u8], work: &[u8], o: Op, t: Op, a: usize, b: usize, len: usize)
+    requires { ⌜ len ≤ length (now r) ⌝ }
+    requires { ⌜ (a + len ≤ length (now work)) × (b + len ≤ length (now work)) ⌝ }
+    ensures { λ _. ⌜ Laid (λ j. opByte o (getD (now (r .entry)) j 0) (joinByte t (Two a b) (now (work .entry)) j)) 0 len (now (r .entry)) (now (r .exit)) ⌝ }
+{
+    let mut j: usize = 0;
+    while j < len {
+        r[j] = byte_op(o, r[j], byte_op(t, work[a + j], work[b + j]));
+        j += 1;
+    }
+}
+
+// The first len bytes of r become the operation on them and those of a join.
+pub fn take_join(r: &mut [u8], work: &[u8], o: Op, t: Op, e: Join, len: usize)
+    requires { ⌜ len ≤ length (now r) ⌝ }
+    requires { ⌜ JoinWithin (length (now work)) len e ⌝ }
+    ensures { λ _. ⌜ Laid (λ j. opByte o (getD (now (r .entry)) j 0) (joinByte t e (now (work .entry)) j)) 0 len (now (r .entry)) (now (r .exit)) ⌝ }
+{
+    match e {
+        Join::Same(c) => take_full(r, o, c, len),
+        Join::Two(a, b) => take_span(r, work, o, t, a, b, len),
+    }
 }

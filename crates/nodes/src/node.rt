@@ -1,8 +1,11 @@
 // The tests of a policy's node, made of those of its operands.
 ghost use mathlib.Core.Path.{_≡_};
-ghost use Prim.Native.Nat.{_≤_, _<_};
+ghost use mathlib.Core.Bool.{true, false};
+ghost use mathlib.Core.List.{List};
+ghost use mathlib.Core.Logic.{_⊎_};
+ghost use Prim.Native.Nat.{ℕ, _≤_, _<_};
 ghost use Rattle.records.specs.Policy.{nodeKind};
-ghost use Rattle.nodes.specs.Node.{arity, formAt, Makeable, NodeMade};
+ghost use Rattle.nodes.specs.Node.{arity, formAt, Makeable, NodeMade, OverMade, opOf, Over};
 use crate::forms;
 use crate::forms::Form;
 use crate::lines::Op;
@@ -79,11 +82,11 @@ pub fn make(
         }
         6 => {
             let first = form_at(codes, a as usize, pitch);
-            shapes::range(work, Op::Or, first, b, base, pitch)
+            shapes::range(work, Op::Or, Op::Or, first, first, b, base, pitch)
         }
         7 => {
             let first = form_at(codes, a as usize, pitch);
-            shapes::range(work, Op::And, first, b, base, pitch)
+            shapes::range(work, Op::And, Op::Or, first, first, b, base, pitch)
         }
         8 => {
             let first = form_at(codes, a as usize, pitch);
@@ -94,4 +97,67 @@ pub fn make(
             shapes::keep(work, &none, 0, base, pitch)
         }
     }
+}
+
+// The operation of a node's kind: AND and ALL, OR and SOME.
+fn operation(kind: u8) -> Op
+    ensures { λ r. ⌜ r ≡ opOf kind ⌝ }
+{
+    match kind {
+        0..=3 => Op::Not,
+        4 => Op::And,
+        5 => Op::Or,
+        6 => Op::Or,
+        7 => Op::And,
+        8..=255 => Op::Not,
+    }
+}
+
+// Whether a node is an AND or OR.
+fn joins(kind: u8) -> bool
+    ensures { λ r. ⌜ (r ≡ true → (kind ≡ 4) ⊎ (kind ≡ 5)) ⌝ }
+{
+    match kind {
+        0..=3 => false,
+        4 => true,
+        5 => true,
+        6..=255 => false,
+    }
+}
+
+// Whether a SOME or ALL stands over an AND or OR.
+pub fn over(kind: u8, inner: u8) -> bool
+    ensures { λ r. ⌜ (r ≡ true → Over kind inner) ⌝ }
+{
+    match kind {
+        0..=5 => false,
+        6 => joins(inner),
+        7 => joins(inner),
+        8..=255 => false,
+    }
+}
+
+// Makes node k, a SOME or ALL over v of a node that is an AND or OR, of the operands a and b of that node, which itself need not
+// be made; answers the code of its form.
+pub fn make_over(
+    work: &mut [u8],
+    codes: &[u8],
+    kind: u8,
+    v: u8,
+    inner: u8,
+    a: u8,
+    b: u8,
+    k: usize,
+    pitch: usize,
+) -> u8
+    requires { ⌜ Makeable inner a b k pitch false (now work) ⌝ }
+    requires { ⌜ Over kind inner ⌝ }
+    ensures { λ r. ⌜ ((ext : List ℕ) → OverMade (now (codes .entry)) kind v inner a b k pitch ext (now (work .entry)) r (now (work .exit))) ⌝ }
+{
+    let base = (k + 2) * (pitch * 8 * pitch);
+    let first = form_at(codes, a as usize, pitch);
+    let second = form_at(codes, b as usize, pitch);
+    let o = operation(kind);
+    let t = operation(inner);
+    shapes::range(work, o, t, first, second, v, base, pitch)
 }

@@ -1,20 +1,21 @@
 // Forms made of other forms of the same buffer. A plane of pitch * 8 states has pitch * 8 lines of pitch bytes.
 ghost use mathlib.Core.Path.{_≡_};
 ghost use mathlib.Core.Bool.{true};
-ghost use Prim.Native.Nat.{ℕ, _+_, _*_, _≤_, _<_};
+ghost use Prim.Native.Nat.{_+_, _*_, _≤_, _<_};
 ghost use lib.ListN.{length, getD};
 ghost use Rattle.planes.specs.Bit.{bitOf};
 ghost use Rattle.planes.specs.Plane.{bit, cell, planeSize};
 ghost use Rattle.planes.specs.Lines.{Laid, Made};
 ghost use Rattle.records.specs.Policy.{varOf};
 ghost use Rattle.truth.specs.Truth.{value};
-ghost use Rattle.nodes.specs.Shapes.{opBool, opByte, over, Quantifies, Line, Lined, Plane, Source, Span};
+ghost use Rattle.nodes.specs.Shapes.{opBool, opByte, over, Quantifies, Line, LineIs, Lined, Plane, Source, Span};
 ghost use Rattle.nodes.specs.declared.forms.Form.the-variants.{Both};
-ghost use Rattle.nodes.specs.Forms.{tests, place, Upright, rowOf, Readable, Stands, lineCode, ranged, arranged, Reached, Closes, Reaches};
+ghost use Rattle.nodes.specs.Forms.{tests, place, turned, Upright, rowOf, Readable, Paired, joined, Stands, lineCode, ranged, arranged, Reached, Closes, Reaches};
 use crate::forms;
 use crate::forms::Form;
 use crate::forms::Way;
 use crate::lines;
+use crate::lines::Join;
 use crate::lines::Op;
 use crate::lines::Row;
 
@@ -161,84 +162,134 @@ pub fn bit_line(work: &mut [u8], v: u8, i: usize, base: usize, pitch: usize) -> 
     line_code(v)
 }
 
-// The line at base becomes the states y that are true with every x (And), or with some x (Or).
-fn gather_x(work: &mut [u8], o: Op, a: usize, base: usize, pitch: usize)
-    requires { ⌜ Plane (now work) pitch base ⌝ }
-    requires { ⌜ Source (now work) pitch base a ⌝ }
-    requires { ⌜ Quantifies o ⌝ }
-    ensures { λ _. ⌜ Lined (λ y. over o (pitch * 8) (λ x. cell (now (work .entry)) a pitch x y)) (pitch * 8) pitch base (now (work .entry)) (now (work .exit)) ⌝ }
+// Line x of the operation on two forms.
+fn line_of(work: &[u8], t: Op, a: Form, b: Form, x: usize, pitch: usize) -> Join
+    requires { ⌜ Paired (now work) pitch a b ⌝ }
+    requires { ⌜ Quantifies t ⌝ }
+    requires { ⌜ x < pitch * 8 ⌝ }
+    ensures { λ r. ⌜ LineIs (λ y. joined t a b (now (work .entry)) pitch x y) t (now (work .entry)) pitch r ⌝ }
 {
-    lines::fill(work, lines::units(o), base, pitch);
-    let mut x: usize = 0;
-    while x < pitch * 8 {
-        lines::join_span(work, o, base, a + x * pitch, base, pitch);
-        x += 1;
-    }
+    let p = row_of(work, a, x, pitch);
+    let q = row_of(work, b, x, pitch);
+    lines::join_of(t, p, q)
 }
 
-// Of each of eight lines from line x on, all bits or some, as a byte.
-fn eight_over(work: &[u8], o: Op, a: usize, x: usize, pitch: usize) -> u8
-    requires { ⌜ Plane (now work) pitch a ⌝ }
-    requires { ⌜ x + 8 ≤ pitch * 8 ⌝ }
-    requires { ⌜ Quantifies o ⌝ }
-    ensures { λ r. ⌜ ((i : ℕ) → i < 8 → bitOf r i ≡ over o (pitch * 8) (λ y. cell (now (work .entry)) a pitch (x + i) y)) ⌝ }
+// The states y for which the operation t on two forms passes with every x (And), or with some x (Or).
+fn gather_x(work: &[u8], o: Op, t: Op, a: Form, b: Form, pitch: usize) -> [u8; 128]
+    requires { ⌜ Paired (now work) pitch a b ⌝ }
+    requires { ⌜ Quantifies o × Quantifies t ⌝ }
+    ensures { λ r. ⌜ Line (λ y. over o (pitch * 8) (λ x. joined t a b (now (work .entry)) pitch x y)) (pitch * 8) r ⌝ }
 {
-    let mut r: u8 = 0;
-    let mut i: usize = 0;
-    while i < 8 {
-        let t = lines::line_over(work, o, a + (x + i) * pitch, pitch);
-        r = r | lines::weight_if(t, i);
-        i += 1;
+    let c = lines::units(o);
+    let mut r = [c; 128];
+    let mut x: usize = 0;
+    while x < pitch * 8 {
+        let e = line_of(work, t, a, b, x, pitch);
+        lines::take_join(&mut r, work, o, t, e, pitch);
+        x += 1;
     }
     r
 }
 
-// The line at base becomes the states x that are true with every y (And), or with some y (Or).
-fn gather_y(work: &mut [u8], o: Op, a: usize, base: usize, pitch: usize)
-    requires { ⌜ Plane (now work) pitch base ⌝ }
-    requires { ⌜ Source (now work) pitch base a ⌝ }
-    requires { ⌜ Quantifies o ⌝ }
-    ensures { λ _. ⌜ Lined (λ x. over o (pitch * 8) (λ y. cell (now (work .entry)) a pitch x y)) (pitch * 8) pitch base (now (work .entry)) (now (work .exit)) ⌝ }
+// The states x for which the operation t on two forms passes with every y (And), or with some y (Or).
+fn gather_y(work: &[u8], o: Op, t: Op, a: Form, b: Form, pitch: usize) -> [u8; 128]
+    requires { ⌜ Paired (now work) pitch a b ⌝ }
+    requires { ⌜ Quantifies o × Quantifies t ⌝ }
+    ensures { λ r. ⌜ Line (λ x. over o (pitch * 8) (λ y. joined t a b (now (work .entry)) pitch x y)) (pitch * 8) r ⌝ }
 {
-    let mut j: usize = 0;
-    while j < pitch {
-        let t = eight_over(work, o, a, j * 8, pitch);
-        work[base + j] = t;
-        j += 1;
+    let mut r = [0u8; 128];
+    let mut x: usize = 0;
+    while x < pitch * 8 {
+        let e = line_of(work, t, a, b, x, pitch);
+        let s = lines::join_over(work, o, t, e, pitch);
+        lines::push(&mut r, x, s);
+        x += 1;
     }
+    r
 }
 
-// The line at base becomes the states x for which a form passes with every y (And), or with some y (Or).
-fn range_line(work: &mut [u8], o: Op, f: Form, base: usize, pitch: usize)
+// The operation t on two forms with v running over every state, by o, stands at base; answers the code of its form.
+fn range_lines(
+    work: &mut [u8],
+    o: Op,
+    t: Op,
+    a: Form,
+    b: Form,
+    v: u8,
+    base: usize,
+    pitch: usize,
+) -> u8
     requires { ⌜ Plane (now work) pitch base ⌝ }
-    requires { ⌜ Source (now work) pitch base (place f) ⌝ }
-    requires { ⌜ Quantifies o ⌝ }
-    ensures { λ _. ⌜ Lined (λ x. over o (pitch * 8) (λ y. tests f (now (work .entry)) pitch x y)) (pitch * 8) pitch base (now (work .entry)) (now (work .exit)) ⌝ }
-{
-    match f {
-        Form::OfX(at) => join_lines(work, o, at, at, base, pitch),
-        Form::OfY(at) => {
-            let t = lines::line_over(work, o, at, pitch);
-            lines::fill(work, lines::full(t), base, pitch);
-        }
-        Form::Both(at) => gather_y(work, o, at, base, pitch),
-        Form::Turned(at) => gather_x(work, o, at, base, pitch),
-    }
-}
-
-// SOME, ALL: a form with v running over every state, by Or and by And, stands at base; answers the code of its form.
-pub fn range(work: &mut [u8], o: Op, f: Form, v: u8, base: usize, pitch: usize) -> u8
-    requires { ⌜ Plane (now work) pitch base ⌝ }
-    requires { ⌜ Source (now work) pitch base (place f) ⌝ }
-    requires { ⌜ Quantifies o ⌝ }
-    ensures { λ r. ⌜ Stands (ranged o (varOf v) f (now (work .entry)) pitch) r pitch base (now (work .entry)) (now (work .exit)) ⌝ }
+    requires { ⌜ Paired (now work) pitch a b ⌝ }
+    requires { ⌜ Quantifies o × Quantifies t ⌝ }
+    ensures { λ r. ⌜ Stands (ranged o (varOf v) t a b (now (work .entry)) pitch) r pitch base (now (work .entry)) (now (work .exit)) ⌝ }
 {
     if v != 0 {
-        range_line(work, o, f, base, pitch);
-        1
+        let e = gather_y(work, o, t, a, b, pitch);
+        keep(work, &e, 0, base, pitch)
     } else {
-        range_line(work, o, forms::turn(f), base, pitch);
-        2
+        let e = gather_x(work, o, t, a, b, pitch);
+        keep(work, &e, 1, base, pitch)
+    }
+}
+
+// The same of two forms that both stand exchanged, or are lines.
+fn range_turned(
+    work: &mut [u8],
+    o: Op,
+    t: Op,
+    a: Form,
+    b: Form,
+    v: u8,
+    base: usize,
+    pitch: usize,
+) -> u8
+    requires { ⌜ Plane (now work) pitch base ⌝ }
+    requires { ⌜ Paired (now work) pitch (turned a) (turned b) ⌝ }
+    requires { ⌜ Quantifies o × Quantifies t ⌝ }
+    ensures { λ r. ⌜ Stands (ranged o (varOf v) t a b (now (work .entry)) pitch) r pitch base (now (work .entry)) (now (work .exit)) ⌝ }
+{
+    if v == 0 {
+        let e = gather_y(work, o, t, forms::turn(a), forms::turn(b), pitch);
+        keep(work, &e, 1, base, pitch)
+    } else {
+        let e = gather_x(work, o, t, forms::turn(a), forms::turn(b), pitch);
+        keep(work, &e, 0, base, pitch)
+    }
+}
+
+// SOME, ALL: the operation t on two forms with v running over every state, by Or and by And, stands at base; answers the code
+// of its form. The operation on the forms itself is not laid.
+pub fn range(
+    work: &mut [u8],
+    o: Op,
+    t: Op,
+    a: Form,
+    b: Form,
+    v: u8,
+    base: usize,
+    pitch: usize,
+) -> u8
+    requires { ⌜ Plane (now work) pitch base ⌝ }
+    requires { ⌜ Source (now work) pitch base (place a) ⌝ }
+    requires { ⌜ Source (now work) pitch base (place b) ⌝ }
+    requires { ⌜ Quantifies o × Quantifies t ⌝ }
+    ensures { λ r. ⌜ Stands (ranged o (varOf v) t a b (now (work .entry)) pitch) r pitch base (now (work .entry)) (now (work .exit)) ⌝ }
+{
+    let way = forms::pairing(a, b);
+    match way {
+        Way::OverX => range_lines(work, o, t, a, b, v, base, pitch),
+        Way::OverY => range_lines(work, o, t, a, b, v, base, pitch),
+        Way::Straight => range_lines(work, o, t, a, b, v, base, pitch),
+        Way::Exchanged => range_turned(work, o, t, a, b, v, base, pitch),
+        Way::FirstTurned => {
+            exchange::exchange(work, forms::start(a), base, pitch);
+            range_lines(work, o, t, Form::Both(base), b, v, base, pitch)
+        }
+        Way::SecondTurned => {
+            exchange::exchange(work, forms::start(b), base, pitch);
+            range_lines(work, o, t, a, Form::Both(base), v, base, pitch)
+        }
     }
 }
 

@@ -1,6 +1,6 @@
 -- Nodes worked out one after the other.
-use mathlib.Core.Path.{_≡_, refl, sym, ap, subst, _∙_}
-use mathlib.Core.Bool.{Bool}
+use mathlib.Core.Path.{_≡_, refl, sym, ap, ap₂, subst, _∙_}
+use mathlib.Core.Bool.{Bool, false, false≢true}
 use mathlib.Core.List.{List, []}
 use mathlib.Core.Logic.{_↔_, _⊎_, inl, inr, ⊎-elim}
 use Prim.Native.Nat.{ℕ, _+_, _-_, _*_, _≤_, _<_}
@@ -11,7 +11,8 @@ use lib.Seq.{getD-drop, getD-set-same, getD-set-other}
 use Rattle.planes.specs.Plane.{On, planeSize}
 use Rattle.planes.specs.Laws.Lines.{no-byte, plane-kept}
 use Rattle.records.specs.Record.{Rec, Net, at}
-use Rattle.records.specs.Policy.{Formula, nodeKind, nodeSays, firstNodes, formula}
+use Rattle.records.specs.Policy.{Formula, nodeKind, nodeSays, varOf, firstNodes, formula}
+use Rattle.records.specs.Policy.Formula.{AND, OR, SOME, ALL}
 use Rattle.records.specs.Laws.Records.{length-records, byte-of}
 use Rattle.rows.specs.Laws.Formulas.{first-formula}
 use Rattle.closure.specs.Laws.Walks.{map-walk}
@@ -20,9 +21,9 @@ use Rattle.nodes.specs.declared.node.Node.{Node}
 use Rattle.nodes.specs.Shapes.{Outside, Plane}
 use Rattle.nodes.specs.Forms.{place, formOf, Reached}
 use Rattle.nodes.specs.Laws.Forms.{code-place, code-plane, tests-kept}
-use Rattle.nodes.specs.Node.{planeAt, arity, Operand, formAt, modelAt, Shows, Makeable, NodeMade}
-use Rattle.nodes.specs.Laws.NodePlanes.{plane-before, plane-after}
-use Rattle.verdict.specs.Evaluated.{nodesAt, NodeAt, PolicyReady, Asked, Worked, Given, Settled}
+use Rattle.nodes.specs.Node.{planeAt, arity, Operand, formAt, modelAt, Shows, Makeable, FormMade, Over}
+use Rattle.nodes.specs.Laws.NodePlanes.{plane-before, plane-after, inner-first, inner-second}
+use Rattle.verdict.specs.Evaluated.{nodesAt, NodeAt, PolicyReady, Asked, Worked, Given, Settled, NodeSettled, OverSettled}
 use Rattle.verdict.specs.Laws.Same.{SameModel, same-truth}
 
 -- two buffers with the same first two planes give the same model, and the second plane is the closure of the first in both
@@ -66,10 +67,10 @@ shows-kept m pitch form a b f h S = record {
 }
 
 -- node k was made, and its code is stored
-pub with-code : (codes : List ℕ) (n : Node) (k pitch : ℕ) (ext before : List ℕ) (code : ℕ) (after : List ℕ) → k < length codes
-    → NodeMade codes (n .kind) (n .a) (n .b) k pitch ext before code after → Settled codes n k pitch ext before (set codes k code) after
-with-code codes n k pitch ext before code after h M = record {
-  made = subst (λ (v : ℕ). NodeMade codes (n .kind) (n .a) (n .b) k pitch ext before v after) (sym (getD-set-same codes k code 0 h)) M;
+pub with-code : (Of : ℕ → Type 0) (says : (ℕ → Formula) → Formula) (codes : List ℕ) (k pitch : ℕ) (ext before : List ℕ) (code : ℕ) (after : List ℕ) → k < length codes
+    → FormMade Of says codes k pitch ext before code after → Settled Of says codes k pitch ext before (set codes k code) after
+with-code Of says codes k pitch ext before code after h M = record {
+  made = subst (λ (v : ℕ). FormMade Of says codes k pitch ext before v after) (sym (getD-set-same codes k code 0 h)) M;
   others = λ j ne. getD-set-other codes k j code 0 ne;
 }
 
@@ -173,24 +174,25 @@ module _ (store : List ℕ) (start count : ℕ) (ext : List ℕ) (closed : Bool)
       reached = λ t. still-reached pitch ext work b (W .planes) (A .ready .reached t);
     }
 
-    says-own : nodeSays (nodeKind (n .kind)) (n .a) (n .b) (firstNodes nodes k) ≡ formula nodes k
+    pub says-own : nodeSays (nodeKind (n .kind)) (n .a) (n .b) (firstNodes nodes k) ≡ formula nodes k
     unfolding formula
     says-own = rw (kind-own, first-own, second-own)
 
-    -- the node is made of its operands, which are made
-    module _ (m1 m2 b c : List ℕ) (W : Worked nodes pitch ext m0 work m1 b) (O : OperandsMade n (N .operands) m1) (S : Settled m1 n k pitch ext b m2 c) where
-      M : NodeMade m1 (n .kind) (n .a) (n .b) k pitch ext b (getD m2 k 0) c
+  -- the node is made of earlier nodes `Of`, which are made
+  module _ (Of : ℕ → Type 0) (says : (ℕ → Formula) → Formula) (earlier : (j : ℕ) → Of j → j < k) (own-says : says (firstNodes nodes k) ≡ formula nodes k) where
+    module _ (m1 m2 b c : List ℕ) (W : Worked nodes pitch ext m0 work m1 b) (O : (j : ℕ) → Of j → 0 < getD m1 j 0) (S : Settled Of says m1 k pitch ext b m2 c) where
+      M : FormMade Of says m1 k pitch ext b (getD m2 k 0) c
       M = S .made
 
-      operand-shows : (j : ℕ) → Operand (nodeKind (n .kind)) (n .a) (n .b) j → Shows (modelAt pitch ext b) pitch (formAt m1 pitch j) b (firstNodes nodes k j)
+      operand-shows : (j : ℕ) → Of j → Shows (modelAt pitch ext b) pitch (formAt m1 pitch j) b (firstNodes nodes k j)
       operand-shows j o =
-          let h = operand-earlier j o in
+          let h = earlier j o in
           subst (λ (f : Formula). Shows (modelAt pitch ext b) pitch (formAt m1 pitch j) b f) (sym (first-formula nodes k j h))
           (shows-in pitch ext work b (W .planes) _ _ _ (W .held j (omega (arith, h, A .inside, many)) (O j o)))
 
       own-shows : Shows (modelAt pitch ext work) pitch (formAt m2 pitch k) c (formula nodes k)
       own-shows =
-          subst (λ (f : Formula). Shows (modelAt pitch ext work) pitch (formAt m2 pitch k) c f) says-own
+          subst (λ (f : Formula). Shows (modelAt pitch ext work) pitch (formAt m2 pitch k) c f) own-says
           (shows-in pitch ext b work (λ m h. sym (W .planes m h)) _ _ _ (M .shows (firstNodes nodes k) operand-shows))
 
       -- the plane of another node, and the first two
@@ -220,8 +222,8 @@ module _ (store : List ℕ) (start count : ℕ) (ext : List ℕ) (closed : Bool)
       still-made j h (yes e) = subst (λ (i : ℕ). 0 < getD m2 i 0) (sym e) (M .named)
       still-made j h (no e) = subst (λ (v : ℕ). 0 < v) (sym (S .others j e)) h
 
-      pub settled : Given nodes pitch ext k m0 work m2 c
-      settled = record {
+      made-of : Given nodes pitch ext k m0 work m2 c
+      made-of = record {
         worked = record {
           len = M .len ∙ W .len;
           kept = λ j h. still-made j (W .kept j h) (ℕ-discrete j k);
@@ -233,3 +235,68 @@ module _ (store : List ℕ) (start count : ℕ) (ext : List ℕ) (closed : Bool)
         };
         made = M .named;
       }
+
+  -- of its operands
+  module _ (n : Node) (N : NodeAt store (start + k) n) (m1 m2 b c : List ℕ) (W : Worked nodes pitch ext m0 work m1 b) where
+    pub settled : OperandsMade n (N .operands) m1 → NodeSettled m1 n k pitch ext b m2 c → Given nodes pitch ext k m0 work m2 c
+    settled O S =
+        made-of (Operand (nodeKind (n .kind)) (n .a) (n .b)) (nodeSays (nodeKind (n .kind)) (n .a) (n .b)) (operand-earlier n N) (says-own n N) m1 m2 b c W O S
+
+-- what an AND or OR says of the same operands, and a SOME or ALL of the same operand
+joins-same : (kind a b : ℕ) (f g : ℕ → Formula) → (kind ≡ 4) ⊎ (kind ≡ 5) → f a ≡ g a → f b ≡ g b → nodeSays (nodeKind kind) a b f ≡ nodeSays (nodeKind kind) a b g
+unfolding nodeKind nodeSays
+joins-same kind a b f g (inl e) p q = rw e (ap₂ AND p q)
+joins-same kind a b f g (inr e) p q = rw e (ap₂ OR p q)
+
+ranges-same : (kind a v : ℕ) (f : ℕ → Formula) (g : Formula) → (kind ≡ 6) ⊎ (kind ≡ 7) → g ≡ f a → nodeSays (nodeKind kind) 0 v (λ j. g) ≡ nodeSays (nodeKind kind) a v f
+unfolding nodeKind nodeSays
+ranges-same kind a v f g (inl e) p = rw e (ap (λ (h : Formula). SOME h (varOf v)) p)
+ranges-same kind a v f g (inr e) p = rw e (ap (λ (h : Formula). ALL h (varOf v)) p)
+
+ranges-one : (kind : ℕ) → (kind ≡ 6) ⊎ (kind ≡ 7) → arity (nodeKind kind) ≡ 1
+unfolding nodeKind
+ranges-one kind (inl e) = rw e
+ranges-one kind (inr e) = rw e
+
+-- a SOME or ALL over an AND or OR, m, that is passed over
+module _ (store : List ℕ) (start count : ℕ) (ext : List ℕ) (closed : Bool) (work : List ℕ) (pitch k : ℕ) (m0 : List ℕ) (A : Asked store start count ext closed work pitch k m0) (n : Node) (N : NodeAt store (start + k) n) (m : Node) (M : NodeAt store (start + n .a) m) (O : Over (n .kind) (m .kind)) where
+  below : n .a < k
+  below = operand-earlier store start count ext closed work pitch k m0 A n N (n .a) (inl (omega (arith, ranges-one (n .kind) (O .ranges)), refl))
+
+  ask-inner : Asked store start count ext closed work pitch (n .a) m0
+  ask-inner = ask store start count ext closed work pitch k m0 A m0 (n .a) work (worked-none store start count ext closed work pitch k m0 A) below
+
+  inner-below : (j : ℕ) → Operand (nodeKind (m .kind)) (m .a) (m .b) j → j < n .a
+  inner-below = operand-earlier store start count ext closed work pitch (n .a) m0 ask-inner m M
+
+  pub inner-earlier : (j : ℕ) → Operand (nodeKind (m .kind)) (m .a) (m .b) j → j < k
+  inner-earlier j o = omega (arith, inner-below j o, below)
+
+  pub over-makeable : (m1 b : List ℕ) → Worked (nodesAt store start count) pitch ext m0 work m1 b → Makeable (m .kind) (m .a) (m .b) k pitch false b
+  over-makeable m1 b W =
+      let L = makeable store start count ext closed work pitch k m0 A n N m1 b W in
+      record {
+        few = L .few;
+        small = L .small;
+        within = L .within;
+        earlier = inner-earlier;
+        bits = λ z. ⊎-elim (λ e. absurd (omega (arith, e))) (λ e. absurd (omega (arith, e))) (O .joins);
+        reached = λ t. absurd (false≢true t);
+      }
+
+  over-says : nodeSays (nodeKind (n .kind)) 0 (n .b) (λ j. nodeSays (nodeKind (m .kind)) (m .a) (m .b) (firstNodes (nodesAt store start count) k)) ≡ formula (nodesAt store start count) k
+  over-says =
+      let nodes = nodesAt store start count in
+      ranges-same (n .kind) (n .a) (n .b) (firstNodes nodes k) (nodeSays (nodeKind (m .kind)) (m .a) (m .b) (firstNodes nodes k)) (O .ranges)
+      (joins-same (m .kind) (m .a) (m .b) (firstNodes nodes k) (firstNodes nodes (n .a)) (O .joins) (both (m .a) (inner-first (n .kind) (m .kind) (m .a) (m .b) O)) (both (m .b) (inner-second (n .kind) (m .kind) (m .a) (m .b) O))
+      ∙ says-own store start count ext closed work pitch (n .a) m0 ask-inner m M
+      ∙ sym (first-formula nodes k (n .a) below))
+      ∙ says-own store start count ext closed work pitch k m0 A n N
+    where
+      both : (j : ℕ) → Operand (nodeKind (m .kind)) (m .a) (m .b) j → firstNodes (nodesAt store start count) k j ≡ firstNodes (nodesAt store start count) (n .a) j
+      both j o = first-formula (nodesAt store start count) k j (inner-earlier j o) ∙ sym (first-formula (nodesAt store start count) (n .a) j (inner-below j o))
+
+  pub over-settled : (m1 m2 b c : List ℕ) → Worked (nodesAt store start count) pitch ext m0 work m1 b → OperandsMade m (M .operands) m1 → OverSettled m1 n m k pitch ext b m2 c
+      → Given (nodesAt store start count) pitch ext k m0 work m2 c
+  over-settled m1 m2 b c W P S =
+      made-of store start count ext closed work pitch k m0 A (Operand (nodeKind (m .kind)) (m .a) (m .b)) (λ operand. nodeSays (nodeKind (n .kind)) 0 (n .b) (λ j. nodeSays (nodeKind (m .kind)) (m .a) (m .b) operand)) inner-earlier over-says m1 m2 b c W P S

@@ -6,10 +6,10 @@ use mathlib.Core.Option.{Option, none, some}
 use Prim.Native.Nat.{ℕ, _+_, _-_, _*_, _≤_, _<_}
 use lib.ListN.{length, getD, drop}
 use Rattle.records.specs.Record.{Rec, Net, at, records, mostNodes}
-use Rattle.records.specs.Policy.{Formula, nodeKind, formula}
+use Rattle.records.specs.Policy.{Formula, nodeKind, nodeSays, formula}
 use Rattle.truth.specs.Truth.{Model, Truth}
 use Rattle.nodes.specs.Forms.{Reached}
-use Rattle.nodes.specs.Node.{planeAt, arity, Operand, formAt, modelAt, Shows, NodeMade}
+use Rattle.nodes.specs.Node.{planeAt, arity, Operand, formAt, modelAt, Shows, FormMade}
 use Rattle.nodes.specs.declared.node.Node.{Node}
 use Rattle.verdict.specs.declared.policy.Offender.{Offender}
 use Rattle.verdict.specs.declared.policy.Offender.the-variants.{State, None}
@@ -68,10 +68,20 @@ pub record Given (nodes : Net) (pitch : ℕ) (ext : List ℕ) (k : ℕ) (codes b
   pub worked : Worked nodes pitch ext codes before codes′ after
   pub made : 0 < getD codes′ k 0
 
--- node k was made, and has a code; every other code is as before
-pub record Settled (codes : List ℕ) (n : Node) (k pitch : ℕ) (ext before codes′ after : List ℕ) : Type 0 where
-  pub made : NodeMade codes (n .kind) (n .a) (n .b) k pitch ext before (getD codes′ k 0) after
+-- node k was made of the nodes `Of`, and has a code; every other code is as before
+pub record Settled (Of : ℕ → Type 0) (says : (ℕ → Formula) → Formula) (codes : List ℕ) (k pitch : ℕ) (ext before codes′ after : List ℕ) : Type 0 where
+  pub made : FormMade Of says codes k pitch ext before (getD codes′ k 0) after
   pub others : (j : ℕ) → (j ≡ k → ⊥) → getD codes′ j 0 ≡ getD codes j 0
+
+-- node k was made of its operands
+abbrev pub NodeSettled : List ℕ → Node → ℕ → ℕ → List ℕ → List ℕ → List ℕ → List ℕ → Type 0
+NodeSettled codes n k pitch ext before codes′ after =
+    Settled (Operand (nodeKind (n .kind)) (n .a) (n .b)) (nodeSays (nodeKind (n .kind)) (n .a) (n .b)) codes k pitch ext before codes′ after
+
+-- node k, a SOME or ALL, was made of the operands of the AND or OR below it
+abbrev pub OverSettled : List ℕ → Node → Node → ℕ → ℕ → List ℕ → List ℕ → List ℕ → List ℕ → Type 0
+OverSettled codes n m k pitch ext before codes′ after =
+    Settled (Operand (nodeKind (m .kind)) (m .a) (m .b)) (λ operand. nodeSays (nodeKind (n .kind)) 0 (n .b) (λ j. nodeSays (nodeKind (m .kind)) (m .a) (m .b) operand)) codes k pitch ext before codes′ after
 
 -- the state that an answer names
 abbrev pub stateOf : Offender → Option ℕ

@@ -1,10 +1,12 @@
 // The nodes of a policy, worked out by recursion on operands, and the lowest state that breaks it.
 ghost use mathlib.Core.Path.{_≡_};
-ghost use Prim.Native.Nat.{_+_, _*_, _≤_, _<_};
+ghost use mathlib.Core.Bool.{true, false};
+ghost use mathlib.Core.List.{List};
+ghost use Prim.Native.Nat.{ℕ, _+_, _*_, _≤_, _<_};
 ghost use lib.ListN.{length};
-ghost use Rattle.nodes.specs.Node.{formAt, Makeable};
+ghost use Rattle.nodes.specs.Node.{formAt, Makeable, Over};
 ghost use Rattle.nodes.specs.Forms.{tests, place};
-ghost use Rattle.verdict.specs.Evaluated.{nodesAt, NodeAt, PolicyReady, Asked, Given, Settled, stateOf, Tested};
+ghost use Rattle.verdict.specs.Evaluated.{nodesAt, NodeAt, PolicyReady, Asked, Given, NodeSettled, OverSettled, stateOf, Tested};
 ghost use Rattle.verdict.specs.Computed.{firstFrom};
 ghost use Rattle.nodes.specs.Shapes.{Plane};
 use nodes::forms;
@@ -43,13 +45,36 @@ fn settle(
     codes: &mut [u8; 32],
 )
     requires { ⌜ Makeable (n .kind) (n .a) (n .b) k pitch closed (now work) ⌝ }
-    ensures { λ _. ⌜ Settled (now (codes .entry)) n k pitch (now (ext .entry)) (now (work .entry)) (now (codes .exit)) (now (work .exit)) ⌝ }
+    ensures { λ _. ⌜ NodeSettled (now (codes .entry)) n k pitch (now (ext .entry)) (now (work .entry)) (now (codes .exit)) (now (work .exit)) ⌝ }
 {
     let code = node::make(work, ext, closed, codes, n.kind, n.a, n.b, k, pitch);
     codes[k] = code;
 }
 
-// Works out node k of a policy, its operands first, unless it is made, and keeps the codes of their forms.
+// Makes node k, a SOME or ALL, of the operands of m, the AND or OR below it, and keeps the code of its form.
+fn settle_over(work: &mut [u8], n: Node, m: Node, pitch: usize, k: usize, codes: &mut [u8; 32])
+    requires { ⌜ Makeable (m .kind) (m .a) (m .b) k pitch false (now work) ⌝ }
+    requires { ⌜ Over (n .kind) (m .kind) ⌝ }
+    ensures { λ _. ⌜ ((ext : List ℕ) → OverSettled (now (codes .entry)) n m k pitch ext (now (work .entry)) (now (codes .exit)) (now (work .exit))) ⌝ }
+{
+    let code = node::make_over(work, codes, n.kind, n.b, m.kind, m.a, m.b, k, pitch);
+    codes[k] = code;
+}
+
+// Whether n is a SOME or ALL over m, its operand, an AND or OR that is not made: then m need not be.
+fn passes_over(codes: &[u8; 32], n: Node, m: Node) -> bool
+    requires { ⌜ n .a < 32 ⌝ }
+    ensures { λ r. ⌜ (r ≡ true → Over (n .kind) (m .kind)) ⌝ }
+{
+    let a = n.a as usize;
+    if codes[a] != 0 {
+        return false;
+    }
+    node::over(n.kind, m.kind)
+}
+
+// Works out node k of a policy, its operands first, unless it is made, and keeps the codes of their forms. The AND or OR below a
+// SOME or ALL is passed over, and its operands are worked out instead.
 fn eval(
     store: &[u8],
     start: usize,
@@ -73,8 +98,18 @@ fn eval(
         0 => settle(work, ext, closed, n, pitch, k, codes),
         1 => {
             let a = n.a as usize;
-            eval(store, start, count, ext, closed, work, pitch, a, codes);
-            settle(work, ext, closed, n, pitch, k, codes);
+            let m = node_at(store, start + a);
+            let over = passes_over(codes, n, m);
+            if over {
+                let p = m.a as usize;
+                let q = m.b as usize;
+                eval(store, start, count, ext, closed, work, pitch, p, codes);
+                eval(store, start, count, ext, closed, work, pitch, q, codes);
+                settle_over(work, n, m, pitch, k, codes);
+            } else {
+                eval(store, start, count, ext, closed, work, pitch, a, codes);
+                settle(work, ext, closed, n, pitch, k, codes);
+            }
         }
         2..=255 => {
             let a = n.a as usize;

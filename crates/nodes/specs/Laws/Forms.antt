@@ -124,10 +124,6 @@ laid-lined f g pitch base a b L is = record {
   rest = λ m o. ⊎-elim (λ h. L .under m h) (λ h. L .over m (omega (arith, line-small pitch))) o;
 }
 
--- what it tests may be said in other words
-pub lined-as : (f g : ℕ → Bool) (n pitch base : ℕ) (a b : List ℕ) → ((z : ℕ) → z < n → f z ≡ g z) → Lined f n pitch base a b → Lined g n pitch base a b
-lined-as f g n pitch base a b h L = record { len = L .len; here = λ z hz. L .here z hz ∙ h z hz; rest = L .rest }
-
 pub put-lined : (e : List ℕ) (pitch base : ℕ) (a b : List ℕ) → Put e base pitch a b → Lined (bit e) (pitch * 8) pitch base a b
 unfolding bit
 put-lined e pitch base a b P = laid-lined (λ j. getD e j 0) (bit e) pitch base a b P (λ z h. refl)
@@ -250,11 +246,14 @@ module _ (p pitch base : ℕ) (a m : List ℕ) (E : Made (λ x y. cell a p pitch
   pub other-same : (g : Form) → Source a pitch base (place g) → (x y : ℕ) → x < pitch * 8 → y < pitch * 8 → tests g m pitch x y ≡ tests g a pitch x y
   other-same g S = tests-kept pitch a m g (λ n lo hi. ⊎-elim (λ q. E .under n (omega arith)) (λ q. E .over n (omega arith)) (S .apart))
 
-  pub then-made : (h g : ℕ → ℕ → Bool) (b : List ℕ) → ((x y : ℕ) → x < pitch * 8 → y < pitch * 8 → h x y ≡ g x y) → Made h pitch base (pitch * 8) m b → Stands g 3 pitch base a b
-  unfolding formOf
-  then-made h g b e M = record {
-    len = M .len ∙ E .len;
-    named = omega arith;
-    here = λ x y hx hy. M .here x y hx hy ∙ e x y hx hy;
-    rest = λ n o. beside-plane h pitch base m b M n o ∙ beside-plane (λ x y. cell a p pitch y x) pitch base a m E n o;
+  pub then-stands : (h g : ℕ → ℕ → Bool) (code : ℕ) (b : List ℕ) → ((x y : ℕ) → x < pitch * 8 → y < pitch * 8 → h x y ≡ g x y) → Stands h code pitch base m b
+      → Stands g code pitch base a b
+  then-stands h g code b e S = record {
+    len = S .len ∙ E .len;
+    named = S .named;
+    here = λ x y hx hy. S .here x y hx hy ∙ e x y hx hy;
+    rest = λ n o. S .rest n o ∙ beside-plane (λ x y. cell a p pitch y x) pitch base a m E n o;
   }
+
+  pub then-made : (h g : ℕ → ℕ → Bool) (b : List ℕ) → ((x y : ℕ) → x < pitch * 8 → y < pitch * 8 → h x y ≡ g x y) → Made h pitch base (pitch * 8) m b → Stands g 3 pitch base a b
+  then-made h g b e M = then-stands h g 3 b e (made-straight h pitch base m b M)

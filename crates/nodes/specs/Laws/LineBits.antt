@@ -1,5 +1,5 @@
--- Operations on the bits of a byte; a line and a byte that are made bit by bit.
-use mathlib.Core.Path.{_≡_, refl, sym, ap, ap₂, _∙_}
+-- Operations on the bits of a byte; a line that is made bit by bit.
+use mathlib.Core.Path.{_≡_, refl, sym, ap, _∙_}
 use mathlib.Core.Bool.{Bool, true, false, not, _||_, or-true, or-false}
 use mathlib.Core.List.{List}
 use mathlib.Core.Logic.{_⊎_, inl, inr}
@@ -7,7 +7,7 @@ use Prim.Native.Nat.{ℕ, zero, suc, _+_, _-_, _*_, _/_, _%_, _^_, _≤_, _<_}
 use native.Mathlib.Nat.{not-suc-le-zero, le-of-suc-le-suc}
 use native.Mathlib.Omega.{arith}
 use borrow.Author.Count.{below-more}
-use borrow.Author.Tests.{eqb-true, eq-eqb, ne-eqb}
+use borrow.Author.Tests.{eqb-true}
 use lib.Dec.{eqb}
 use lib.ListN.{length, getD, set, replicate}
 use lib.Seq.{set-getD}
@@ -15,7 +15,7 @@ use lib.Bits.{bitOr, bitXor, xor-shr, xor-mod, or-zero-r}
 use Rattle.planes.specs.Bit.{bitOf}
 use Rattle.planes.specs.Plane.{bit}
 use Rattle.planes.specs.Laws.Lines.{no-bit}
-use Rattle.planes.specs.Laws.Bits.{bit-and, bit-or, bit-not, bit-zero, bit-block, bit-high, bit-power, digit-cases}
+use Rattle.planes.specs.Laws.Bits.{bit-and, bit-or, bit-not, bit-zero, bit-block, bit-high, digit-cases}
 use Rattle.planes.proofs.StoredBit.{bit-set}
 use Rattle.nodes.specs.declared.lines.Op.{Op}
 use Rattle.nodes.specs.declared.lines.Op.the-variants.{Not, And, Or}
@@ -105,31 +105,3 @@ pushed r z false h =
     let e : set r (z / 8) (bitOr (getD r (z / 8) 0) 0) ≡ r =
     ap (λ (b : ℕ). set r (z / 8) b) (or-zero-r (getD r (z / 8) 0)) ∙ set-getD r (z / 8) 0 in
     record { here = ap (λ (l : List ℕ). bit l z) e ∙ sym (or-false (bit r z)); others = λ m n. ap (λ (l : List ℕ). bit l m) e }
-
--- the first i bits of a byte are f, and the others are not set
-pub record BitsUpto (f : ℕ → Bool) (i r : ℕ) : Type 0 where
-  pub done : (k : ℕ) → k < i → bitOf r k ≡ f k
-  pub blank : (k : ℕ) → i ≤ k → bitOf r k ≡ false
-
-pub bits-upto-none : (f : ℕ → Bool) → BitsUpto f 0 0
-bits-upto-none f = record { done = λ k h. absurd (not-suc-le-zero h); blank = λ k h. bit-zero k }
-
-weight-bit : (t : Bool) (i : ℕ) → bitOf (weightIf t i) i ≡ t
-weight-bit true i = bit-power i i ∙ eq-eqb i i refl
-weight-bit false i = bit-zero i
-
-weight-other : (t : Bool) (i k : ℕ) → (k ≡ i → ⊥) → bitOf (weightIf t i) k ≡ false
-weight-other true i k n = bit-power i k ∙ ne-eqb k i n
-weight-other false i k n = bit-zero k
-
--- one more bit
-pub bits-upto-more : (f : ℕ → Bool) (i r w : ℕ) (t : Bool) → BitsUpto f i r → w ≡ weightIf t i → t ≡ f i → BitsUpto f (i + 1) (bitOr r w)
-bits-upto-more f i r w t F e q = record {
-  done = below-more (λ (k : ℕ). bitOf (bitOr r w) k ≡ f k) i
-      (λ k h. other k (λ s. omega arith) ∙ F .done k h)
-      (bit-or r w i ∙ ap₂ (λ (a b : Bool). a || b) (F .blank i (omega arith)) (ap (λ (v : ℕ). bitOf v i) e ∙ weight-bit t i) ∙ q);
-  blank = λ k h. other k (λ s. omega arith) ∙ F .blank k (omega arith);
-}
-  where
-    other : (k : ℕ) → (k ≡ i → ⊥) → bitOf (bitOr r w) k ≡ bitOf r k
-    other k n = bit-or r w k ∙ ap (λ (b : Bool). bitOf r k || b) (ap (λ (v : ℕ). bitOf v k) e ∙ weight-other t i k n) ∙ or-false (bitOf r k)

@@ -14,11 +14,11 @@ use Rattle.planes.specs.Laws.Places.{line-before}
 use Rattle.planes.specs.Laws.Lines.{no-bit}
 use Rattle.records.specs.Policy.{Formula, kBIT, kR, kE, kNOT, kAND, kOR, kSOME, kALL, kTC, kNone, nodeKind, nodeSays, varOf}
 use Rattle.closure.specs.Laws.Walks.{map-walk}
-use Rattle.nodes.specs.declared.lines.Op.the-variants.{And, Or}
-use Rattle.truth.specs.Truth.{value, withX, withY, Truth}
-use Rattle.nodes.specs.Shapes.{over, Plane, Source}
-use Rattle.nodes.specs.Forms.{tests, place, formOf, ranged, arranged, Stands, Reaches}
-use Rattle.nodes.specs.Node.{planeAt, arity, Operand, formAt, modelAt, Shows, Makeable, NodeMade}
+use Rattle.nodes.specs.declared.lines.Op.the-variants.{Not, And, Or}
+use Rattle.truth.specs.Truth.{Model, value, withX, withY, Truth}
+use Rattle.nodes.specs.Shapes.{opBool, over, Quantifies, Plane, Source}
+use Rattle.nodes.specs.Forms.{tests, place, formOf, joined, ranged, arranged, Stands, Reaches}
+use Rattle.nodes.specs.Node.{planeAt, arity, Operand, formAt, modelAt, Shows, Makeable, FormMade, NodeMade, OverMade, opOf, Over}
 use Rattle.nodes.specs.Laws.Forms.{code-place, stands-as}
 use Rattle.truth.specs.Laws.Tables.{not-iff, withX-lt, withY-lt, any-iff, all-iff}
 
@@ -44,6 +44,10 @@ and-says false q e f = (λ t. absurd (false≢true t), λ t. e .1 (t .0))
 or-says : {P Q : Type 0} (p q : Bool) → p ≡ true ↔ P → q ≡ true ↔ Q → (p || q) ≡ true ↔ (P ⊎ Q)
 or-says true q e f = (λ t. inl (e .0 refl), λ t. refl)
 or-says false q e f = (λ t. inr (f .0 t), λ t. ⊎-elim (λ u. absurd (false≢true (e .1 u))) (λ u. f .1 u) t)
+
+self-says : {P : Type 0} (p : Bool) → p ≡ true ↔ P → (p || p) ≡ true ↔ P
+self-says true e = e
+self-says false e = e
 
 some-says : {P : ℕ → Type 0} (n : ℕ) (g : ℕ → Bool) → ((z : ℕ) → z < n → g z ≡ true ↔ P z) → over Or n g ≡ true ↔ ((z : ℕ) × (z < n) × P z)
 unfolding over
@@ -89,6 +93,85 @@ module _ (kind a b k pitch : ℕ) (closed : Bool) (work : List ℕ) (M : Makeabl
         → Source work pitch (planeAt pitch k) (place (formAt codes pitch a)) × Source work pitch (planeAt pitch k) (place (formAt codes pitch b))
     operand-sources n e h = (operand-source a (first-operand kind a b n e (omega arith)), operand-source b (second-operand kind a b n e h))
 
+-- a form that tests f, which is what is said of the nodes `Of`
+form-made : (Of : ℕ → Type 0) (says : (ℕ → Formula) → Formula) (codes : List ℕ) (k pitch : ℕ) (ext work : List ℕ) (f : ℕ → ℕ → Bool) (code : ℕ) (after : List ℕ)
+    → Stands f code pitch (planeAt pitch k) work after
+    → ((operand : ℕ → Formula)
+    → ((j : ℕ) → Of j → Shows (modelAt pitch ext work) pitch (formAt codes pitch j) work (operand j))
+    → (x y : ℕ) → x < pitch * 8 → y < pitch * 8 → f x y ≡ true ↔ Truth (modelAt pitch ext work) (says operand) x y)
+    → FormMade Of says codes k pitch ext work code after
+form-made Of says codes k pitch ext work f code after P s = record {
+  len = P .len;
+  named = P .named;
+  shows = λ operand g. record {
+    at = λ x y hx hy.
+        let i = s operand g x y hx hy in
+        let e = P .here x y hx hy in
+        (λ t. i .0 (sym e ∙ t), λ t. e ∙ i .1 t);
+  };
+  rest = P .rest;
+}
+
+-- what a SOME or ALL says, by what is below it
+range-says : (m : Model) (kind v : ℕ) (g : ℕ → ℕ → Bool) (f : Formula) → (kind ≡ 6) ⊎ (kind ≡ 7)
+    → ((x y : ℕ) → x < m .count → y < m .count → g x y ≡ true ↔ Truth m f x y) → (x y : ℕ) → x < m .count → y < m .count
+    → over (opOf kind) (m .count) (λ z. g (withX (varOf v) z x) (withY (varOf v) z y)) ≡ true ↔ Truth m (nodeSays (nodeKind kind) 0 v (λ j. f)) x y
+unfolding nodeKind nodeSays Truth opOf
+range-says m kind v g f (inl e) s x y hx hy =
+    rw e (some-says (m .count) _ (λ z hz. s (withX (varOf v) z x) (withY (varOf v) z y) (withX-lt (varOf v) hz hx) (withY-lt (varOf v) hz hy)))
+range-says m kind v g f (inr e) s x y hx hy =
+    rw e (all-says (m .count) _ (λ z hz. s (withX (varOf v) z x) (withY (varOf v) z y) (withX-lt (varOf v) hz hx) (withY-lt (varOf v) hz hy)))
+
+-- what an AND or OR says, by its operands
+join-says : (m : Model) (kind a b : ℕ) (p q : Bool) (operand : ℕ → Formula) (x y : ℕ) → (kind ≡ 4) ⊎ (kind ≡ 5)
+    → p ≡ true ↔ Truth m (operand a) x y → q ≡ true ↔ Truth m (operand b) x y → opBool (opOf kind) p q ≡ true ↔ Truth m (nodeSays (nodeKind kind) a b operand) x y
+unfolding nodeKind nodeSays Truth opOf
+join-says m kind a b p q operand x y (inl e) s t = rw e (and-says p q s t)
+join-says m kind a b p q operand x y (inr e) s t = rw e (or-says p q s t)
+
+-- kinds of no operation
+pub op-low : (kind : ℕ) → kind ≤ 3 → Not ≡ opOf kind
+unfolding opOf
+op-low zero h = refl
+op-low (suc zero) h = refl
+op-low (suc (suc zero)) h = refl
+op-low (suc (suc (suc zero))) h = refl
+op-low (suc (suc (suc (suc k)))) h = absurd (omega arith)
+
+pub op-beyond : (kind : ℕ) → 8 ≤ kind → Not ≡ opOf kind
+unfolding opOf
+op-beyond kind h = sym (List·getD-eq-default (Not ∷ Not ∷ Not ∷ Not ∷ And ∷ Or ∷ Or ∷ And ∷ []) Not h)
+
+-- the operations of their kinds
+pub over-ops : (kind inner : ℕ) → Over kind inner → Quantifies (opOf kind) × Quantifies (opOf inner)
+unfolding opOf
+over-ops kind inner O = (⊎-elim (λ e. rw e tt) (λ e. rw e tt) (O .ranges), ⊎-elim (λ e. rw e tt) (λ e. rw e tt) (O .joins))
+
+joins-arity : (inner : ℕ) → (inner ≡ 4) ⊎ (inner ≡ 5) → arity (nodeKind inner) ≡ 2
+unfolding nodeKind
+joins-arity inner (inl e) = rw e
+joins-arity inner (inr e) = rw e
+
+-- the operands of an AND or OR
+module _ (kind inner a b : ℕ) (O : Over kind inner) where
+  pub inner-first : Operand (nodeKind inner) a b a
+  inner-first = inl (omega (arith, joins-arity inner (O .joins)), refl)
+
+  pub inner-second : Operand (nodeKind inner) a b b
+  inner-second = inr (omega (arith, joins-arity inner (O .joins)), refl)
+
+-- a SOME or ALL over an AND or OR
+pub over-node : (codes : List ℕ) (kind v inner a b k pitch : ℕ) (ext work : List ℕ) (code : ℕ) (after : List ℕ) → Over kind inner
+    → Stands (ranged (opOf kind) (varOf v) (opOf inner) (formAt codes pitch a) (formAt codes pitch b) work pitch) code pitch (planeAt pitch k) work after
+    → OverMade codes kind v inner a b k pitch ext work code after
+over-node codes kind v inner a b k pitch ext work code after O P =
+    form-made (Operand (nodeKind inner) a b) (λ operand. nodeSays (nodeKind kind) 0 v (λ j. nodeSays (nodeKind inner) a b operand)) codes k pitch ext work _ code after P
+    (λ operand g.
+    range-says (modelAt pitch ext work) kind v (joined (opOf inner) (formAt codes pitch a) (formAt codes pitch b) work pitch) (nodeSays (nodeKind inner) a b operand) (O .ranges)
+    (λ x y hx hy.
+    join-says (modelAt pitch ext work) inner a b _ _ operand x y (O .joins)
+    (g a (inner-first kind inner a b O) .at x y hx hy) (g b (inner-second kind inner a b O) .at x y hx hy)))
+
 module _ (codes : List ℕ) (kind a b k pitch : ℕ) (ext work : List ℕ) where
   -- what the operands' forms say
   abbrev Given : (ℕ → Formula) → Type 0
@@ -109,17 +192,7 @@ module _ (codes : List ℕ) (kind a b k pitch : ℕ) (ext work : List ℕ) where
   node-made : (f : ℕ → ℕ → Bool) (code : ℕ) (after : List ℕ) → Stands f code pitch (planeAt pitch k) work after
       → ((operand : ℕ → Formula) → Given operand → (x y : ℕ) → x < pitch * 8 → y < pitch * 8 → f x y ≡ true ↔ Says operand x y)
       → Made code after
-  node-made f code after P s = record {
-    len = P .len;
-    named = P .named;
-    shows = λ operand g. record {
-      at = λ x y hx hy.
-          let i = s operand g x y hx hy in
-          let e = P .here x y hx hy in
-          (λ t. i .0 (sym e ∙ t), λ t. e ∙ i .1 t);
-    };
-    rest = P .rest;
-  }
+  node-made = form-made (Operand (nodeKind kind) a b) (nodeSays (nodeKind kind) a b) codes k pitch ext work
 
   module _ (code : ℕ) (after : List ℕ) where
     -- the code names a form that tests f
@@ -158,17 +231,17 @@ module _ (codes : List ℕ) (kind a b k pitch : ℕ) (ext work : List ℕ) where
         let t = g b (second-operand kind a b 5 e (omega arith)) .at x y hx hy in
         rw e (or-says (testOf a x y) (testOf b x y) s t))
 
-    pub some-node : kind ≡ 6 → Is (ranged Or (varOf b) (formAt codes pitch a) work pitch) → Made code after
+    pub some-node : kind ≡ 6 → Is (ranged Or (varOf b) Or (formAt codes pitch a) (formAt codes pitch a) work pitch) → Made code after
     unfolding nodeKind nodeSays Truth
     some-node e P = node-made _ code after P (λ operand g x y hx hy.
         let s = g a (first-operand kind a b 6 e (omega arith)) .at in
-        rw e (some-says (pitch * 8) _ (λ z hz. s (withX (varOf b) z x) (withY (varOf b) z y) (withX-lt (varOf b) hz hx) (withY-lt (varOf b) hz hy))))
+        rw e (some-says (pitch * 8) _ (λ z hz. self-says _ (s (withX (varOf b) z x) (withY (varOf b) z y) (withX-lt (varOf b) hz hx) (withY-lt (varOf b) hz hy)))))
 
-    pub all-node : kind ≡ 7 → Is (ranged And (varOf b) (formAt codes pitch a) work pitch) → Made code after
+    pub all-node : kind ≡ 7 → Is (ranged And (varOf b) Or (formAt codes pitch a) (formAt codes pitch a) work pitch) → Made code after
     unfolding nodeKind nodeSays Truth
     all-node e P = node-made _ code after P (λ operand g x y hx hy.
         let s = g a (first-operand kind a b 7 e (omega arith)) .at in
-        rw e (all-says (pitch * 8) _ (λ z hz. s (withX (varOf b) z x) (withY (varOf b) z y) (withX-lt (varOf b) hz hx) (withY-lt (varOf b) hz hy))))
+        rw e (all-says (pitch * 8) _ (λ z hz. self-says _ (s (withX (varOf b) z x) (withY (varOf b) z y) (withX-lt (varOf b) hz hx) (withY-lt (varOf b) hz hy)))))
 
     pub closure-node : kind ≡ 8 → Reaches (varOf (b / 2)) (varOf (b % 2)) (formAt codes pitch a) code pitch (planeAt pitch k) work after → Made code after
     unfolding nodeKind nodeSays Truth

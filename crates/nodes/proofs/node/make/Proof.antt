@@ -53,7 +53,7 @@ range-requires c κs =
     let at-start = c .before .before .before .before .before in
     let M = at-start .pre in
     let s = operand-source _ _ _ _ _ _ _ M (now (at-start .args .codes)) _ (first-operand _ _ _ 6 (c .before .before .match .keys7) (omega arith)) in
-    (own-plane _ _ _ _ _ _ _ M, (rw (c .before .form-at6 .ensures) s, tt))
+    (own-plane _ _ _ _ _ _ _ M, (rw (c .before .form-at6 .ensures) s, (rw (c .before .form-at6 .ensures) s, (tt, tt))))
 
 range-requires-2 : tie.Need-range-requires-2
 unfolding nodeKind
@@ -61,7 +61,7 @@ range-requires-2 c κs =
     let at-start = c .before .before .before .before .before in
     let M = at-start .pre in
     let s = operand-source _ _ _ _ _ _ _ M (now (at-start .args .codes)) _ (first-operand _ _ _ 7 (c .before .before .match .keys8) (omega arith)) in
-    (own-plane _ _ _ _ _ _ _ M, (rw (c .before .form-at7 .ensures) s, tt))
+    (own-plane _ _ _ _ _ _ _ M, (rw (c .before .form-at7 .ensures) s, (rw (c .before .form-at7 .ensures) s, (tt, tt))))
 
 reach-requires : tie.Need-reach-requires
 unfolding nodeKind

@@ -1,43 +1,39 @@
--- `nodes::shapes::gather_y` meets its contract. The loop's invariant: the first j bytes of the line are made.
+-- `nodes::shapes::gather_y` meets its contract. The loop's invariant: the first x bits are made, the others are not set.
 use mathlib.Core.Path.{_≡_, _∙_}
-use Prim.Native.Nat.{_+_, _*_, _-_, _≤_}
-use Rattle.planes.specs.Plane.{cell}
-use Rattle.nodes.specs.Shapes.{over, Lined}
-use Rattle.nodes.specs.Laws.Forms.{first-room, source-plane}
-use Rattle.nodes.proofs.Gathered.{plane-still, source-still, byte-none, byte-more}
-use Rattle.nodes.proofs.Quantified.{over-same}
+use Prim.Native.Nat.{_*_, _-_, _≤_}
 use native.Mathlib.Omega.{arith}
+use Rattle.nodes.specs.Shapes.{over}
+use Rattle.nodes.specs.Forms.{joined}
+use Rattle.nodes.specs.Laws.LineBits.{Upto, upto-none, upto-more, upto-all}
+use Rattle.nodes.proofs.Quantified.{over-same}
 use Rattle.nodes.proofs.shapes.gather_y.Statement.{statement}
 use Rattle.nodes.proofs.shapes.gather_y.Tie as tie
 
 abbrev Inv-loop : tie.InvT-loop
-Inv-loop work₀ o a base pitch j₀ work j = (j ≤ pitch) × Lined (λ x. over o (pitch * 8) (λ y. cell work₀ a pitch x y)) (j * 8) pitch base work₀ work
+Inv-loop work o t a b pitch r₀ x₀ r x = (x ≤ pitch * 8) × Upto (λ i. over o (pitch * 8) (λ y. joined t a b work pitch i y)) x r
 
 abbrev μ-loop : tie.MeasureT-loop
-μ-loop work₀ o a base pitch j₀ work j = pitch - j
+μ-loop work o t a b pitch r₀ x₀ r x = pitch * 8 - x
 
-eight-over-requires : tie.Need-eight-over-requires Inv-loop μ-loop
-eight-over-requires c κs =
-    let at-loop = c .before .before in
-    let P = at-loop .before .before .pre in
-    (source-plane _ _ _ _ (P .0 .small) (source-still _ _ _ _ _ _ (at-loop .loop .inv .1) _ (P .1 .0)), (omega (arith, c .before .loop-test .taken), P .1 .1))
+line-of-requires : tie.Need-line-of-requires Inv-loop μ-loop
+line-of-requires c κs = let P = c .before .before .before .pre in (P .0, (P .1 .1, c .loop-test .taken))
+
+join-over-requires : tie.Need-join-over-requires Inv-loop μ-loop
+join-over-requires c κs = (c .line-of .ensures .within, (omega (arith, c .before .loop-test .taken), c .before .before .before .before .pre .1 .0))
 
 loop-again : tie.Need-loop-again Inv-loop μ-loop
 loop-again c =
-    let at-loop = c .before .before .before in
-    let at-start = at-loop .before .before in
-    let taken = c .before .before .loop-test .taken in
-    let L = at-loop .loop .inv .1 in (
-      omega (arith, taken),
-      byte-more _ _ _ _ _ _ _ L (at-start .pre .0 .within) taken
-          (λ i hi. c .eight-over .ensures i hi ∙ over-same (at-start .args .o) _ _ _ (λ y hy. plane-still _ _ _ _ _ _ L _ (at-start .pre .1 .0) (at-loop .loop .j * 8 + i) y (omega (arith, taken)) hy)),
+    let at-loop = c .before .before .before .before .before in
+    let at-start = at-loop .before .before in (
+      omega (arith, c .before .before .before .before .loop-test .taken),
+      upto-more _ _ _ _ _ (at-loop .loop .inv .1) (c .push .ensures) (c .before .before .join-over .ensures ∙ over-same (at-start .args .o) _ _ _ (λ y hy. c .before .before .before .line-of .ensures .is y)),
     )
 
 returns : tie.Need-returns Inv-loop μ-loop
 returns c =
     let at-loop = c .before in
-    let e : at-loop .loop .j ≡ at-loop .before .before .args .pitch = omega arith in
-    rw e at (at-loop .loop .inv .1)
+    let e : at-loop .loop .x ≡ at-loop .before .before .args .pitch * 8 = omega arith in
+    upto-all _ _ _ _ e (at-loop .loop .inv .1)
 
 pub gather-y-spec : {M : Type 1} → statement M
 gather-y-spec =
@@ -45,13 +41,12 @@ gather-y-spec =
     (tie.spec
     Inv-loop
     μ-loop
-    (λ c. (omega arith, byte-none _ _ _ _))
-    (λ c. omega (arith, c .before .before .before .before .pre .0 .small))
-    eight-over-requires
-    (λ c. omega (arith, first-room _ _ _ (c .before .before .before .before .before .pre .0)))
-    (λ c. omega (arith, first-room _ _ _ (c .before .before .before .before .before .pre .0), c .before .before .before .loop .inv .1 .len))
+    (λ c. (omega arith, upto-none _))
+    (λ c. omega (arith, c .before .before .pre .0 .first .small))
+    line-of-requires
+    join-over-requires
+    (λ c κs. omega (arith, c .before .before .before .before .before .before .pre .0 .first .small, c .before .before .before .loop-test .taken))
     (λ c. omega arith)
     (λ c. omega arith)
     loop-again
-    (λ c. c .before .loop .inv .1 .len)
     returns)

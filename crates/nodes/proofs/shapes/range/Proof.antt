@@ -1,33 +1,91 @@
 -- `nodes::shapes::range` meets its contract.
 use borrow.Author.Needs.{needs}
-use denote.Ref.{now}
-use mathlib.Core.Path.{ap, _∙_}
-use Rattle.records.specs.Policy.{X, Y}
-use Rattle.nodes.specs.declared.forms.Form.{Form}
-use Rattle.nodes.specs.Forms.{tests}
-use Rattle.nodes.specs.Laws.PlaneShapes.{other-var}
-use Rattle.nodes.specs.Laws.Forms.{lined-as, lined-stands, turned-tests, turned-place}
-use Rattle.nodes.proofs.Quantified.{over-same}
+use Rattle.records.specs.Policy.{varOf}
+use Rattle.nodes.specs.declared.forms.Form.the-variants.{Both}
+use Rattle.nodes.specs.Laws.PlaneShapes.{plane-in, source-in}
+use Rattle.nodes.specs.Laws.Forms.{lie-apart, source-plane, turned-here, other-same, then-stands}
+use Rattle.nodes.proofs.Gathered.{over-x, over-y, paired, paired-turned, ranged-same}
 use Rattle.nodes.proofs.shapes.range.Statement.{statement}
 use Rattle.nodes.proofs.shapes.range.Tie as tie
 
-range-line-requires-2 : tie.Need-range-line-requires-2
-range-line-requires-2 c κs = let P = c .before .before .before .before .pre in (P .0, (rw (c .turn .ensures, turned-place) (P .1 .0), P .1 .1))
+range-lines-requires : tie.Need-range-lines-requires
+range-lines-requires c κs =
+    let P = c .before .before .before .before .before .pre in
+    let upright = over-x _ _ (rw (c .before .enum-told .given .1) at (c .before .before .before .pairing .ensures)) in
+    (P .0, (paired _ _ _ _ _ (P .0) (P .1 .0) (P .1 .1 .0) upright, P .1 .1 .1))
+
+range-lines-requires-2 : tie.Need-range-lines-requires-2
+range-lines-requires-2 c κs =
+    let P = c .before .before .before .before .before .pre in
+    let upright = over-y _ _ (rw (c .before .enum-told2 .given .1) at (c .before .before .before .pairing .ensures)) in
+    (P .0, (paired _ _ _ _ _ (P .0) (P .1 .0) (P .1 .1 .0) upright, P .1 .1 .1))
+
+range-lines-requires-3 : tie.Need-range-lines-requires-3
+range-lines-requires-3 c κs =
+    let P = c .before .before .before .before .before .pre in
+    let upright = rw (c .before .enum-told3 .given .1) at (c .before .before .before .pairing .ensures) in
+    (P .0, (paired _ _ _ _ _ (P .0) (P .1 .0) (P .1 .1 .0) upright, P .1 .1 .1))
+
+range-turned-requires : tie.Need-range-turned-requires
+range-turned-requires c κs =
+    let s = c .before .before .before .before .before .args in
+    let P = c .before .before .before .before .before .pre in
+    let upright = rw (c .before .enum-told4 .given .1) at (c .before .before .before .pairing .ensures) in
+    (P .0, (paired-turned _ _ _ (s .a) (s .b) (P .0) (P .1 .0) (P .1 .1 .0) upright, P .1 .1 .1))
+
+exchange-requires : tie.Need-exchange-requires
+exchange-requires c κs = let P = c .before .before .before .before .before .before .pre in rw (c .start .ensures) (lie-apart _ _ _ _ (P .0) (P .1 .0))
+
+range-lines-requires-4 : tie.Need-range-lines-requires-4
+range-lines-requires-4 c κs =
+    let P = c .before .before .before .before .before .before .before .before .before .before .pre in
+    let e = c .before .before .before .exchange .ensures .len in
+    let own = plane-in _ _ _ _ e (P .0) in
+    let turned = rw (c .before .before .before .before .before .before .enum-told5 .given .1) at (c .before .before .before .before .before .before .before .before .pairing .ensures) in
+    (own, (record { first = own; second = source-plane _ _ _ _ (P .0 .small) (source-in _ _ _ _ _ e (P .1 .1 .0)); upright = (tt, turned .1) }, P .1 .1 .1))
+
+exchange-requires-2 : tie.Need-exchange-requires-2
+exchange-requires-2 c κs = let P = c .before .before .before .before .before .before .pre in rw (c .start2 .ensures) (lie-apart _ _ _ _ (P .0) (P .1 .1 .0))
+
+range-lines-requires-5 : tie.Need-range-lines-requires-5
+range-lines-requires-5 c κs =
+    let P = c .before .before .before .before .before .before .before .before .before .before .pre in
+    let e = c .before .before .before .exchange2 .ensures .len in
+    let own = plane-in _ _ _ _ e (P .0) in
+    let turned = rw (c .before .before .before .before .before .before .enum-told6 .given .1) at (c .before .before .before .before .before .before .before .before .pairing .ensures) in
+    (own, (record { first = source-plane _ _ _ _ (P .0 .small) (source-in _ _ _ _ _ e (P .1 .0)); second = own; upright = (turned .1, tt) }, P .1 .1 .1))
 
 returns : tie.Need-returns
-returns c = rw (other-var _ (c .before .before .before .before .if1 .taken)) (lined-stands X _ _ _ _ _ (c .before .before .range-line .ensures))
+returns c = c .before .before .range-lines .ensures
 
 returns-2 : tie.Need-returns-2
-returns-2 c =
-    let at-start = c .before .before .before .before .before .before .before in
-    let f = at-start .args .f in
-    let bytes = now (at-start .args .work) in
-    let pitch = at-start .args .pitch in
-    rw (c .before .before .before .before .before .if1 .left)
-    (lined-stands Y _ _ _ _ _
-    (lined-as _ _ _ _ _ _ _
-    (λ y hy. over-same (at-start .args .o) _ _ _ (λ z hz. ap (λ (g : Form). tests g bytes pitch y z) (c .before .before .before .turn .ensures) ∙ turned-tests f bytes pitch y z))
-    (c .before .before .range-line2 .ensures)))
+returns-2 c = c .before .before .range-lines2 .ensures
+
+returns-3 : tie.Need-returns-3
+returns-3 c = c .before .before .range-lines3 .ensures
+
+returns-4 : tie.Need-returns-4
+returns-4 c = c .before .before .range-turned .ensures
+
+returns-5 : tie.Need-returns-5
+returns-5 c =
+    let at-start = c .before .before .before .before .before .before .before .before .before .before .before .before .before in
+    let s = at-start .args in
+    let turned = rw (c .before .before .before .before .before .before .before .before .before .enum-told5 .given .1) at (c .before .before .before .before .before .before .before .before .before .before .before .pairing .ensures) in
+    let E = c .before .before .before .before .before .before .exchange .ensures in
+    then-stands _ _ _ _ _ E _ _ _ _
+    (ranged-same (s .o) (s .t) (varOf (s .v)) (Both (s .base)) (s .b) (s .a) (s .b) _ _ _ (turned-here _ _ _ _ _ E (s .a) (c .before .before .before .before .before .before .before .start .ensures) (turned .0)) (other-same _ _ _ _ _ E (s .b) (at-start .pre .1 .1 .0)))
+    (c .before .before .range-lines4 .ensures)
+
+returns-6 : tie.Need-returns-6
+returns-6 c =
+    let at-start = c .before .before .before .before .before .before .before .before .before .before .before .before .before in
+    let s = at-start .args in
+    let turned = rw (c .before .before .before .before .before .before .before .before .before .enum-told6 .given .1) at (c .before .before .before .before .before .before .before .before .before .before .before .pairing .ensures) in
+    let E = c .before .before .before .before .before .before .exchange2 .ensures in
+    then-stands _ _ _ _ _ E _ _ _ _
+    (ranged-same (s .o) (s .t) (varOf (s .v)) (s .a) (Both (s .base)) (s .a) (s .b) _ _ _ (other-same _ _ _ _ _ E (s .a) (at-start .pre .1 .0)) (turned-here _ _ _ _ _ E (s .b) (c .before .before .before .before .before .before .before .start2 .ensures) (turned .0)))
+    (c .before .before .range-lines5 .ensures)
 
 pub range-spec : {M : Type 1} → statement M
-range-spec = tie.close (tie.spec (λ c κs. search needs) (λ c κs. search needs) range-line-requires-2 (λ c. search needs) returns (λ c. search needs) returns-2)
+range-spec = tie.close (tie.spec (λ c κs. search needs) (λ c. search needs) range-lines-requires (λ c. search needs) range-lines-requires-2 (λ c. search needs) range-lines-requires-3 (λ c. search needs) range-turned-requires (λ c. search needs) (λ c κs. search needs) exchange-requires range-lines-requires-4 (λ c. search needs) (λ c κs. search needs) exchange-requires-2 range-lines-requires-5 (λ c. search needs) (λ c. search needs) (λ c. search needs) (λ c. search needs) (λ c. search needs) (λ c. search needs) (λ c. search needs) (λ c. search needs) (λ c. search needs) returns-5 (λ c. search needs) returns-6)
