@@ -1,5 +1,5 @@
 -- The operation on two forms, line by line, and lines that are gathered of these.
-use mathlib.Core.Path.{_≡_, refl, sym, ap, ap₂, subst, _∙_}
+use mathlib.Core.Path.{_≡_, refl, sym, ap, ap₂, _∙_}
 use mathlib.Core.Bool.{Bool}
 use mathlib.Core.List.{List}
 use Prim.Native.Nat.{ℕ, _+_, _*_, _/_, _%_, _≤_, _<_}
@@ -9,11 +9,11 @@ use lib.ListN.{length, getD, set, replicate, getD-replicate}
 use Rattle.planes.specs.Bit.{bitOf}
 use Rattle.planes.specs.Plane.{bit}
 use Rattle.planes.specs.Lines.{Laid}
+use Rattle.planes.specs.Laws.Places.{bit-at}
 use Rattle.planes.proofs.LaidBytes.{laid-more}
-use Rattle.records.specs.Policy.{Var}
+use Rattle.records.specs.Policy.{Var, X, Y}
 use Rattle.truth.specs.Truth.{withX, withY}
 use Rattle.truth.specs.Laws.Tables.{withX-lt, withY-lt}
-use Rattle.nodes.specs.declared.forms.Way.the-variants.{OverX, OverY}
 use Rattle.nodes.specs.declared.lines.Op.{Op}
 use Rattle.nodes.specs.declared.lines.Row.{Row}
 use Rattle.nodes.specs.declared.lines.Row.the-variants.{Full, From}
@@ -21,12 +21,12 @@ use Rattle.nodes.specs.declared.lines.Join.{Join}
 use Rattle.nodes.specs.declared.lines.Join.the-variants.{Same, Two}
 use Rattle.nodes.specs.declared.forms.Form.{Form}
 use Rattle.nodes.specs.declared.forms.Form.the-variants.{OfX, OfY, Both, Turned}
-use Rattle.nodes.specs.Shapes.{opBool, opByte, over, unit, unitByte, fullByte, Quantifies, Line, Plane, Source, rowByte, Even, RowWithin, joinByte, Joins, LineIs}
-use Rattle.nodes.specs.Forms.{tests, place, turned, Upright, rowOf, Pairs, Paired, joined, ranged}
+use Rattle.nodes.specs.Shapes.{opBool, opByte, over, unit, unitByte, fullByte, Quantifies, bitsOf, Line, Lined, Plane, Source, rowByte, Even, RowWithin, joinByte, Joins, LineIs}
+use Rattle.nodes.specs.Forms.{tests, place, turned, Upright, rowOf, lineCode, lineForm, Paired, joined, ranged, Stands}
 use Rattle.nodes.specs.Laws.LineBits.{full-bit, op-bit}
-use Rattle.nodes.specs.Laws.Forms.{turned-tests, turned-place, line-room, first-room, source-plane}
+use Rattle.nodes.specs.Laws.Forms.{turned-tests, turned-place, line-room, first-room, stands-as, lined-stands, laid-lined, source-plane}
 use Rattle.nodes.proofs.LinesLaid.{row-tests}
-use Rattle.nodes.proofs.Quantified.{over-same, over-none, over-more, twice, comm, right-unit, decides}
+use Rattle.nodes.proofs.Quantified.{over-same, over-one, over-none, over-more, twice, comm, right-unit, decides}
 
 -- joins of rows, by their kinds
 module _ (t : Op) where
@@ -100,12 +100,36 @@ module _ (bytes : List ℕ) (pitch base : ℕ) (a b : Form) (P : Plane bytes pit
     upright = U;
   }
 
--- lines stand upright
-pub over-x : (a b : Form) → Pairs a b OverX → Upright a × Upright b
-over-x a b p = (subst Upright (sym (p .0)) tt, subst Upright (sym (p .1)) tt)
+-- the operation on two lines
+module _ (o : Op) (h : Quantifies o) (t : Op) (a b pitch base : ℕ) (l m : List ℕ) where
+  abbrev lines : ℕ → Bool
+  lines z = opBool t (bit l (a * 8 + z)) (bit l (b * 8 + z))
 
-pub over-y : (a b : Form) → Pairs a b OverY → Upright a × Upright b
-over-y a b p = (subst Upright (sym (p .0)) tt, subst Upright (sym (p .1)) tt)
+  -- equal tests
+  pub same-lined : (k : List ℕ) (c : ℕ) (s : Bool) → Lined lines (pitch * 8) pitch base l k → s ≡ over o (pitch * 8) (bitsOf (λ j. getD k (base + j) 0)) → c ≡ fullByte s
+      → Laid (λ j. c) base pitch k m → Lined (λ z. over o (pitch * 8) lines) (pitch * 8) pitch base l m
+  same-lined k c s J e q L =
+      let N = laid-lined (λ j. c) (λ z. over o (pitch * 8) lines) pitch base k m L (λ z hz.
+      ap (λ (w : ℕ). bitOf w (z % 8)) q
+      ∙ full-bit s (z % 8) (omega arith)
+      ∙ e
+      ∙ over-same o (pitch * 8) (bitsOf (λ j. getD k (base + j) 0)) lines (λ y hy. sym (bit-at k base y) ∙ J .here y hy)) in
+      record { len = N .len ∙ J .len; here = N .here; rest = λ n out. N .rest n out ∙ J .rest n out }
+
+  -- with the variable of the lines, and with the other, running over every state
+  pub flat-same : (u v : Var) (code : ℕ) → code ≡ lineCode u → code ≡ lineCode v → Lined (λ z. over o (pitch * 8) lines) (pitch * 8) pitch base l m
+      → Stands (ranged o v t (lineForm u a) (lineForm u b) l pitch) code pitch base l m
+  flat-same X X code e q L = rw e (lined-stands X (λ z. over o (pitch * 8) lines) pitch base l m L)
+  flat-same X Y code e q L = absurd (omega arith)
+  flat-same Y X code e q L = absurd (omega arith)
+  flat-same Y Y code e q L = rw e (lined-stands Y (λ z. over o (pitch * 8) lines) pitch base l m L)
+
+  pub flat-other : (u v : Var) (code other : ℕ) → code ≡ lineCode u → other ≡ lineCode v → (code ≡ other → ⊥) → Lined lines (pitch * 8) pitch base l m
+      → Stands (ranged o v t (lineForm u a) (lineForm u b) l pitch) code pitch base l m
+  flat-other X X code other e q n L = absurd (n (e ∙ sym q))
+  flat-other X Y code other e q n L = rw e (stands-as _ _ 1 pitch base l m (λ x y hx hy. sym (over-one o h (pitch * 8) (lines x) (omega arith))) (lined-stands X lines pitch base l m L))
+  flat-other Y X code other e q n L = rw e (stands-as _ _ 2 pitch base l m (λ x y hx hy. sym (over-one o h (pitch * 8) (lines y) (omega arith))) (lined-stands Y lines pitch base l m L))
+  flat-other Y Y code other e q n L = absurd (n (e ∙ sym q))
 
 pub turned-joined : (t : Op) (a b : Form) (bytes : List ℕ) (pitch x y : ℕ) → joined t (turned a) (turned b) bytes pitch x y ≡ joined t a b bytes pitch y x
 turned-joined t a b bytes pitch x y = ap₂ (opBool t) (turned-tests a bytes pitch x y) (turned-tests b bytes pitch x y)

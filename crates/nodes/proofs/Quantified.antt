@@ -2,7 +2,7 @@
 use mathlib.Core.Path.{_≡_, refl, sym, ap, ap₂, _∙_}
 use mathlib.Core.Bool.{Bool, true, false, not, _&&_, _||_}
 use Prim.Native.Nat.{ℕ, zero, suc, _+_, _-_, _*_, _/_, _%_, _<_}
-use native.Mathlib.Nat.{add-suc, add-zero}
+use native.Mathlib.Nat.{add-suc, add-zero, not-suc-le-zero}
 use native.Mathlib.Numerals.{add-one}
 use native.Mathlib.Decide.{decLt}
 use native.Mathlib.Omega.{arith}
@@ -107,6 +107,15 @@ module _ (o : Op) (h : Quantifies o) where
 
   pub over-more : (n : ℕ) (g : ℕ → Bool) → over o (n + 1) g ≡ opBool o (over o n g) (g n)
   over-more n g = ap (λ (m : ℕ). over o m g) (add-one n) ∙ over-suc n g
+
+  -- one test for all
+  ones : (n : ℕ) (t : Bool) → over o (suc n) (λ i. t) ≡ t
+  ones zero t = over-suc 0 (λ i. t) ∙ ap (λ (p : Bool). opBool o p t) (over-none (λ i. t)) ∙ comm o h (unit o) t ∙ right-unit o h t
+  ones (suc n) t = over-suc (suc n) (λ i. t) ∙ ap (λ (p : Bool). opBool o p t) (ones n t) ∙ twice o h t
+
+  pub over-one : (n : ℕ) (t : Bool) → 0 < n → over o n (λ i. t) ≡ t
+  over-one zero t l = absurd (not-suc-le-zero l)
+  over-one (suc n) t l = ones n t
 
   four : (p q r s : Bool) → opBool o (opBool o p q) (opBool o r s) ≡ opBool o (opBool o p r) (opBool o q s)
   four p q r s =

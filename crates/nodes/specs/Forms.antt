@@ -52,6 +52,11 @@ abbrev pub lineCode : Var → ℕ
 lineCode X = 1
 lineCode Y = 2
 
+-- the line over a variable that starts at a byte
+abbrev pub lineForm : Var → ℕ → Form
+lineForm X at = OfX at
+lineForm Y at = OfY at
+
 -- a form does not stand exchanged, so that its lines are bytes of the buffer, or equal tests
 abbrev pub Upright : Form → Type 0
 Upright (OfX at) = Unit {0}

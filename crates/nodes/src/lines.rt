@@ -183,6 +183,21 @@ fn byte_over(o: Op, b: u8) -> bool
     }
 }
 
+// All bits of the len bytes from at on, or some.
+pub fn line_over(work: &[u8], o: Op, at: usize, len: usize) -> bool
+    requires { ⌜ at + len ≤ length (now work) ⌝ }
+    requires { ⌜ Quantifies o ⌝ }
+    ensures { λ s. ⌜ s ≡ over o (len * 8) (bitsOf (λ j. getD (now (work .entry)) (at + j) 0)) ⌝ }
+{
+    let mut c = units(o);
+    let mut j: usize = 0;
+    while j < len {
+        c = byte_op(o, c, work[at + j]);
+        j += 1;
+    }
+    byte_over(o, c)
+}
+
 // The bytes of an operation on two rows: one over and over, or the operation on those from two places on.
 pub enum Join {
     Same(u8),
@@ -221,7 +236,7 @@ pub fn join_of(t: Op, p: Row, q: Row) -> Join
 }
 
 // All bits, or some, of the operation t on the len bytes from a on and from b on.
-pub fn span_over(work: &[u8], o: Op, t: Op, a: usize, b: usize, len: usize) -> bool
+fn span_over(work: &[u8], o: Op, t: Op, a: usize, b: usize, len: usize) -> bool
     requires { ⌜ (a + len ≤ length (now work)) × (b + len ≤ length (now work)) ⌝ }
     requires { ⌜ Quantifies o ⌝ }
     ensures { λ s. ⌜ s ≡ over o (len * 8) (bitsOf (joinByte t (Two a b) (now (work .entry)))) ⌝ }

@@ -10,7 +10,7 @@ ghost use Rattle.records.specs.Policy.{varOf};
 ghost use Rattle.truth.specs.Truth.{value};
 ghost use Rattle.nodes.specs.Shapes.{opBool, opByte, over, Quantifies, Line, LineIs, Lined, Plane, Source, Span};
 ghost use Rattle.nodes.specs.declared.forms.Form.the-variants.{Both};
-ghost use Rattle.nodes.specs.Forms.{tests, place, turned, Upright, rowOf, Readable, Paired, joined, Stands, lineCode, ranged, arranged, Reached, Closes, Reaches};
+ghost use Rattle.nodes.specs.Forms.{tests, place, turned, Upright, rowOf, Readable, Paired, joined, Stands, lineCode, lineForm, ranged, arranged, Reached, Closes, Reaches};
 use crate::forms;
 use crate::forms::Form;
 use crate::forms::Way;
@@ -258,6 +258,49 @@ fn range_turned(
     }
 }
 
+// The line at base becomes equal tests: whether the operation t on the lines at a and b passes with every state (And), or with
+// some (Or).
+fn same_line(work: &mut [u8], o: Op, t: Op, a: usize, b: usize, base: usize, pitch: usize)
+    requires { ⌜ Plane (now work) pitch base ⌝ }
+    requires { ⌜ Source (now work) pitch base a ⌝ }
+    requires { ⌜ Source (now work) pitch base b ⌝ }
+    requires { ⌜ Quantifies o ⌝ }
+    ensures { λ _. ⌜ Lined (λ z. over o (pitch * 8) (λ i. opBool t (bit (now (work .entry)) (a * 8 + i)) (bit (now (work .entry)) (b * 8 + i)))) (pitch * 8) pitch base (now (work .entry)) (now (work .exit)) ⌝ }
+{
+    join_lines(work, t, a, b, base, pitch);
+    let s = lines::line_over(work, o, base, pitch);
+    lines::fill(work, lines::full(s), base, pitch);
+}
+
+// The same as range_lines of two lines over the variable u, at a and b.
+fn range_flat(
+    work: &mut [u8],
+    o: Op,
+    t: Op,
+    a: usize,
+    b: usize,
+    u: u8,
+    v: u8,
+    base: usize,
+    pitch: usize,
+) -> u8
+    requires { ⌜ Plane (now work) pitch base ⌝ }
+    requires { ⌜ Source (now work) pitch base a ⌝ }
+    requires { ⌜ Source (now work) pitch base b ⌝ }
+    requires { ⌜ Quantifies o ⌝ }
+    ensures { λ r. ⌜ Stands (ranged o (varOf v) t (lineForm (varOf u) a) (lineForm (varOf u) b) (now (work .entry)) pitch) r pitch base (now (work .entry)) (now (work .exit)) ⌝ }
+{
+    let code = line_code(u);
+    let other = line_code(v);
+    if code == other {
+        same_line(work, o, t, a, b, base, pitch);
+        code
+    } else {
+        join_lines(work, t, a, b, base, pitch);
+        code
+    }
+}
+
 // SOME, ALL: the operation t on two forms with v running over every state, by Or and by And, stands at base; answers the code
 // of its form. The operation on the forms itself is not laid.
 pub fn range(
@@ -278,8 +321,28 @@ pub fn range(
 {
     let way = forms::pairing(a, b);
     match way {
-        Way::OverX => range_lines(work, o, t, a, b, v, base, pitch),
-        Way::OverY => range_lines(work, o, t, a, b, v, base, pitch),
+        Way::OverX => range_flat(
+            work,
+            o,
+            t,
+            forms::start(a),
+            forms::start(b),
+            0,
+            v,
+            base,
+            pitch,
+        ),
+        Way::OverY => range_flat(
+            work,
+            o,
+            t,
+            forms::start(a),
+            forms::start(b),
+            1,
+            v,
+            base,
+            pitch,
+        ),
         Way::Straight => range_lines(work, o, t, a, b, v, base, pitch),
         Way::Exchanged => range_turned(work, o, t, a, b, v, base, pitch),
         Way::FirstTurned => {
