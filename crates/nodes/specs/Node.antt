@@ -83,6 +83,11 @@ OverMade codes kind v inner a b k pitch ext before code after =
 unfoldable pub opOf : ℕ → Op
 opOf kind = getD (Not ∷ Not ∷ Not ∷ Not ∷ And ∷ Or ∷ Or ∷ And ∷ []) kind Not
 
+-- the second node that a NOT, AND or OR is on: NOT is on its operand twice
+pub record Second (kind a b j : ℕ) : Type 0 where
+  pub alone : kind ≡ 3 → j ≡ a
+  pub other : (kind ≡ 3 → ⊥) → j ≡ b
+
 -- a SOME or ALL stands over an AND or OR
 pub record Over (kind inner : ℕ) : Type 0 where
   pub ranges : (kind ≡ 6) ⊎ (kind ≡ 7)

@@ -32,18 +32,6 @@ pub enum Row {
     From(usize),
 }
 
-// The len bytes from to on become c.
-pub fn fill(work: &mut [u8], c: u8, to: usize, len: usize)
-    requires { ⌜ to + len ≤ length (now work) ⌝ }
-    ensures { λ _. ⌜ Laid (λ j. c) to len (now (work .entry)) (now (work .exit)) ⌝ }
-{
-    let mut j: usize = 0;
-    while j < len {
-        work[to + j] = c;
-        j += 1;
-    }
-}
-
 // The len bytes from to on become the operation on c and those from b on.
 fn join_first(work: &mut [u8], o: Op, c: u8, b: usize, to: usize, len: usize)
     requires { ⌜ Span (now work) len to b ⌝ }
@@ -93,7 +81,7 @@ pub fn join_rows(work: &mut [u8], o: Op, p: Row, q: Row, to: usize, len: usize)
 {
     match p {
         Row::Full(c) => match q {
-            Row::Full(d) => fill(work, byte_op(o, c, d), to, len),
+            Row::Full(d) => planes::fill(work, byte_op(o, c, d), to, len),
             Row::From(b) => join_first(work, o, c, b, to, len),
         },
         Row::From(a) => match q {

@@ -5,7 +5,7 @@ ghost use mathlib.Core.List.{List};
 ghost use mathlib.Core.Logic.{_⊎_};
 ghost use Prim.Native.Nat.{ℕ, _≤_, _<_};
 ghost use Rattle.records.specs.Policy.{nodeKind};
-ghost use Rattle.nodes.specs.Node.{arity, formAt, Makeable, NodeMade, OverMade, opOf, Over};
+ghost use Rattle.nodes.specs.Node.{arity, formAt, Makeable, NodeMade, OverMade, opOf, Second, Over};
 use crate::forms;
 use crate::forms::Form;
 use crate::lines::Op;
@@ -45,6 +45,27 @@ pub fn form_at(codes: &[u8], j: usize, pitch: usize) -> Form
     forms::form_of(0, own, size)
 }
 
+// The operation of a node's kind: NOT, AND and ALL, OR and SOME.
+fn operation(kind: u8) -> Op
+    ensures { λ r. ⌜ r ≡ opOf kind ⌝ }
+{
+    match kind {
+        0..=3 => Op::Not,
+        4 => Op::And,
+        5 => Op::Or,
+        6 => Op::Or,
+        7 => Op::And,
+        8..=255 => Op::Not,
+    }
+}
+
+// The node that NOT, AND and OR are on beside their first operand; NOT is of the first, which is taken twice.
+fn second_of(kind: u8, a: u8, b: u8) -> u8
+    ensures { λ r. ⌜ Second kind a b r ⌝ }
+{
+    if kind == 3 { a } else { b }
+}
+
 // Makes node k, in its own plane or by reference to the first two; answers the code of its form. a and b are bytes 3 and 4 of
 // its record, ext the line of external states; closed: the second plane is the closure of the first.
 pub fn make(
@@ -66,27 +87,14 @@ pub fn make(
         0 => shapes::bit_line(work, a, b as usize, base, pitch),
         1 => shapes::arrange(work, 5, a, b, base, pitch),
         2 => shapes::keep(work, ext, a, base, pitch),
-        3 => {
+        3..=5 => {
             let first = form_at(codes, a as usize, pitch);
-            shapes::apply(work, Op::Not, first, first, base, pitch)
+            let second = form_at(codes, second_of(kind, a, b) as usize, pitch);
+            shapes::apply(work, operation(kind), first, second, base, pitch)
         }
-        4 => {
+        6..=7 => {
             let first = form_at(codes, a as usize, pitch);
-            let second = form_at(codes, b as usize, pitch);
-            shapes::apply(work, Op::And, first, second, base, pitch)
-        }
-        5 => {
-            let first = form_at(codes, a as usize, pitch);
-            let second = form_at(codes, b as usize, pitch);
-            shapes::apply(work, Op::Or, first, second, base, pitch)
-        }
-        6 => {
-            let first = form_at(codes, a as usize, pitch);
-            shapes::range(work, Op::Or, Op::Or, first, first, b, base, pitch)
-        }
-        7 => {
-            let first = form_at(codes, a as usize, pitch);
-            shapes::range(work, Op::And, Op::Or, first, first, b, base, pitch)
+            shapes::range(work, operation(kind), Op::Or, first, first, b, base, pitch)
         }
         8 => {
             let first = form_at(codes, a as usize, pitch);
@@ -96,20 +104,6 @@ pub fn make(
             let none = [0u8; 128];
             shapes::keep(work, &none, 0, base, pitch)
         }
-    }
-}
-
-// The operation of a node's kind: AND and ALL, OR and SOME.
-fn operation(kind: u8) -> Op
-    ensures { λ r. ⌜ r ≡ opOf kind ⌝ }
-{
-    match kind {
-        0..=3 => Op::Not,
-        4 => Op::And,
-        5 => Op::Or,
-        6 => Op::Or,
-        7 => Op::And,
-        8..=255 => Op::Not,
     }
 }
 

@@ -269,7 +269,7 @@ fn same_line(work: &mut [u8], o: Op, t: Op, a: usize, b: usize, base: usize, pit
 {
     join_lines(work, t, a, b, base, pitch);
     let s = lines::line_over(work, o, base, pitch);
-    lines::fill(work, lines::full(s), base, pitch);
+    planes::fill(work, lines::full(s), base, pitch);
 }
 
 // The same as range_lines of two lines over the variable u, at a and b.

@@ -18,7 +18,7 @@ use Rattle.nodes.specs.declared.lines.Op.the-variants.{Not, And, Or}
 use Rattle.truth.specs.Truth.{Model, value, withX, withY, Truth}
 use Rattle.nodes.specs.Shapes.{opBool, over, Quantifies, Plane, Source}
 use Rattle.nodes.specs.Forms.{tests, place, formOf, joined, ranged, arranged, Stands, Reaches}
-use Rattle.nodes.specs.Node.{planeAt, arity, Operand, formAt, modelAt, Shows, Makeable, FormMade, NodeMade, OverMade, opOf, Over}
+use Rattle.nodes.specs.Node.{planeAt, arity, Operand, formAt, modelAt, Shows, Makeable, FormMade, NodeMade, OverMade, opOf, Second, Over}
 use Rattle.nodes.specs.Laws.Forms.{code-place, stands-as}
 use Rattle.truth.specs.Laws.Tables.{not-iff, withX-lt, withY-lt, any-iff, all-iff}
 
@@ -69,8 +69,53 @@ module _ (kind a b : ℕ) where
   pub first-operand : (n : ℕ) → kind ≡ n → 0 < arity (nodeKind n) → Operand (nodeKind kind) a b a
   first-operand n e h = inl (subst (λ (m : ℕ). 0 < arity (nodeKind m)) (sym e) h, refl)
 
-  pub second-operand : (n : ℕ) → kind ≡ n → 1 < arity (nodeKind n) → Operand (nodeKind kind) a b b
+  second-operand : (n : ℕ) → kind ≡ n → 1 < arity (nodeKind n) → Operand (nodeKind kind) a b b
   second-operand n e h = inr (subst (λ (m : ℕ). 1 < arity (nodeKind m)) (sym e) h, refl)
+
+  -- the operands of NOT, AND and OR, and of SOME and ALL
+  pub op-first : (kind ≡ 3) ⊎ ((kind ≡ 4) ⊎ (kind ≡ 5)) → Operand (nodeKind kind) a b a
+  unfolding nodeKind
+  op-first (inl e) = first-operand 3 e (omega arith)
+  op-first (inr (inl e)) = first-operand 4 e (omega arith)
+  op-first (inr (inr e)) = first-operand 5 e (omega arith)
+
+  pub op-second : (j : ℕ) → (kind ≡ 3) ⊎ ((kind ≡ 4) ⊎ (kind ≡ 5)) → Second kind a b j → Operand (nodeKind kind) a b j
+  unfolding nodeKind
+  op-second j (inl e) S = rw (S .alone e) (first-operand 3 e (omega arith))
+  op-second j (inr (inl e)) S = rw (S .other (λ t. omega (arith, t, e))) (second-operand 4 e (omega arith))
+  op-second j (inr (inr e)) S = rw (S .other (λ t. omega (arith, t, e))) (second-operand 5 e (omega arith))
+
+  pub range-first : (kind ≡ 6) ⊎ (kind ≡ 7) → Operand (nodeKind kind) a b a
+  unfolding nodeKind
+  range-first (inl e) = first-operand 6 e (omega arith)
+  range-first (inr e) = first-operand 7 e (omega arith)
+
+-- an AND or OR is no NOT
+not-alone : (kind : ℕ) → (kind ≡ 4) ⊎ (kind ≡ 5) → kind ≡ 3 → ⊥
+not-alone kind (inl e) t = omega (arith, e, t)
+not-alone kind (inr e) t = omega (arith, e, t)
+
+join-second : (kind a b : ℕ) → (kind ≡ 4) ⊎ (kind ≡ 5) → Second kind a b b
+join-second kind a b e = record { alone = λ t. absurd (not-alone kind e t); other = λ t. refl }
+
+-- kinds in their ranges
+pub from-three : {kind : ℕ} → (kind ≡ 0 → ⊥) → (kind ≡ 1 → ⊥) → (kind ≡ 2 → ⊥) → 3 ≤ kind
+from-three a b c = omega (arith, a, b, c)
+
+pub op-kinds : (kind : ℕ) → 3 ≤ kind → kind ≤ 5 → (kind ≡ 3) ⊎ ((kind ≡ 4) ⊎ (kind ≡ 5))
+op-kinds kind h l = go (ℕ-discrete kind 3) (ℕ-discrete kind 4)
+  where
+    go : Dec (kind ≡ 3) → Dec (kind ≡ 4) → (kind ≡ 3) ⊎ ((kind ≡ 4) ⊎ (kind ≡ 5))
+    go (yes e) d = inl e
+    go (no n) (yes e) = inr (inl e)
+    go (no n) (no m) = inr (inr (omega (arith, n, m)))
+
+pub range-kinds : (kind : ℕ) → 6 ≤ kind → kind ≤ 7 → (kind ≡ 6) ⊎ (kind ≡ 7)
+range-kinds kind h l = go (ℕ-discrete kind 6)
+  where
+    go : Dec (kind ≡ 6) → (kind ≡ 6) ⊎ (kind ≡ 7)
+    go (yes e) = inl e
+    go (no n) = inr (omega (arith, n))
 
 module _ (kind a b k pitch : ℕ) (closed : Bool) (work : List ℕ) (M : Makeable kind a b k pitch closed work) where
   pub own-plane : Plane work pitch (planeAt pitch k)
@@ -88,10 +133,6 @@ module _ (kind a b k pitch : ℕ) (closed : Bool) (work : List ℕ) (M : Makeabl
         let h = plane-before pitch j k (M .earlier j o) in
         code-place (Source work pitch (planeAt pitch k)) (getD codes j 0) (planeAt pitch j) (planeSize pitch)
         (record { within = omega (arith, M .within); apart = inl h }) steps-source closure-source
-
-    pub operand-sources : (n : ℕ) → kind ≡ n → 1 < arity (nodeKind n)
-        → Source work pitch (planeAt pitch k) (place (formAt codes pitch a)) × Source work pitch (planeAt pitch k) (place (formAt codes pitch b))
-    operand-sources n e h = (operand-source a (first-operand kind a b n e (omega arith)), operand-source b (second-operand kind a b n e h))
 
 -- a form that tests f, which is what is said of the nodes `Of`
 form-made : (Of : ℕ → Type 0) (says : (ℕ → Formula) → Formula) (codes : List ℕ) (k pitch : ℕ) (ext work : List ℕ) (f : ℕ → ℕ → Bool) (code : ℕ) (after : List ℕ)
@@ -143,22 +184,22 @@ unfolding opOf
 op-beyond kind h = sym (List·getD-eq-default (Not ∷ Not ∷ Not ∷ Not ∷ And ∷ Or ∷ Or ∷ And ∷ []) Not h)
 
 -- the operations of their kinds
+pub range-op : (kind : ℕ) → (kind ≡ 6) ⊎ (kind ≡ 7) → Quantifies (opOf kind)
+unfolding opOf
+range-op kind (inl e) = rw e tt
+range-op kind (inr e) = rw e tt
+
 pub over-ops : (kind inner : ℕ) → Over kind inner → Quantifies (opOf kind) × Quantifies (opOf inner)
 unfolding opOf
-over-ops kind inner O = (⊎-elim (λ e. rw e tt) (λ e. rw e tt) (O .ranges), ⊎-elim (λ e. rw e tt) (λ e. rw e tt) (O .joins))
-
-joins-arity : (inner : ℕ) → (inner ≡ 4) ⊎ (inner ≡ 5) → arity (nodeKind inner) ≡ 2
-unfolding nodeKind
-joins-arity inner (inl e) = rw e
-joins-arity inner (inr e) = rw e
+over-ops kind inner O = (range-op kind (O .ranges), ⊎-elim (λ e. rw e tt) (λ e. rw e tt) (O .joins))
 
 -- the operands of an AND or OR
 module _ (kind inner a b : ℕ) (O : Over kind inner) where
   pub inner-first : Operand (nodeKind inner) a b a
-  inner-first = inl (omega (arith, joins-arity inner (O .joins)), refl)
+  inner-first = op-first inner a b (inr (O .joins))
 
   pub inner-second : Operand (nodeKind inner) a b b
-  inner-second = inr (omega (arith, joins-arity inner (O .joins)), refl)
+  inner-second = op-second inner a b b (inr (O .joins)) (join-second inner a b (O .joins))
 
 -- a SOME or ALL over an AND or OR
 pub over-node : (codes : List ℕ) (kind v inner a b k pitch : ℕ) (ext work : List ℕ) (code : ℕ) (after : List ℕ) → Over kind inner
@@ -211,37 +252,40 @@ module _ (codes : List ℕ) (kind a b k pitch : ℕ) (ext work : List ℕ) where
     unfolding nodeKind nodeSays Truth
     external-node e P = node-made _ code after P (λ operand g x y hx hy. rw e (λ t. t, λ t. t))
 
-    pub not-node : kind ≡ 3 → Is (λ x y. not (testOf a x y)) → Made code after
+    not-node : kind ≡ 3 → Is (λ x y. not (testOf a x y)) → Made code after
     unfolding nodeKind nodeSays Truth
     not-node e P = node-made _ code after P (λ operand g x y hx hy.
         let s = g a (first-operand kind a b 3 e (omega arith)) .at x y hx hy in
         rw e (not-iff (testOf a x y) s))
 
-    pub and-node : kind ≡ 4 → Is (λ x y. testOf a x y && testOf b x y) → Made code after
-    unfolding nodeKind nodeSays Truth
-    and-node e P = node-made _ code after P (λ operand g x y hx hy.
-        let s = g a (first-operand kind a b 4 e (omega arith)) .at x y hx hy in
-        let t = g b (second-operand kind a b 4 e (omega arith)) .at x y hx hy in
-        rw e (and-says (testOf a x y) (testOf b x y) s t))
+    join-node : (e : (kind ≡ 4) ⊎ (kind ≡ 5)) → Is (λ x y. opBool (opOf kind) (testOf a x y) (testOf b x y)) → Made code after
+    join-node e P = node-made _ code after P (λ operand g x y hx hy.
+        let s = g a (op-first kind a b (inr e)) .at x y hx hy in
+        let t = g b (op-second kind a b b (inr e) (join-second kind a b e)) .at x y hx hy in
+        join-says (modelAt pitch ext work) kind a b (testOf a x y) (testOf b x y) operand x y e s t)
 
-    pub or-node : kind ≡ 5 → Is (λ x y. testOf a x y || testOf b x y) → Made code after
-    unfolding nodeKind nodeSays Truth
-    or-node e P = node-made _ code after P (λ operand g x y hx hy.
-        let s = g a (first-operand kind a b 5 e (omega arith)) .at x y hx hy in
-        let t = g b (second-operand kind a b 5 e (omega arith)) .at x y hx hy in
-        rw e (or-says (testOf a x y) (testOf b x y) s t))
-
-    pub some-node : kind ≡ 6 → Is (ranged Or (varOf b) Or (formAt codes pitch a) (formAt codes pitch a) work pitch) → Made code after
+    some-node : kind ≡ 6 → Is (ranged Or (varOf b) Or (formAt codes pitch a) (formAt codes pitch a) work pitch) → Made code after
     unfolding nodeKind nodeSays Truth
     some-node e P = node-made _ code after P (λ operand g x y hx hy.
         let s = g a (first-operand kind a b 6 e (omega arith)) .at in
         rw e (some-says (pitch * 8) _ (λ z hz. self-says _ (s (withX (varOf b) z x) (withY (varOf b) z y) (withX-lt (varOf b) hz hx) (withY-lt (varOf b) hz hy)))))
 
-    pub all-node : kind ≡ 7 → Is (ranged And (varOf b) Or (formAt codes pitch a) (formAt codes pitch a) work pitch) → Made code after
+    all-node : kind ≡ 7 → Is (ranged And (varOf b) Or (formAt codes pitch a) (formAt codes pitch a) work pitch) → Made code after
     unfolding nodeKind nodeSays Truth
     all-node e P = node-made _ code after P (λ operand g x y hx hy.
         let s = g a (first-operand kind a b 7 e (omega arith)) .at in
         rw e (all-says (pitch * 8) _ (λ z hz. self-says _ (s (withX (varOf b) z x) (withY (varOf b) z y) (withX-lt (varOf b) hz hx) (withY-lt (varOf b) hz hy)))))
+
+    -- NOT, AND and OR by their operation, and SOME and ALL by theirs
+    pub op-node : (j : ℕ) → (kind ≡ 3) ⊎ ((kind ≡ 4) ⊎ (kind ≡ 5)) → Second kind a b j → Is (λ x y. opBool (opOf kind) (testOf a x y) (testOf j x y)) → Made code after
+    unfolding opOf
+    op-node j (inl e) S P = not-node e (rw e at P)
+    op-node j (inr e) S P = join-node e (rw (S .other (λ t. not-alone kind e t)) at P)
+
+    pub range-node : (kind ≡ 6) ⊎ (kind ≡ 7) → Is (ranged (opOf kind) (varOf b) Or (formAt codes pitch a) (formAt codes pitch a) work pitch) → Made code after
+    unfolding opOf
+    range-node (inl e) P = some-node e (rw e at P)
+    range-node (inr e) P = all-node e (rw e at P)
 
     pub closure-node : kind ≡ 8 → Reaches (varOf (b / 2)) (varOf (b % 2)) (formAt codes pitch a) code pitch (planeAt pitch k) work after → Made code after
     unfolding nodeKind nodeSays Truth
