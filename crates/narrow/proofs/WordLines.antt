@@ -1,6 +1,5 @@
 -- The bytes of a line and the bits of a word.
-use mathlib.Core.Path.{_≡_, refl, sym, ap, ap₂, _∙_}
-use mathlib.Core.Bool.{Bool}
+use mathlib.Core.Path.{_≡_, sym, ap, ap₂, _∙_}
 use mathlib.Core.List.{List}
 use Prim.Native.Nat.{ℕ, zero, suc, _+_, _-_, _*_, _/_, _%_, _^_, _≤_, _<_}
 use native.Mathlib.Nat.{not-suc-le-zero}
@@ -10,10 +9,10 @@ use borrow.Author.Count.{below-more}
 use lib.ListN.{length, getD, set, length-set}
 use lib.Seq.{getD-set-same, getD-set-other}
 use Rattle.planes.specs.Bit.{bitOf}
-use Rattle.planes.specs.Plane.{bit, cell, planeSize}
+use Rattle.planes.specs.Plane.{bit, cell}
 use Rattle.planes.specs.Lines.{Laid, Made}
 use Rattle.planes.specs.Laws.Bits.{bit-block, bit-high, bit-shift, bit-low-byte}
-use Rattle.planes.specs.Laws.Places.{bit-at, line-before}
+use Rattle.planes.specs.Laws.Places.{bit-at}
 use Rattle.planes.specs.Laws.Lines.{line-bit}
 use Rattle.planes.specs.Laws.Planes.{made-more}
 use Rattle.narrow.specs.Words.{Joins, test, Lines, byteOf}

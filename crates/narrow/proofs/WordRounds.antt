@@ -2,7 +2,7 @@
 use mathlib.Core.Path.{_≡_, refl, sym, ap, ap₂, subst, _∙_}
 use mathlib.Core.Bool.{Bool, _&&_, _||_}
 use mathlib.Core.List.{List}
-use Prim.Native.Nat.{ℕ, suc, _+_, _≤_, _<_}
+use Prim.Native.Nat.{ℕ, _+_, _≤_, _<_}
 use native.Mathlib.Nat.{not-suc-le-zero}
 use native.Mathlib.Numerals.{add-one}
 use native.Mathlib.Omega.{arith}
@@ -11,7 +11,7 @@ use lib.ListN.{length, getD, set, length-set}
 use lib.Seq.{getD-set-same, getD-set-other}
 use lib.Bits.{bitOr}
 use Rattle.planes.specs.Bit.{bitOf}
-use Rattle.planes.specs.Tabulated.{Grid, gridTest, grid}
+use Rattle.planes.specs.Tabulated.{gridTest, grid}
 use Rattle.planes.specs.Laws.Bits.{bit-or}
 use Rattle.planes.specs.Laws.Tabulated.{grid-at}
 use Rattle.closure.specs.Computed.{rounds, closed}

@@ -5,65 +5,24 @@ use mathlib.Core.List.{List}
 use Prim.Native.Nat.{ℕ, _+_, _*_, _/_, _%_, _≤_, _<_}
 use native.Mathlib.Nat.{zero-add}
 use native.Mathlib.Omega.{arith}
-use lib.ListN.{length, getD, set, replicate, getD-replicate}
+use lib.ListN.{length, getD, replicate, getD-replicate}
 use Rattle.planes.specs.Bit.{bitOf}
 use Rattle.planes.specs.Plane.{bit}
 use Rattle.planes.specs.Lines.{Laid}
 use Rattle.planes.specs.Laws.Places.{bit-at}
-use Rattle.planes.proofs.LaidBytes.{laid-more}
 use Rattle.records.specs.Policy.{Var, X, Y}
 use Rattle.truth.specs.Truth.{withX, withY}
 use Rattle.truth.specs.Laws.Tables.{withX-lt, withY-lt}
-use Rattle.nodes.specs.declared.lines.Op.{Op}
-use Rattle.nodes.specs.declared.lines.Row.{Row}
-use Rattle.nodes.specs.declared.lines.Row.the-variants.{Full, From}
-use Rattle.nodes.specs.declared.lines.Join.{Join}
-use Rattle.nodes.specs.declared.lines.Join.the-variants.{Same, Two}
+use Rattle.lines.specs.declared.Op.{Op}
+use Rattle.lines.specs.declared.Join.{Join}
 use Rattle.nodes.specs.declared.forms.Form.{Form}
 use Rattle.nodes.specs.declared.forms.Form.the-variants.{OfX, OfY, Both, Turned}
-use Rattle.nodes.specs.Shapes.{opBool, opByte, over, unit, unitByte, fullByte, Quantifies, bitsOf, Line, Lined, Plane, Source, rowByte, Even, RowWithin, joinByte, Joins, LineIs}
+use Rattle.lines.specs.Shapes.{opBool, opByte, over, unit, unitByte, fullByte, Quantifies, bitsOf, Line, Lined, Plane, Source, Even, RowWithin, joinByte, Joins, LineIs}
 use Rattle.nodes.specs.Forms.{tests, place, turned, Upright, rowOf, lineCode, lineForm, Paired, joined, ranged, Stands}
-use Rattle.nodes.specs.Laws.LineBits.{full-bit, op-bit}
+use Rattle.lines.specs.Laws.LineBits.{full-bit, op-bit}
 use Rattle.nodes.specs.Laws.Forms.{turned-tests, turned-place, line-room, first-room, stands-as, lined-stands, laid-lined, source-plane}
 use Rattle.nodes.proofs.LinesLaid.{row-tests}
-use Rattle.nodes.proofs.Quantified.{over-same, over-one, over-none, over-more, twice, comm, right-unit, decides}
-
--- joins of rows, by their kinds
-module _ (t : Op) where
-  pub joins-full : (c d v : ℕ) → v ≡ opByte t c d → Joins t (Full c) (Full d) (Same v)
-  joins-full c d v e = record { within = λ n len p q. tt; is = λ bytes j i l. ap (λ (w : ℕ). bitOf w i) e ∙ op-bit t c d i l }
-
-  pub joins-two : (a b : ℕ) → Joins t (From a) (From b) (Two a b)
-  joins-two a b = record { within = λ n len p q. (p, q); is = λ bytes j i l. op-bit t (getD bytes (a + j) 0) (getD bytes (b + j) 0) i l }
-
-  module _ (h : Quantifies t) where
-    pub joins-unit : (c a u : ℕ) → u ≡ unitByte t → c ≡ u → Joins t (Full c) (From a) (Two a a)
-    joins-unit c a u e q = record {
-      within = λ n len p r. (r, r);
-      is = λ bytes j i l.
-          let v = getD bytes (a + j) 0 in
-          op-bit t v v i l
-          ∙ twice t h (bitOf v i)
-          ∙ sym (right-unit t h (bitOf v i))
-          ∙ comm t h (bitOf v i) (unit t)
-          ∙ ap (λ (s : Bool). opBool t s (bitOf v i)) (sym (full-bit (unit t) i l) ∙ ap (λ (w : ℕ). bitOf w i) (sym (q ∙ e)));
-    }
-
-    pub joins-other : (c a u : ℕ) → Even (Full c) → u ≡ unitByte t → (c ≡ u → ⊥) → Joins t (Full c) (From a) (Same c)
-    joins-other c a u E e n = record {
-      within = λ k len p r. tt;
-      is = λ bytes j i l.
-          let s = ap (λ (w : ℕ). bitOf w i) (E .1) ∙ full-bit (E .0) i l in
-          s
-          ∙ sym (decides t h (E .0) (bitOf (getD bytes (a + j) 0) i) (λ q. n (E .1 ∙ ap fullByte q ∙ sym e)))
-          ∙ ap (λ (b : Bool). opBool t b (bitOf (getD bytes (a + j) 0) i)) (sym s);
-    }
-
-    pub joins-swap : (p q : Row) (e : Join) → Joins t p q e → Joins t q p e
-    joins-swap p q e J = record {
-      within = λ n len x y. J .within n len y x;
-      is = λ bytes j i l. J .is bytes j i l ∙ comm t h (bitOf (rowByte p bytes j) i) (bitOf (rowByte q bytes j) i);
-    }
+use Rattle.lines.proofs.Quantified.{over-same, over-one, over-none, over-more}
 
 -- line x of a form
 module _ (bytes : List ℕ) (pitch x : ℕ) where
@@ -145,10 +104,6 @@ ranged-same o t v a b c d pitch m n p q x y hx hy =
     ap₂ (opBool t)
     (p (withX v z x) (withY v z y) (withX-lt v hz hx) (withY-lt v hz hy))
     (q (withX v z x) (withY v z y) (withX-lt v hz hx) (withY-lt v hz hy)))
-
--- one byte more of a line that takes in others
-pub first-more : (f : ℕ → ℕ) (j pitch v : ℕ) (a l : List ℕ) → Laid f 0 j a l → j < pitch → pitch ≤ length a → v ≡ f j → Laid f 0 (j + 1) a (set l j v)
-first-more f j pitch v a l L hj hw e = rw (zero-add) at (laid-more f 0 j pitch a l L hj (omega arith) v e)
 
 -- a line that takes in line after line, by an operation
 module _ (o : Op) (h : Quantifies o) (pitch : ℕ) where

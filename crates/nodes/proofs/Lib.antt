@@ -1,5 +1,3 @@
 -- Laws that several proofs of this crate use.
 pub mod Gathered
 pub mod LinesLaid
-pub mod Spans
-pub mod Quantified

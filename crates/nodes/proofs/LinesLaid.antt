@@ -13,14 +13,14 @@ use Rattle.planes.specs.Lines.{Laid, Made}
 use Rattle.planes.specs.Laws.Lines.{line-bit, line-kept}
 use Rattle.planes.specs.Laws.Places.{bit-at, line-before}
 use Rattle.planes.specs.Laws.Planes.{made-more}
-use Rattle.nodes.specs.declared.lines.Op.{Op}
-use Rattle.nodes.specs.declared.lines.Row.{Row}
-use Rattle.nodes.specs.declared.lines.Row.the-variants.{From}
+use Rattle.lines.specs.declared.Op.{Op}
+use Rattle.lines.specs.declared.Row.{Row}
+use Rattle.lines.specs.declared.Row.the-variants.{From}
 use Rattle.nodes.specs.declared.forms.Form.{Form}
 use Rattle.nodes.specs.declared.forms.Form.the-variants.{OfX, OfY, Both, Turned}
-use Rattle.nodes.specs.Shapes.{opBool, opByte, Lined, Plane, Source, Span, rowByte, Ready}
+use Rattle.lines.specs.Shapes.{opBool, opByte, Lined, Plane, Source, Span, rowByte, Ready}
 use Rattle.nodes.specs.Forms.{tests, place, Upright, rowOf, Readable}
-use Rattle.nodes.specs.Laws.LineBits.{full-bit, op-bit}
+use Rattle.lines.specs.Laws.LineBits.{full-bit, op-bit}
 use Rattle.nodes.specs.Laws.PlaneShapes.{line-small, source-in}
 use Rattle.nodes.specs.Laws.Forms.{tests-kept}
 

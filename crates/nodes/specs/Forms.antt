@@ -9,10 +9,10 @@ use Rattle.planes.specs.Plane.{bit, cell, On, planeSize}
 use Rattle.records.specs.Policy.{Var, X, Y}
 use Rattle.closure.specs.Walk.{Walk}
 use Rattle.truth.specs.Truth.{value, withX, withY}
-use Rattle.nodes.specs.Shapes.{opBool, fullByte, over, Outside, Plane, Source}
-use Rattle.nodes.specs.declared.lines.Op.{Op}
-use Rattle.nodes.specs.declared.lines.Row.{Row}
-use Rattle.nodes.specs.declared.lines.Row.the-variants.{Full, From}
+use Rattle.lines.specs.Shapes.{opBool, fullByte, over, Outside, Plane, Source}
+use Rattle.lines.specs.declared.Op.{Op}
+use Rattle.lines.specs.declared.Row.{Row}
+use Rattle.lines.specs.declared.Row.the-variants.{Full, From}
 use Rattle.nodes.specs.declared.forms.Form.{Form}
 use Rattle.nodes.specs.declared.forms.Form.the-variants.{OfX, OfY, Both, Turned}
 use Rattle.nodes.specs.declared.forms.Way.{Way}

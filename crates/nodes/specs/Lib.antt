@@ -1,5 +1,4 @@
 -- The tests of a policy's node, in the work buffer.
-pub mod Shapes
 pub mod Forms
 pub mod Node
 pub mod Laws

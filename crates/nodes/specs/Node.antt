@@ -10,9 +10,9 @@ use Rattle.planes.specs.Plane.{bit, On, planeSize}
 use Rattle.records.specs.Record.{mostNodes}
 use Rattle.records.specs.Policy.{Formula, NodeKind, kBIT, kR, kE, kNOT, kAND, kOR, kSOME, kALL, kTC, kNone, nodeKind, nodeSays}
 use Rattle.truth.specs.Truth.{Model, Truth}
-use Rattle.nodes.specs.Shapes.{Outside}
-use Rattle.nodes.specs.declared.lines.Op.{Op}
-use Rattle.nodes.specs.declared.lines.Op.the-variants.{Not, And, Or}
+use Rattle.lines.specs.Shapes.{Outside}
+use Rattle.lines.specs.declared.Op.{Op}
+use Rattle.lines.specs.declared.Op.the-variants.{Not, And, Or}
 use Rattle.nodes.specs.declared.forms.Form.{Form}
 use Rattle.nodes.specs.Forms.{tests, formOf, Reached}
 

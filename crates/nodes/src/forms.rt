@@ -1,7 +1,7 @@
 // The forms in which the tests of a node stand in the work buffer.
 ghost use mathlib.Core.Path.{_≡_};
 ghost use Prim.Native.Nat.{ℕ, _*_, _<_};
-ghost use Rattle.nodes.specs.Shapes.{Plane};
+ghost use Rattle.lines.specs.Shapes.{Plane};
 ghost use Rattle.nodes.specs.declared.forms.Form.the-variants.{OfX, OfY, Both, Turned};
 ghost use Rattle.nodes.specs.Forms.{turned, formOf, turnCode, tests, place, Pairs};
 

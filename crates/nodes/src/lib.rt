@@ -1,5 +1,4 @@
 // The tests of a policy's node, in the work buffer.
 pub mod forms;
-pub mod lines;
 pub mod node;
 mod shapes;

@@ -8,8 +8,8 @@ ghost use Rattle.records.specs.Policy.{nodeKind};
 ghost use Rattle.nodes.specs.Node.{arity, formAt, Makeable, NodeMade, OverMade, opOf, Second, Over};
 use crate::forms;
 use crate::forms::Form;
-use crate::lines::Op;
 use crate::shapes;
+use lines::Op;
 
 // A node of a policy: its kind, bytes 3 and 4 of its record, and the number of its operands.
 pub struct Node {

@@ -8,16 +8,15 @@ ghost use Rattle.planes.specs.Plane.{bit, cell, planeSize};
 ghost use Rattle.planes.specs.Lines.{Laid, Made};
 ghost use Rattle.records.specs.Policy.{varOf};
 ghost use Rattle.truth.specs.Truth.{value};
-ghost use Rattle.nodes.specs.Shapes.{opBool, opByte, over, Quantifies, Line, LineIs, Lined, Plane, Source, Span};
+ghost use Rattle.lines.specs.Shapes.{opBool, opByte, over, Quantifies, Line, LineIs, Lined, Plane, Source, Span};
 ghost use Rattle.nodes.specs.declared.forms.Form.the-variants.{Both};
 ghost use Rattle.nodes.specs.Forms.{tests, place, turned, Upright, rowOf, Readable, Paired, joined, Stands, lineCode, lineForm, ranged, arranged, Reached, Closes, Reaches};
 use crate::forms;
 use crate::forms::Form;
 use crate::forms::Way;
-use crate::lines;
-use crate::lines::Join;
-use crate::lines::Op;
-use crate::lines::Row;
+use lines::Join;
+use lines::Op;
+use lines::Row;
 
 // Line x of a form that does not stand exchanged.
 fn row_of(work: &[u8], f: Form, x: usize, pitch: usize) -> Row

@@ -27,7 +27,7 @@ use Rattle.steps.specs.Step.{Step, external}
 use Rattle.groups.specs.Adds.{lineBytes}
 use Rattle.steps.specs.Filled.{Filled}
 use Rattle.verdict.specs.declared.judge.Judged.{Judged}
-use Rattle.nodes.specs.Shapes.{Line, Plane}
+use Rattle.lines.specs.Shapes.{Line, Plane}
 use Rattle.nodes.specs.Node.{planeAt}
 use Rattle.nodes.specs.Laws.NodePlanes.{plane-after}
 use Rattle.verdict.specs.Judge.{verdictOf, CleanStore, Testable, StepsClosed, Searched, Judgeable, Judges}

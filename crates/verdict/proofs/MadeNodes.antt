@@ -18,7 +18,7 @@ use Rattle.rows.specs.Laws.Formulas.{first-formula}
 use Rattle.closure.specs.Laws.Walks.{map-walk}
 use Rattle.nodes.specs.declared.forms.Form.{Form}
 use Rattle.nodes.specs.declared.node.Node.{Node}
-use Rattle.nodes.specs.Shapes.{Outside, Plane}
+use Rattle.lines.specs.Shapes.{Outside, Plane}
 use Rattle.nodes.specs.Forms.{place, formOf, Reached}
 use Rattle.nodes.specs.Laws.Forms.{code-place, code-plane, tests-kept}
 use Rattle.nodes.specs.Node.{planeAt, arity, Operand, formAt, modelAt, Shows, Makeable, FormMade, Over}

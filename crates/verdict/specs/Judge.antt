@@ -18,7 +18,7 @@ use Rattle.verdict.specs.Verdict.{Verdict, holds, violated, Is}
 use Rattle.verdict.specs.Judgement.{verdict}
 use Rattle.verdict.specs.Laws.Same.{SameModel}
 use Rattle.planes.specs.Plane.{planeSize}
-use Rattle.nodes.specs.Shapes.{Outside}
+use Rattle.lines.specs.Shapes.{Outside}
 use Rattle.nodes.specs.Forms.{Reached}
 use Rattle.nodes.specs.Node.{planeAt, modelAt}
 use Rattle.verdict.specs.Model.{modelOf}

@@ -6,11 +6,10 @@ ghost use Rattle.records.specs.Record.{records};
 ghost use Rattle.scan.specs.Stored.{Stored};
 ghost use Rattle.steps.specs.Step.{external};
 ghost use Rattle.planes.specs.Plane.{planeSize};
-ghost use Rattle.nodes.specs.Shapes.{Line, Plane};
+ghost use Rattle.lines.specs.Shapes.{Line, Plane};
 ghost use Rattle.verdict.specs.Judge.{Run, Testable, StepsClosed, Searched, Judgeable, Judges};
 use crate::policy;
 use crate::policy::Offender;
-use nodes::lines;
 use scan::Layout;
 
 // The answer on a network: it holds, or the lowest broken policy and the lowest state that breaks it.

@@ -8,7 +8,7 @@ ghost use Rattle.nodes.specs.Node.{formAt, Makeable, Over};
 ghost use Rattle.nodes.specs.Forms.{tests, place};
 ghost use Rattle.verdict.specs.Evaluated.{nodesAt, NodeAt, PolicyReady, Asked, Given, NodeSettled, OverSettled, stateOf, Tested};
 ghost use Rattle.verdict.specs.Computed.{firstFrom};
-ghost use Rattle.nodes.specs.Shapes.{Plane};
+ghost use Rattle.lines.specs.Shapes.{Plane};
 use nodes::forms;
 use nodes::forms::Form;
 use nodes::node;

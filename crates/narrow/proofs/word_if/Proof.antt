@@ -1,5 +1,5 @@
 -- `narrow::word_if` meets its contract.
-use mathlib.Core.Path.{_≡_, sym, ap, _∙_}
+use mathlib.Core.Path.{sym, ap, _∙_}
 use mathlib.Core.Bool.{Bool, _&&_}
 use Rattle.planes.specs.Bit.{bitOf}
 use Rattle.planes.specs.Laws.Bits.{bit-zero}

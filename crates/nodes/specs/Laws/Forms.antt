@@ -19,7 +19,7 @@ use Rattle.closure.specs.Laws.Walks.{map-walk, walk-back}
 use Rattle.nodes.specs.declared.forms.Form.{Form}
 use Rattle.nodes.specs.declared.forms.Form.the-variants.{OfX, OfY, Both, Turned}
 use Rattle.truth.specs.Truth.{value}
-use Rattle.nodes.specs.Shapes.{Outside, Lined, Plane, Source}
+use Rattle.lines.specs.Shapes.{Outside, Lined, Plane, Source}
 use Rattle.nodes.specs.Forms.{tests, place, turned, formOf, turnCode, lineCode, arranged, Stands, Reached, Reaches, Closes}
 use Rattle.truth.specs.Laws.Tables.{value-lt}
 use Rattle.nodes.specs.Laws.PlaneShapes.{line-small}

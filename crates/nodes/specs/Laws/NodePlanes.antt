@@ -14,9 +14,9 @@ use Rattle.planes.specs.Laws.Places.{line-before}
 use Rattle.planes.specs.Laws.Lines.{no-bit}
 use Rattle.records.specs.Policy.{Formula, kBIT, kR, kE, kNOT, kAND, kOR, kSOME, kALL, kTC, kNone, nodeKind, nodeSays, varOf}
 use Rattle.closure.specs.Laws.Walks.{map-walk}
-use Rattle.nodes.specs.declared.lines.Op.the-variants.{Not, And, Or}
+use Rattle.lines.specs.declared.Op.the-variants.{Not, And, Or}
 use Rattle.truth.specs.Truth.{Model, value, withX, withY, Truth}
-use Rattle.nodes.specs.Shapes.{opBool, over, Quantifies, Plane, Source}
+use Rattle.lines.specs.Shapes.{opBool, over, Quantifies, Plane, Source}
 use Rattle.nodes.specs.Forms.{tests, place, formOf, joined, ranged, arranged, Stands, Reaches}
 use Rattle.nodes.specs.Node.{planeAt, arity, Operand, formAt, modelAt, Shows, Makeable, FormMade, NodeMade, OverMade, opOf, Second, Over}
 use Rattle.nodes.specs.Laws.Forms.{code-place, stands-as}

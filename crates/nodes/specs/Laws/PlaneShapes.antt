@@ -7,7 +7,7 @@ use native.Mathlib.Omega.{arith}
 use lib.ListN.{length}
 use Rattle.planes.specs.Plane.{planeSize}
 use Rattle.records.specs.Policy.{Y, varOf}
-use Rattle.nodes.specs.Shapes.{Plane, Source}
+use Rattle.lines.specs.Shapes.{Plane, Source}
 
 -- a byte other than 0 names Y
 pub other-var : (v : ℕ) → (v ≡ 0 → ⊥) → varOf v ≡ Y

@@ -7,7 +7,7 @@ use Rattle.planes.specs.Plane.{bit}
 use Rattle.records.specs.Policy.{X, Y}
 use Prim.Native.Nat.{ℕ, _+_, _*_}
 use Rattle.nodes.specs.declared.forms.Form.{Form}
-use Rattle.nodes.specs.Shapes.{opBool}
+use Rattle.lines.specs.Shapes.{opBool}
 use Rattle.nodes.specs.Forms.{tests}
 use Rattle.nodes.specs.Laws.PlaneShapes.{plane-in, source-in}
 use Rattle.nodes.specs.Laws.Forms.{lie-apart, stands-as, lined-stands, made-straight, made-exchanged, turned-tests, turned-place, turned-here, other-same, then-made}

@@ -1,8 +1,8 @@
 -- `nodes::shapes::bit_line` meets its contract.
 use borrow.Author.Needs.{needs}
 use Rattle.records.specs.Policy.{varOf}
-use Rattle.nodes.specs.Shapes.{bitByte}
-use Rattle.nodes.specs.Laws.LineBits.{bit-tests}
+use Rattle.lines.specs.Shapes.{bitByte}
+use Rattle.lines.specs.Laws.LineBits.{bit-tests}
 use Rattle.nodes.specs.Laws.Forms.{first-room, lined-stands, laid-lined}
 use Rattle.nodes.proofs.shapes.bit_line.Statement.{statement}
 use Rattle.nodes.proofs.shapes.bit_line.Tie as tie

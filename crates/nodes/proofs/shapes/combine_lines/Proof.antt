@@ -6,7 +6,7 @@ use Rattle.planes.specs.Plane.{planeSize}
 use Rattle.planes.specs.Lines.{Made}
 use Rattle.planes.specs.Laws.Places.{line-before}
 use Rattle.planes.specs.Laws.Planes.{made-none}
-use Rattle.nodes.specs.Shapes.{opBool}
+use Rattle.lines.specs.Shapes.{opBool}
 use Rattle.nodes.specs.Forms.{tests}
 use Rattle.nodes.proofs.LinesLaid.{laid-more, readable-there, row-ready, still-plane, still-readable}
 use Rattle.nodes.proofs.shapes.combine_lines.Statement.{statement}

@@ -3,7 +3,7 @@ use mathlib.Core.Path.{_≡_}
 use Prim.Native.Nat.{_+_, _*_, _-_, _≤_}
 use Rattle.planes.specs.Plane.{cell, planeSize}
 use Rattle.planes.specs.Laws.Places.{line-before}
-use Rattle.nodes.specs.Laws.LineBits.{Upto, upto-none, upto-more, upto-all}
+use Rattle.lines.specs.Laws.LineBits.{Upto, upto-none, upto-more, upto-all}
 use native.Mathlib.Omega.{arith}
 use Rattle.nodes.proofs.shapes.diagonal.Statement.{statement}
 use Rattle.nodes.proofs.shapes.diagonal.Tie as tie

@@ -4,7 +4,7 @@ use Prim.Native.Nat.{_*_, _-_, _≤_}
 use native.Mathlib.Omega.{arith}
 use denote.Ref.{now}
 use lib.ListN.{length}
-use Rattle.nodes.specs.Shapes.{over, Line}
+use Rattle.lines.specs.Shapes.{over, Line}
 use Rattle.nodes.specs.Forms.{joined}
 use Rattle.nodes.proofs.Gathered.{taken-none, taken-more}
 use Rattle.nodes.proofs.shapes.gather_x.Statement.{statement}

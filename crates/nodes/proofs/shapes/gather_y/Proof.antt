@@ -2,10 +2,10 @@
 use mathlib.Core.Path.{_≡_, _∙_}
 use Prim.Native.Nat.{_*_, _-_, _≤_}
 use native.Mathlib.Omega.{arith}
-use Rattle.nodes.specs.Shapes.{over}
+use Rattle.lines.specs.Shapes.{over}
 use Rattle.nodes.specs.Forms.{joined}
-use Rattle.nodes.specs.Laws.LineBits.{Upto, upto-none, upto-more, upto-all}
-use Rattle.nodes.proofs.Quantified.{over-same}
+use Rattle.lines.specs.Laws.LineBits.{Upto, upto-none, upto-more, upto-all}
+use Rattle.lines.proofs.Quantified.{over-same}
 use Rattle.nodes.proofs.shapes.gather_y.Statement.{statement}
 use Rattle.nodes.proofs.shapes.gather_y.Tie as tie
 

@@ -5,7 +5,7 @@ use denote.Ref.{now}
 use Rattle.nodes.specs.Laws.PlaneShapes.{other-var}
 use Rattle.nodes.specs.Laws.Forms.{stands-as}
 use Rattle.nodes.proofs.Gathered.{turned-joined}
-use Rattle.nodes.proofs.Quantified.{over-same}
+use Rattle.lines.proofs.Quantified.{over-same}
 use Rattle.nodes.proofs.shapes.range_turned.Statement.{statement}
 use Rattle.nodes.proofs.shapes.range_turned.Tie as tie
 

@@ -3,8 +3,8 @@ use mathlib.Core.Path.{ap, _∙_}
 use Prim.Native.Nat.{_+_, _*_, _≤_}
 use lib.ListN.{length}
 use denote.Ref.{now}
-use Rattle.nodes.specs.declared.lines.Row.the-variants.{Full}
-use Rattle.nodes.specs.Shapes.{fullByte}
+use Rattle.lines.specs.declared.Row.the-variants.{Full}
+use Rattle.lines.specs.Shapes.{fullByte}
 use Rattle.nodes.specs.Laws.Forms.{line-room, first-room}
 use native.Mathlib.Omega.{arith}
 use borrow.Author.Needs.{needs}

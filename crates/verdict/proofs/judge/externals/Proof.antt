@@ -3,7 +3,7 @@ use mathlib.Core.Path.{_≡_}
 use Prim.Native.Nat.{_-_, _≤_}
 use Rattle.records.specs.Record.{records}
 use Rattle.steps.specs.Step.{external}
-use Rattle.nodes.specs.Laws.LineBits.{Upto, upto-none, upto-more, upto-all}
+use Rattle.lines.specs.Laws.LineBits.{Upto, upto-none, upto-more, upto-all}
 use borrow.Author.Needs.{needs}
 use denote.Ref.{now}
 use native.Mathlib.Omega.{arith}
