@@ -285,7 +285,7 @@ fn meet(
     settle(work, to, pitch, x, last, idle, met, most)
 }
 
-// The lines of the plane at to in this order, with 32 lines for each to take in; whether all are met.
+// The lines of the plane at to in this order, with 16 lines for each to take in; whether all are met.
 fn meet_all(work: &mut [u8], to: usize, pitch: usize, order: &[u16; 1024], idle: &[u8; 128]) -> bool
     requires { ⌜ (to + planeSize pitch ≤ length (now work)) × (pitch ≤ 128) × (pitch % 8 ≡ 0) ⌝ }
     requires { ⌜ Idle to pitch (now idle) (now work) ⌝ }
@@ -293,7 +293,7 @@ fn meet_all(work: &mut [u8], to: usize, pitch: usize, order: &[u16; 1024], idle:
 {
     let states = pitch * 8;
     let mut met = *idle;
-    let mut left = states * 32;
+    let mut left = states * 16;
     let mut last: usize = 0;
     let mut i: usize = 0;
     while i < states {
