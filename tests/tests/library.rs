@@ -141,6 +141,16 @@ fn crowded_networks() {
 }
 
 #[test]
+fn rules_repeated_anywhere() {
+    compare::repeated_rules(&Second, &Library, 60, 400, 5).unwrap();
+}
+
+#[test]
+fn points_linked_twice_anywhere() {
+    compare::repeated_points(&Second, &Library, 61, 200).unwrap();
+}
+
+#[test]
 fn long_series() {
     let tally = compare::series(&Second, &Library, 46, 12, 6, 400).unwrap();
     assert!(tally.forwarded > 500 && tally.blocked > 200, "{tally:?}");

@@ -107,7 +107,7 @@ pub fn make(
     }
 }
 
-// Whether a node is an AND or OR.
+// Whether a node is an AND or OR; a no will always do.
 fn joins(kind: u8) -> bool
     ensures { λ r. ⌜ (r ≡ true → (kind ≡ 4) ⊎ (kind ≡ 5)) ⌝ }
 {
@@ -119,7 +119,7 @@ fn joins(kind: u8) -> bool
     }
 }
 
-// Whether a SOME or ALL stands over an AND or OR.
+// Whether a SOME or ALL stands over an AND or OR; a no will always do.
 pub fn over(kind: u8, inner: u8) -> bool
     ensures { λ r. ⌜ (r ≡ true → Over kind inner) ⌝ }
 {

@@ -339,7 +339,7 @@ fn marked(seen: &[u8; 128], x: usize) -> bool
     planes::get_bit(seen, x)
 }
 
-// Whether the pitch bytes of p from at on are all zero.
+// Whether the pitch bytes of p from at on are all zero; a no will always do.
 fn all_zero(p: &[u8], at: usize, pitch: usize) -> bool
     requires { ⌜ at + pitch ≤ length (now p) ⌝ }
     ensures { λ r. ⌜ (r ≡ true → Blank (now (p .entry)) at pitch) ⌝ }
@@ -353,7 +353,7 @@ fn all_zero(p: &[u8], at: usize, pitch: usize) -> bool
     b == 0
 }
 
-// Whether the line of pitch bytes at `at` has no state: where pitch is 128, by a loop of a known length.
+// Whether the line of pitch bytes at `at` has no state; a no will always do. Where pitch is 128, by a loop of a known length.
 fn is_blank(work: &[u8], at: usize, pitch: usize) -> bool
     requires { ⌜ (at + pitch ≤ length (now work)) × (pitch ≤ 128) × (pitch % 8 ≡ 0) ⌝ }
     ensures { λ r. ⌜ (r ≡ true → Blank (now (work .entry)) at pitch) ⌝ }

@@ -61,7 +61,7 @@ fn settle_over(work: &mut [u8], n: Node, m: Node, pitch: usize, k: usize, codes:
     codes[k] = code;
 }
 
-// Whether n is a SOME or ALL over m, its operand, an AND or OR that is not made: then m need not be.
+// Whether n is a SOME or ALL over m, its operand, an AND or OR that is not made: then m need not be. A no will always do.
 fn passes_over(codes: &[u8; 32], n: Node, m: Node) -> bool
     requires { ⌜ n .a < 32 ⌝ }
     ensures { λ r. ⌜ (r ≡ true → Over (n .kind) (m .kind)) ⌝ }

@@ -9,7 +9,7 @@ use crate::gate::{Checked, Commanded, Gate, Lent, Program, Routed, MOST_RECORDS,
 use crate::inputs::random_input;
 use crate::networks::{
     all_widths, crowded, full_network, guarded_network, largest, random_group, random_network,
-    random_rule, work_needed, Sizes, Widths, MODEST, MOST_GROUPS,
+    random_rule, work_needed, Sizes, Widths, MODEST, MOST_GROUPS, MOST_RULES,
 };
 use crate::random::Random;
 use crate::records::Record;
@@ -224,6 +224,68 @@ pub fn crowded_networks(
         tally.checked(same_check(one, other, &lent)?);
     }
     Ok(tally)
+}
+
+/// Checks of networks with the most rules, of which one has the key of an earlier one: row 8 at its place,
+/// wherever the two stand.
+pub fn repeated_rules(
+    one: &dyn Gate,
+    other: &dyn Gate,
+    seed: u64,
+    rounds: usize,
+    bits: u8,
+) -> Result<(), String> {
+    let mut random = Random::new(seed);
+    let widths = widths_up_to(bits);
+    for _ in 0..rounds {
+        let of = random.pick(&widths);
+        let mut records = crowded(&mut random, of);
+        let rules = records.partition_point(|record| record[0] < 4);
+        let later = 1 + random.below(MOST_RULES - 1);
+        let earlier = records[rules + random.below(later)];
+        records[rules + later][1..8].copy_from_slice(&earlier[1..8]);
+        expect_refusal(one, other, &mut random, &records, 8, rules + later)?;
+    }
+    Ok(())
+}
+
+/// Checks of largest networks, of which one link ends where an earlier one does: row 6 at its place,
+/// whichever of the four ends are the same.
+pub fn repeated_points(
+    one: &dyn Gate,
+    other: &dyn Gate,
+    seed: u64,
+    rounds: usize,
+) -> Result<(), String> {
+    let mut random = Random::new(seed);
+    for _ in 0..rounds {
+        let mut records = largest(&mut random);
+        let links = records.partition_point(|record| record[0] < 3) - 1;
+        let later = 1 + random.below(links - 1);
+        let earlier = records[1 + random.below(later)];
+        let [from, to] = random.pick(&[[1, 1], [1, 3], [3, 1], [3, 3]]);
+        records[1 + later][to..to + 2].copy_from_slice(&earlier[from..from + 2]);
+        expect_refusal(one, other, &mut random, &records, 6, 1 + later)?;
+    }
+    Ok(())
+}
+
+/// An error, unless both gates refuse the records by this row at this place.
+fn expect_refusal(
+    one: &dyn Gate,
+    other: &dyn Gate,
+    random: &mut Random,
+    records: &[Record],
+    number: usize,
+    place: usize,
+) -> Result<(), String> {
+    let work = random.below(64);
+    let lent = lend(random, records, work);
+    let answer = same_check(one, other, &lent)?;
+    if answer == (Checked::Refused { number, place }) {
+        return Ok(());
+    }
+    Err(format!("{answer:?}, not row {number} at {place}"))
 }
 
 /// Puts a rule, a policy or a group behind the last one of a crowded network.
