@@ -7,15 +7,11 @@ use streams::input::Later;
 use streams::input::Next;
 use streams::input::Piece;
 use streams::input::Said;
-ghost use mathlib.Core.Path.{_≡_};
-ghost use mathlib.Core.List.{[]};
-ghost use Prim.Native.Nat.{_-_, _≤_};
+ghost use Prim.Native.Nat.{_≤_};
 ghost use lib.ListN.{length};
-ghost use Rattle.records.specs.NetK.{inStore};
 ghost use Rattle.calls.specs.Answer.{checkAnswerOf, commandAnswerOf};
-ghost use Rattle.calls.specs.Check.{checkAnswer};
-ghost use Rattle.streams.specs.Reading.{InRoom, PieceWithin, Loads};
-ghost use Rattle.streams.specs.Output.{workBytes, installedWith, OutcomeIs};
+ghost use Rattle.streams.specs.Reading.{ReadBehind, PieceRead, Loads};
+ghost use Rattle.streams.specs.Output.{installedWith, CheckIs, OutcomeIs};
 
 // How many network records were read, and what came after them.
 struct Loaded {
@@ -32,7 +28,7 @@ struct Answered {
 // Reads once, behind the first done bytes of the buffer.
 fn read_at(buffer: &mut [u8], done: usize) -> Said
     requires { ⌜ done ≤ length (now buffer) ⌝ }
-    ensures { λ r. ⌜ InRoom r (length (now (buffer .entry)) - done) ⌝ }
+    ensures { λ r. ⌜ ReadBehind done (now (buffer .entry)) (now (buffer .exit)) r ⌝ }
 {
     let got = libc::read(STDIN_FILENO, &mut buffer[done..]);
     streams::input::read_said(got)
@@ -40,7 +36,7 @@ fn read_at(buffer: &mut [u8], done: usize) -> Said
 
 // Reads until the buffer is full, the input ends or a read fails.
 fn fill(buffer: &mut [u8]) -> Piece
-    ensures { λ r. ⌜ PieceWithin r (now (buffer .exit)) ⌝ }
+    ensures { λ r. ⌜ PieceRead (now (buffer .entry)) (now (buffer .exit)) r ⌝ }
 {
     let mut done = 0;
     while done < buffer.len() {
@@ -62,14 +58,14 @@ fn fill(buffer: &mut [u8]) -> Piece
 
 // Reads the next piece of the input. The array is whole, so that the caller owes no proof of its length.
 fn read_piece(rec: &mut [u8; 24]) -> Piece
-    ensures { λ r. ⌜ PieceWithin r (now (rec .exit)) ⌝ }
+    ensures { λ r. ⌜ PieceRead (now (rec .entry)) (now (rec .exit)) r ⌝ }
 {
     fill(rec)
 }
 
 // Reads network records up to the first command, the end, a cut record, one record too many, or a read that fails.
 fn load(store: &mut [u8; records::STORE_BYTES], rec: &mut [u8; 24]) -> Loaded
-    ensures { λ r. ⌜ (now (store .entry) ≡ inStore [] → Loads (r .met) (r .n) (now (store .exit))) ⌝ }
+    ensures { λ r. ⌜ Loads (r .met) (r .n) (now (store .entry)) (now (store .exit)) ⌝ }
 {
     let mut n = 0;
     loop {
@@ -122,7 +118,7 @@ fn tell_short() {
 
 // The check call on the program's store and work.
 fn check(store: &[u8; records::STORE_BYTES], n: usize, work: &mut [u8; 65536]) -> Checked
-    ensures { λ r. ⌜ checkAnswerOf r ≡ checkAnswer (now (store .entry)) n workBytes ⌝ }
+    ensures { λ r. ⌜ CheckIs (now (store .entry)) n (now (work .entry)) (checkAnswerOf r) (now (work .exit)) ⌝ }
 {
     calls::check(store, n, work)
 }
@@ -134,7 +130,7 @@ fn answer(
     work: &mut [u8; 65536],
     rec: &[u8; 24],
 ) -> Answered
-    ensures { λ r. ⌜ OutcomeIs (installedWith n (now (store .entry))) (now (rec .entry)) (commandAnswerOf (r .answer)) (installedWith (r .count) (now (store .exit))) ⌝ }
+    ensures { λ r. ⌜ OutcomeIs (installedWith n (now (store .entry))) (now (rec .entry)) (now (work .entry)) (commandAnswerOf (r .answer)) (installedWith (r .count) (now (store .exit))) (now (work .exit)) ⌝ }
 {
     let answer = calls::command(store, n, work, rec);
     let count = streams::count_after(n, answer);

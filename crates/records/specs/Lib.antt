@@ -14,4 +14,7 @@ pub mod NetK
 pub mod RuleA
 pub mod PatternTable
 pub mod VersionTable
+pub mod StateTable
+pub mod NodeTable
+pub mod FieldsTable
 pub mod Laws

@@ -1,7 +1,7 @@
 -- Network K of document 01, and the commands of its starred cases.
 use mathlib.Core.List.{List, [], _∷_, _++_}
-use Prim.Native.Nat.{ℕ, _-_}
-use lib.ListN.{length, take, replicate}
+use Prim.Native.Nat.{ℕ, suc, _-_}
+use lib.ListN.{length, getD, take, drop, replicate}
 use Rattle.records.specs.Record.{Rec, Net, storeBytes, flat}
 
 -- a record of these bytes, then zeros
@@ -51,6 +51,10 @@ K =
 -- a network in a store of 15,768 bytes
 unfoldable pub inStore : Net → List ℕ
 inStore net = let bytes = flat net in bytes ++ replicate (storeBytes - length bytes) 0
+
+-- a network with byte k of record i set to v
+unfoldable pub altered : Net → ℕ → ℕ → ℕ → Net
+altered net i k v = let r = getD net i [] in take i net ++ ((take k r ++ (v ∷ drop (suc k) r)) ∷ drop (suc i) net)
 
 -- the first add: switch 0, priority 5, any port, any header, OUTPUT 2
 unfoldable pub addAny : Rec

@@ -3,11 +3,11 @@
 use mathlib.Core.Path.{_≡_, refl}
 use mathlib.Core.List.{[], _∷_, _++_, map}
 use mathlib.Core.Option.{none, some}
-use Prim.Native.Nat.{ℕ, suc}
-use lib.ListN.{getD, take, drop, replicate}
+use Prim.Native.Nat.{ℕ}
+use lib.ListN.{take, drop, replicate}
 use Rattle.records.specs.Lists.{from}
 use Rattle.records.specs.Record.{Rec, Net}
-use Rattle.records.specs.NetK.{record24}
+use Rattle.records.specs.NetK.{record24, altered}
 use Rattle.rows.specs.Refusal.{Refusal, fileRow, commandRow}
 use Rattle.rows.specs.Computing.{refusing}
 
@@ -34,13 +34,9 @@ sound =
     ∷ record24 (9 ∷ 1 ∷ 2 ∷ 0 ∷ 0 ∷ 0 ∷ 0 ∷ 0 ∷ 2 ∷ 0 ∷ 0 ∷ 2 ∷ 0 ∷ 1 ∷ 1 ∷ 1 ∷ 0 ∷ [])
     ∷ toDrop 1 14 ∷ [])
 
--- it with byte k of record i another
-unfoldable altered : ℕ → ℕ → ℕ → Net
-altered i k v = let r = getD sound i [] in take i sound ++ ((take k r ++ (v ∷ drop (suc k) r)) ∷ drop (suc i) sound)
-
--- what it is refused with then
+-- what it is refused with where a byte is another: record, byte and value
 unfoldable answer : ℕ × ℕ × ℕ → Refusal
-answer c = fileRow [] (altered (c .0) (c .1) (c .2))
+answer c = fileRow [] (altered sound (c .0) (c .1) (c .2))
 
 -- all that these cases compute with
 unfoldable trying : Unit {0}

@@ -8,6 +8,7 @@ pub mod Noted
 pub mod Count
 pub mod Ascending
 pub mod Computing
+pub mod RowTable
 pub mod GroupRows
 pub mod FullTable
 pub mod Laws

@@ -2,7 +2,7 @@
 use borrow.Author.Tests.{not-true}
 use mathlib.Core.Path.{_≡_, refl, sym, ap, subst, subst⁻¹, _∙_}
 use mathlib.Core.Bool.{Bool, true, false, not, Bool·beq}
-use mathlib.Core.List.{List, [], _∷_, map}
+use mathlib.Core.List.{List, [], _∷_, _++_, map}
 use mathlib.Core.Logic.{_↔_}
 use Prim.Native.Nat.{ℕ, zero, suc, _<_}
 use lib.Dec.{lit<}
@@ -37,6 +37,10 @@ computing = tt
 unfoldable pub KD : Net
 KD = wouldLeave addD (wouldLeave addAny K)
 
+-- K's policy with a node behind its last one: 14: TC 4 (Y,Y)
+unfoldable pub loopOfY : Net
+loopOfY = policy0 ++ (node 8 4 3 ∷ [])
+
 -- the states below 32 that pass a test
 unfoldable pub those : ℕ → ℕ → (ℕ → Bool) → List ℕ
 those zero i f = []
@@ -59,7 +63,7 @@ starred :
     ∷ checked (checkAnswer (inStore KD) 22 2048)
     ∷ commanded (outcomeOf (installedAtStart KD) deleteD 2048 .answer)
     ∷ listed (let reaches = truth (tableOf K) (formula policy0 5) in those 32 0 (λ t. reaches 2 t))
-    ∷ listed (let loops = truth (tableOf K) (TC (formula policy0 4) Y Y) in those 32 0 (λ y. loops 0 y))
+    ∷ listed (let loops = truth (tableOf K) (formula loopOfY 14) in those 32 0 (λ y. loops 0 y))
     ∷ []
     ≡ checked CheckAnswer.holds
     ∷ commanded (blocked 0 3)
@@ -72,7 +76,7 @@ starred :
     ∷ listed (10 ∷ 20 ∷ 28 ∷ [])
     ∷ listed []
     ∷ []
-unfolding computing KD those
+unfolding computing KD loopOfY those
 starred = refl
 
 -- the verdicts behind the first eight cases
@@ -152,3 +156,21 @@ unfolding Truth
 no-loop y h p =
     not-both (truth-iff K (TC (R X Y) Y Y) 0 y (below-32 0 (lit< tt)) (below-32 y h) .1 p)
     (not-true (truth (tableOf K) (TC (R X Y) Y Y) 0 y) (all-iff 32 (λ (y : ℕ). not (truth (tableOf K) (TC (R X Y) Y Y) 0 y)) .0 loop-test y h))
+
+-- that is what the record of the node stands for
+loop-record : formula loopOfY 14 ≡ TC (R X Y) Y Y
+unfolding computing loopOfY
+loop-record = refl
+
+-- K with two policies more, each of one node: 1: BIT X 4, a departing state; 2: E X
+unfoldable twoMore : Net
+twoMore = K ++ (record24 (5 ∷ 1 ∷ 0 ∷ 0 ∷ 4 ∷ []) ∷ record24 (5 ∷ 2 ∷ 2 ∷ 0 ∷ 0 ∷ []) ∷ [])
+
+-- both are broken, and the lower one is named with its own lowest state, 16, though state 2 breaks the other
+lowest-policy : (verdict twoMore ≡ violated 1 16) × (checkAnswer (inStore twoMore) 22 2048 ≡ CheckAnswer.violated 1 16)
+unfolding computing twoMore
+lowest-policy = (refl, refl)
+
+-- as a statement about `Lowest`
+second-policy : Lowest twoMore 1 16
+second-policy = subst (Is twoMore) (lowest-policy .0) (verdict-meant twoMore)

@@ -5,8 +5,8 @@ use mathlib.Core.List.{List, [], _∷_, _++_}
 use Prim.Native.Nat.{ℕ, suc}
 use Rattle.records.specs.Record.{Rec, Net}
 use Rattle.calls.specs.Answer.{CheckAnswer, CommandAnswer}
-use Rattle.calls.specs.Check.{checkAnswer}
-use Rattle.calls.specs.Reference.{Installed, installedAtStart, outcomeOf}
+use Rattle.calls.specs.Check.{checkAnswer, checkWork}
+use Rattle.calls.specs.Reference.{Installed, installedAtStart, outcomeOf, commandWork}
 use Rattle.streams.specs.Line.{startLine, answerLine, endShort}
 use Rattle.streams.specs.Input.{Input, input, isCut, shortStart}
 
@@ -22,10 +22,16 @@ installedWith count bytes = record { count = count; bytes = bytes }
 unfoldable pub startAnswer : Net → CheckAnswer
 startAnswer net = let i = installedAtStart net in checkAnswer (i .bytes) (i .count) workBytes
 
--- one command: its answer, and what is installed after it
-pub record OutcomeIs (before : Installed) (c : Rec) (answer : CommandAnswer) (after : Installed) : Type 0 where
+-- the check call with the program's work: its answer, and the work after it
+pub record CheckIs (store : List ℕ) (n : ℕ) (work : List ℕ) (answer : CheckAnswer) (work-after : List ℕ) : Type 0 where
+  pub answered : answer ≡ checkAnswer store n workBytes
+  pub works : work-after ≡ checkWork store n work
+
+-- one command with the program's work: its answer, what is installed after it, and the work after it
+pub record OutcomeIs (before : Installed) (c : Rec) (work : List ℕ) (answer : CommandAnswer) (after : Installed) (work-after : List ℕ) : Type 0 where
   pub answered : answer ≡ outcomeOf before c workBytes .answer
   pub left : after ≡ outcomeOf before c workBytes .after
+  pub works : work-after ≡ commandWork before c work
 
 -- each command's line, from a number on
 unfoldable pub answerLines : ℕ → Installed → List Rec → List ℕ

@@ -2,13 +2,12 @@
 use mathlib.Core.Bool.{false, cond}
 use mathlib.Core.Path.{_≡_}
 use mathlib.Core.List.{List, [], _∷_, _++_}
-use Prim.Native.Nat.{ℕ, zero, suc, _<_, _≤_, min}
+use Prim.Native.Nat.{ℕ, zero, suc, _+_, _-_, _*_, _<_, _≤_, min}
 use lib.Dec.{eqb, ltb}
 use lib.IntN.{ℤ, pos, negsuc}
-use lib.ListN.{length, take}
+use lib.ListN.{length, take, drop}
 use Rattle.io.specs.Counts.{Counts}
-use Rattle.records.specs.Record.{Rec, Net, mostRecords}
-use Rattle.records.specs.NetK.{inStore}
+use Rattle.records.specs.Record.{Rec, Net, mostRecords, flat}
 use Rattle.records.specs.Laws.Records.{Whole}
 use Rattle.streams.specs.declared.input.Next.{Next}
 use Rattle.streams.specs.declared.input.Next.the-variants as next
@@ -32,10 +31,21 @@ InRoom (said.More k) room = (0 < k) × (k ≤ room)
 InRoom said.End room = Unit {0}
 InRoom said.Failed room = Unit {0}
 
+-- one read behind the first done bytes of a buffer, which keep what they have
+pub record ReadBehind (done : ℕ) (before after : List ℕ) (r : Said) : Type 0 where
+  pub in-room : InRoom r (length before - done)
+  pub len : length after ≡ length before
+  pub kept : take done after ≡ take done before
+
 -- the bytes of a piece are at the start of the buffer
 abbrev pub PieceWithin : Piece → List ℕ → Type 0
 PieceWithin (piece.Bytes k) buffer = Counts k buffer
 PieceWithin piece.Failed buffer = Unit {0}
+
+-- a buffer after a piece was read into it: as long as before, whatever else it has
+pub record PieceRead (before after : List ℕ) (r : Piece) : Type 0 where
+  pub within : PieceWithin r after
+  pub len : length after ≡ length before
 
 -- what bytes are behind n network records, before any command
 unfoldable pub nextOf : ℕ → List ℕ → Next
@@ -58,25 +68,29 @@ abbrev pub laterBy : Piece → List ℕ → Later
 laterBy (piece.Bytes k) buffer = laterOf (take k buffer)
 laterBy piece.Failed buffer = later.Failed
 
--- one more record of a network stands in its store
-pub record RecordKept (r : Rec) (n : ℕ) (before after : List ℕ) : Type 0 where
-  pub stored : (net : Net) → Whole net → length net ≡ n → before ≡ inStore net → after ≡ inStore (net ++ (r ∷ []))
+-- a store with the bytes of record number n replaced, every other byte as before
+unfoldable pub withRecord : Rec → ℕ → List ℕ → List ℕ
+withRecord r n store = take (n * 24) store ++ r ++ drop (n * 24 + 24) store
+
+-- a store that starts with the records of a network, every byte behind them as before
+unfoldable pub withRecords : Net → List ℕ → List ℕ
+withRecords net store = flat net ++ drop (length net * 24) store
 
 -- none of the records is a command
 abbrev pub NoCommand : Net → Type 0
 NoCommand [] = Unit {0}
 NoCommand (r ∷ rs) = (isCommand r ≡ false) × NoCommand rs
 
--- a store holds a network of n whole records, none of them a command, and then zeros
-pub record Holding (n : ℕ) (store : List ℕ) : Type 0 where
+-- n whole records, none of them a command, were put into a store
+pub record Holding (n : ℕ) (before after : List ℕ) : Type 0 where
   pub net : Net
   pub whole : Whole net
   pub none : NoCommand net
   pub size : length net ≡ n
-  pub stored : store ≡ inStore net
+  pub stored : after ≡ withRecords net before
 
 -- what reading the network leaves, with what came after its records: of more than 657 the store has the first 657
-pub record Loads (met : Next) (n : ℕ) (store : List ℕ) : Type 0 where
-  pub held : Holding (min n mostRecords) store
+pub record Loads (met : Next) (n : ℕ) (before after : List ℕ) : Type 0 where
+  pub held : Holding (min n mostRecords) before after
   pub many : met ≡ next.TooMany → mostRecords < n
   pub few : (met ≡ next.TooMany → ⊥) → n ≤ mostRecords

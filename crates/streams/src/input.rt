@@ -4,7 +4,7 @@ ghost use Prim.Native.Nat.{_<_};
 ghost use lib.ListN.{length};
 ghost use Rattle.records.specs.Record.{storeBytes, mostRecords};
 ghost use Rattle.streams.specs.Input.{isCommandKind};
-ghost use Rattle.streams.specs.Reading.{saidBy, PieceWithin, nextOf, nextBy, laterOf, laterBy, RecordKept};
+ghost use Rattle.streams.specs.Reading.{saidBy, PieceWithin, nextOf, nextBy, laterOf, laterBy, withRecord};
 
 // What a call of read said.
 pub enum Said {
@@ -133,7 +133,7 @@ pub fn later_of(buffer: &[u8], piece: Piece) -> Later
 // Puts record number n of the network into the store.
 pub fn keep(store: &mut [u8], n: usize, rec: &[u8])
     requires { ⌜ (n < mostRecords) × (length (now store) ≡ storeBytes) × (length (now rec) ≡ 24) ⌝ }
-    ensures { λ _. ⌜ RecordKept (now (rec .entry)) n (now (store .entry)) (now (store .exit)) ⌝ }
+    ensures { λ _. ⌜ now (store .exit) ≡ withRecord (now (rec .entry)) n (now (store .entry)) ⌝ }
 {
     planes::put(store, n * 24, rec);
 }

@@ -2,3 +2,4 @@
 pub mod Code
 pub mod Decoded
 pub mod CodedSeries
+pub mod CodeTable

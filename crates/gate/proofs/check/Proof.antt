@@ -1,8 +1,8 @@
 use denote.Ref.{now}
-use mathlib.Core.Path.{_≡_, ap, _∙_}
+use mathlib.Core.Path.{_≡_}
 use lib.ListN.{length}
-use Rattle.calls.specs.Check.{checkAnswer}
 use Rattle.streams.specs.Output.{workBytes}
+use Rattle.streams.specs.Laws.Turns.{check-is}
 use borrow.Author.Needs.{needs}
 use Rattle.gate.proofs.check.Statement.{statement}
 use Rattle.gate.proofs.check.Tie as tie
@@ -11,7 +11,7 @@ returns : tie.Need-returns
 returns c =
     let a = c .before .before .before .args in
     let w : length (now (a .work)) ≡ workBytes = search needs in
-    c .check .ensures .answered ∙ ap (checkAnswer (now (a .store)) (a .n)) w
+    check-is (c .check .ensures) w
 
 pub check-spec : {M : Type 1} → statement M
 check-spec = tie.close (tie.spec (λ c. search needs) returns)

@@ -15,24 +15,24 @@ abbrev μ-loop : tie.MeasureT-loop
 
 add-done : tie.Need-add-done Inv-loop μ-loop
 add-done c =
-    let m = rw (c .before .said .given .1) at (c .before .before .before .before .before .read-at .ensures) in
+    let m = rw (c .before .said .given .1) at (c .before .before .before .before .before .read-at .ensures .in-room) in
     record { fits = omega (arith, m .0, m .1) }
 
 loop-less : tie.Need-loop-less Inv-loop μ-loop
 loop-less c =
-    let m = rw (c .before .said .given .1) at (c .before .before .before .before .before .read-at .ensures) in
+    let m = rw (c .before .said .given .1) at (c .before .before .before .before .before .read-at .ensures .in-room) in
     omega (arith, m .0, m .1)
 
 loop-again : tie.Need-loop-again Inv-loop μ-loop
 loop-again c =
-    let m = rw (c .before .said .given .1) at (c .before .before .before .before .before .read-at .ensures) in
+    let m = rw (c .before .said .given .1) at (c .before .before .before .before .before .read-at .ensures .in-room) in
     (search needs, omega (arith, m .1))
 
 returns : tie.Need-returns Inv-loop μ-loop
-returns c = counts _ _ (omega arith)
+returns c = record { within = counts _ _ (omega arith); len = search needs }
 
 returns-3 : tie.Need-returns-3 Inv-loop μ-loop
-returns-3 c = counts _ _ (omega arith)
+returns-3 c = record { within = counts _ _ (omega arith); len = search needs }
 
 pub fill-spec : {M : Type 1} → statement M
 fill-spec =

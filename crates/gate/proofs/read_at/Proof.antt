@@ -1,8 +1,9 @@
 use denote.Ref.{now}
-use borrow.Rule.Slice.PartMut.{mid-len}
+use borrow.Rule.Slice.PartMut.{mid-len, take-put}
 use mathlib.Core.Path.{subst}
 use mir.Facts.{toZ-ofZ}
 use mir.Syntax.{w64}
+use Prim.Native.Nat.{_-_}
 use native.Mathlib.Omega.{arith}
 use lib.ListN.{length}
 use Rattle.streams.specs.Reading.{saidBy, InRoom}
@@ -16,7 +17,11 @@ returns c =
     let s = c .before .before .before .before .before .before in
     let read = c .before .before .before .read in
     let room = mid-len (s .args .done) (length (now (s .args .buffer))) (now (s .args .buffer)) (omega arith) in
-    rw (c .read-said .ensures, toZ-ofZ {w = w64} (record { sfits = read .ok })) (subst (InRoom (saidBy (read .result))) room (moved _ (read .result) (read .ensures)))
+    record {
+      in-room = rw (c .read-said .ensures, toZ-ofZ {w = w64} (record { sfits = read .ok })) (subst (InRoom (saidBy (read .result))) room (moved _ (read .result) (read .ensures)));
+      len = search needs;
+      kept = take-put (s .args .done) (length (now (s .args .buffer)) - s .args .done) (now (s .args .buffer)) (read .last .1 .0) (omega arith);
+    }
 
 pub read-at-spec : {M : Type 1} → statement M
 read-at-spec =

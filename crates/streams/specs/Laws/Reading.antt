@@ -1,6 +1,6 @@
 -- What follows from what a piece is.
 use borrow.Author.Tests.{ltb-true, ltb-false}
-use mathlib.Core.Path.{_≡_, refl, sym, ap, subst, _∙_}
+use mathlib.Core.Path.{_≡_, refl, sym, ap, ap₂, subst, _∙_}
 use mathlib.Core.Bool.{Bool, true, false, cond}
 use mathlib.Core.List.{List, [], _∷_, _++_}
 use Prim.Native.Nat.{ℕ, _+_, _<_, _≤_}
@@ -15,7 +15,8 @@ use Rattle.streams.specs.declared.input.Next.the-variants as next
 use Rattle.streams.specs.declared.input.Piece.{Piece}
 use Rattle.streams.specs.declared.input.Piece.the-variants as piece
 use Rattle.streams.specs.Input.{isCommand}
-use Rattle.streams.specs.Reading.{nextOf, nextBy, RecordKept, NoCommand, Holding}
+use Rattle.streams.specs.Reading.{nextOf, nextBy, NoCommand, withRecord, Holding}
+use Rattle.streams.specs.Laws.Store.{with-more}
 
 -- what the tests of a piece say where it is a record of the network, or one too many
 abbrev Means : Next → Bool → Bool → Bool → Type 0
@@ -62,13 +63,17 @@ none-join : (net : Net) (r : Rec) → NoCommand net → isCommand r ≡ false �
 none-join [] r a b = (b, tt)
 none-join (x ∷ xs) r a b = (a .0, none-join xs r (a .1) b)
 
--- a store that holds some records of a network holds one more
-pub holds-more : {n : ℕ} {r before after : List ℕ} → Holding n before → RecordKept r n before after → length r ≡ 24 → isCommand r ≡ false → Holding (n + 1) after
-holds-more {r = r} h k w e =
+-- a store into which n records were put, by another name of n
+pub holds-as : {n m : ℕ} {before after : List ℕ} → n ≡ m → Holding n before after → Holding m before after
+holds-as {before = before} {after = after} e h = subst (λ (k : ℕ). Holding k before after) e h
+
+-- a store into which n records were put, and one more
+pub holds-more : {n : ℕ} (r : Rec) {start before after : List ℕ} → Holding n start before → after ≡ withRecord r n before → length r ≡ 24 → isCommand r ≡ false → Holding (n + 1) start after
+holds-more r {start = start} h k w e =
     record {
       net = h .net ++ (r ∷ []);
       whole = whole-join (h .net) (r ∷ []) (h .whole) (w, tt);
       none = none-join (h .net) r (h .none) e;
       size = length-append (h .net) (r ∷ []) ∙ omega (arith, h .size);
-      stored = k .stored (h .net) (h .whole) (h .size) (h .stored);
+      stored = k ∙ ap₂ (withRecord r) (sym (h .size)) (h .stored) ∙ with-more (h .net) r start (h .whole);
     }

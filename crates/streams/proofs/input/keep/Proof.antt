@@ -1,23 +1,23 @@
 use denote.Ref.{now}
-use mathlib.Core.Path.{subst⁻¹}
-use Prim.Native.Nat.{ℕ, _*_}
+use mathlib.Core.Path.{_≡_, ap, _∙_}
+use mathlib.Core.List.{List, _++_}
+use Prim.Native.Nat.{ℕ, _+_, _*_}
 use native.Mathlib.Omega.{arith}
-use lib.ListN.{length}
-use Rattle.planes.specs.Lines.{Put}
-use Rattle.streams.specs.Laws.Store.{one-more}
+use lib.ListN.{length, take, drop}
+use Rattle.planes.specs.Laws.Copies.{put-is}
+use Rattle.streams.specs.Reading.{withRecord}
 use borrow.Author.Needs.{needs}
 use Rattle.streams.proofs.input.keep.Statement.{statement}
 use Rattle.streams.proofs.input.keep.Tie as tie
 
 returns : tie.Need-returns
+unfolding withRecord
 returns c =
     let s = c .before .before .before .before .before .before in
-    record {
-      stored =
-          λ net w n is.
-          one-more net (now (s .args .rec)) (now (s .args .store)) _ w (omega (arith, s .pre .0)) (s .pre .2) is (s .pre .1)
-          (subst⁻¹ (λ (m : ℕ). Put (now (s .args .rec)) (m * 24) (length (now (s .args .rec))) (now (s .args .store)) (c .before .before .put .last .0)) n (c .before .before .put .ensures));
-    }
+    let rec = now (s .args .rec) in
+    let store = now (s .args .store) in
+    put-is rec (c .before .before .put .ensures) (omega (arith, s .pre .0, s .pre .1, s .pre .2))
+    ∙ ap (λ (k : ℕ). take (s .args .n * 24) store ++ rec ++ drop (s .args .n * 24 + k) store) (s .pre .2)
 
 pub keep-spec : {M : Type 1} → statement M
 keep-spec = tie.close (tie.spec (λ c. search needs) (λ c. search needs) (λ c. search needs) returns)
