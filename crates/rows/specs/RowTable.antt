@@ -62,6 +62,12 @@ no-policy : networkRow (take 6 K) 255 ∷ networkRow (take 6 K) 256 ∷ [] ≡ s
 unfolding trying
 no-policy = refl
 
+-- row 11 with three policies, of which the second is the longest with 3 nodes: five planes
+longest-policy :
+    map (networkRow (front ++ (policy 0 ∷ policy 1 ∷ policy 1 ∷ policy 1 ∷ policy 2 ∷ []))) (639 ∷ 640 ∷ []) ≡ some (11, 0) ∷ none ∷ []
+unfolding trying
+longest-policy = refl
+
 -- row 3: kinds 0, 6, 8, 10 and 255, a kind below the one before, a first record that is not the widths, and a second one that is
 row-3 :
     map answer ((8, 0, 0) ∷ (8, 0, 6) ∷ (8, 0, 8) ∷ (8, 0, 10) ∷ (8, 0, 255) ∷ (8, 0, 4) ∷ (0, 0, 2) ∷ (1, 0, 1) ∷ [])

@@ -9,5 +9,6 @@ pub mod Starred
 pub mod NoBounce
 pub mod ThroughGroups
 pub mod Stores
+pub mod SeriesOfK
 pub mod OldSwitches
 pub mod Laws

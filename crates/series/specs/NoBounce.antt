@@ -1,17 +1,22 @@
 -- Request 2 of document 02 on network K, with rule B's actions replaced: one theorem by computation, and what it means.
-use borrow.Author.Tests.{eq-eqb, eqb-true}
-use mathlib.Core.Path.{_≡_, refl, sym, _∙_}
-use mathlib.Core.Bool.{true, or-false}
+use borrow.Author.Tests.{eq-eqb, eqb-true, leb-true, not-true}
+use mathlib.Core.Path.{_≡_, refl, sym, ap, subst, _∙_}
+use mathlib.Core.Bool.{Bool, true, false, not, _&&_, or-false}
 use mathlib.Core.List.{List, [], _∷_, _++_}
 use mathlib.Core.Logic.{_↔_}
-use Prim.Native.Nat.{ℕ}
-use lib.Dec.{eqb}
+use Prim.Native.Nat.{ℕ, _+_, _*_}
+use native.Mathlib.Omega.{arith}
+use lib.Dec.{eqb, leb}
+use lib.ListN.{getD}
+use Rattle.planes.specs.Laws.Tests.{both, not-both}
 use Rattle.records.specs.Lists.{any, member}
-use Rattle.records.specs.Record.{Rec}
+use Rattle.records.specs.Record.{Rec, at, ActionKind, kOutput, kSet, kInPort, kRunGroup, kNoAction, actionKind}
 use Rattle.records.specs.Policy.{X, Y, R, TC}
 use Rattle.records.specs.NetK.{record24, K, inStore}
 use Rattle.steps.specs.Step.{next, Step}
-use Rattle.truth.specs.Computed.{truth}
+use Rattle.steps.specs.NoBounce.{WithoutInPort}
+use Rattle.truth.specs.Computed.{allBelow, truth}
+use Rattle.truth.specs.Laws.Tables.{all-iff}
 use Rattle.verdict.specs.Computed.{tableOf}
 use Rattle.commands.specs.Apply.{wouldLeave}
 use Rattle.calls.specs.Answer.{CheckAnswer, forwarded, refused}
@@ -85,3 +90,28 @@ flooded-steps t = only t 28
 returned-steps : (t : ℕ) → Step (wouldLeave returning K) 10 t ↔ t ≡ 26
 unfolding Step computing modifyB returning
 returned-steps t = only t 26
+
+-- an action of this kind sends back
+sendsBack : ActionKind → Bool
+sendsBack kOutput = false
+sendsBack kSet = false
+sendsBack kInPort = true
+sendsBack kRunGroup = false
+sendsBack kNoAction = false
+
+-- record k of K has one action at most, and it is not IN_PORT
+oneAction : ℕ → Bool
+oneAction k = let r = getD K k [] in leb (at r 8) 1 && not (sendsBack (actionKind (at r 9)))
+
+one-action : allBelow 20 oneAction ≡ true
+unfolding computing oneAction sendsBack
+one-action = refl
+
+-- so K is a network without IN_PORT, of which `no-step-back` speaks
+K-without : WithoutInPort K
+unfolding computing oneAction sendsBack
+K-without k h e i hi q =
+    let r = getD K k [] in
+    let t = both (leb (at r 8) 1) (not (sendsBack (actionKind (at r 9)))) (all-iff 20 oneAction .0 one-action k h) in
+    let z : i ≡ 0 = omega (arith, hi, leb-true (at r 8) 1 (t .0)) in
+    not-both (ap sendsBack (subst (λ (j : ℕ). actionKind (at r (9 + 3 * j)) ≡ kInPort) z q)) (not-true (sendsBack (actionKind (at r 9))) (t .1))

@@ -5,6 +5,7 @@ use mathlib.Core.Bool.{Bool, true, false, not, Bool·beq}
 use mathlib.Core.List.{List, [], _∷_, _++_, map}
 use mathlib.Core.Logic.{_↔_}
 use Prim.Native.Nat.{ℕ, zero, suc, _<_}
+use native.Mathlib.Omega.{arith}
 use lib.Dec.{lit<}
 use lib.ListN.{getD}
 use Rattle.planes.specs.Laws.Tests.{not-both}
@@ -24,6 +25,7 @@ use Rattle.truth.specs.Laws.Tables.{all-iff}
 use Rattle.calls.specs.Answer.{CheckAnswer, CommandAnswer, forwarded, blocked}
 use Rattle.commands.specs.Apply.{asRule, withActions, changed, inserted, removed, added, applied, wouldLeave}
 use Rattle.calls.specs.Check.{checkAnswer}
+use Rattle.calls.specs.Found.{FoundToHold}
 use Rattle.calls.specs.Reference.{installedAtStart, outcomeOf, judged, stored}
 use Rattle.records.specs.NetK.{record24, node, A, B, policy0, K, inStore, addAny, addZero, addSet, addDrop, deleteAbsent, addD, deleteD}
 use Rattle.verdict.specs.Laws.Tabled.{truth-iff}
@@ -174,3 +176,13 @@ lowest-policy = (refl, refl)
 -- as a statement about `Lowest`
 second-policy : Lowest twoMore 1 16
 second-policy = subst (Is twoMore) (lowest-policy .0) (verdict-meant twoMore)
+
+-- by that answer policy 0 is found to hold, and policies 1 and 2 are not; by K's own, which holds, policy 0 is, and there is no other
+found :
+    FoundToHold twoMore (CheckAnswer.violated 1 16) 0
+    × (FoundToHold twoMore (CheckAnswer.violated 1 16) 1 → ⊥)
+    × (FoundToHold twoMore (CheckAnswer.violated 1 16) 2 → ⊥)
+    × FoundToHold K CheckAnswer.holds 0
+    × (FoundToHold K CheckAnswer.holds 1 → ⊥)
+unfolding computing
+found = (lit< tt, λ h. omega arith, λ h. omega arith, lit< tt, λ h. omega arith)
