@@ -141,15 +141,15 @@ module _ (w : Widths) (r : Rec) (l : length r ≡ 24) where
         of-link = λ e. behind (pointGood w (at r 1) (at r 2) && pointGood w (at r 3) (at r 4)) 5 23 (omega arith) (link-fields w r e) g;
         of-miss = λ e. (
           behind switch 2 7 (omega arith) refl
-          (and-left middle (actionsGood w r) (and-left (middle && actionsGood w r) (zeros 21 23 r) (sym (miss-fields w r e) ∙ g))),
+              (and-left middle (actionsGood w r) (and-left (middle && actionsGood w r) (zeros 21 23 r) (sym (miss-fields w r e) ∙ g))),
           behind (middle && actionsGood w r) 21 23 (omega arith) (miss-fields w r e) g,
         );
         of-rule = λ e. behind (matchGood w r && actionsGood w r) 21 23 (omega arith) (rule-fields w r e) g;
         of-node = λ e. behind (leb (at r 1) mostPolicies && nodeGood w (at r 2) (at r 3) (at r 4)) 5 23 (omega arith) (node-fields w r e) g;
         of-group = λ e. (
           behind group 3 7 (omega arith) refl
-          (and-left (group && zeros 3 7 r) (bucketsGood w r)
-          (and-left (group && zeros 3 7 r && bucketsGood w r) (zeros 21 23 r) (sym (group-fields w r e) ∙ g))),
+              (and-left (group && zeros 3 7 r) (bucketsGood w r)
+              (and-left (group && zeros 3 7 r && bucketsGood w r) (zeros 21 23 r) (sym (group-fields w r e) ∙ g))),
           behind (group && zeros 3 7 r && bucketsGood w r) 21 23 (omega arith) (group-fields w r e) g,
         );
       }
@@ -159,6 +159,6 @@ module _ (w : Widths) (r : Rec) (l : length r ≡ 24) where
   unnamed-zero-in-command g =
       record {
         of-add-and-modify = λ e. behind (actionsGood w r) 21 23 (omega arith) refl
-          (and-right (matchGood w r) (actionsGood w r && zeros 21 23 r) (sym (change-fields w r e) ∙ g));
+            (and-right (matchGood w r) (actionsGood w r && zeros 21 23 r) (sym (change-fields w r e) ∙ g));
         of-delete = λ e. behind (matchGood w r) 8 23 (omega arith) (delete-fields w r e) g;
       }
