@@ -68,6 +68,31 @@ fn differences(
     Ok(wrong)
 }
 
+/// What is wrong with the names of what pins each definition that has to be believed.
+fn unpinned(document: &Document) -> Result<Vec<String>, String> {
+    let tables = ["The three demands", "What is proved of them"];
+    let theorems: Result<Vec<Vec<Place>>, String> =
+        tables.iter().map(|title| document.theorems(title)).collect();
+    let (theorems, edits) = (theorems?.concat(), document.edits()?);
+    let mut wrong = Vec::new();
+    for (definitions, names) in document.pins()? {
+        let pins = |name: &str| edits.contains(name) || theorems.iter().any(|t| t.name == name);
+        // Beside a pin may stand for which definition it is, and which file has it.
+        let beside = |name: &str| {
+            let file = |place: &Place| place.file.rsplit('/').next() == Some(name);
+            definitions.iter().any(|d| d.name == name) || theorems.iter().any(file)
+        };
+        let first = &definitions[0];
+        if !names.iter().any(|name| pins(name)) {
+            wrong.push(format!("nothing pins {first}"));
+        }
+        for name in names.iter().filter(|name| !pins(name) && !beside(name)) {
+            wrong.push(format!("{name} beside {first} is neither a theorem nor an edit"));
+        }
+    }
+    Ok(wrong)
+}
+
 fn expect_none(wrong: Vec<String>) {
     assert!(wrong.is_empty(), "docs/READING.md:\n{}", wrong.join("\n"));
 }
@@ -91,6 +116,25 @@ fn misses_the_definitions_of_each_row() {
         missed += gone;
     }
     assert_eq!(missed, believed);
+}
+
+#[test]
+fn names_what_pins_each_definition() {
+    expect_none(unpinned(&document()).unwrap());
+}
+
+#[test]
+fn misses_what_pins_the_definitions_of_each_row() {
+    let text = text();
+    let believed = text.split("\n## ").find(|part| part.starts_with("What has to be believed"));
+    for row in believed.unwrap().lines().filter(|line| line.contains("` | `")) {
+        let (definitions, _) = row.trim_end_matches(" |").rsplit_once(" | ").unwrap();
+        let empty = Document::parse(&text.replacen(row, &format!("{definitions} | |"), 1));
+        assert_eq!(unpinned(&empty).unwrap().len(), 1, "{row}");
+        let other = format!("{definitions} | `no-such-theorem` |");
+        let other = Document::parse(&text.replacen(row, &other, 1));
+        assert_eq!(unpinned(&other).unwrap().len(), 2, "{row}");
+    }
 }
 
 #[test]

@@ -65,6 +65,15 @@ impl Document {
         Ok(lists?.concat())
     }
 
+    /// The definitions of each of those rows, and the names in its last column: what pins them.
+    pub fn pins(&self) -> Result<Vec<(Vec<Place>, Vec<&str>)>, String> {
+        let mut pins = Vec::new();
+        for row in self.rows("What has to be believed")? {
+            pins.push((places(cell(&row, 1)?, cell(&row, 2)?)?, quoted(cell(&row, 3)?)));
+        }
+        Ok(pins)
+    }
+
     /// The functions whose contracts are promises: function, promise.
     pub fn promised(&self) -> Result<Vec<&str>, String> {
         let rows = self.rows("What the code promises")?;
