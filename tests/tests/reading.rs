@@ -4,7 +4,7 @@
 use std::collections::{BTreeMap, BTreeSet};
 use std::fs;
 use std::path::PathBuf;
-use wegbaro_tests::reading::document::Document;
+use wegbaro_tests::reading::document::{Document, Pinned};
 use wegbaro_tests::reading::sources::{entries, Place, Sources};
 use wegbaro_tests::reading::walk::{walk, Stop};
 
@@ -75,7 +75,7 @@ fn unpinned(document: &Document) -> Result<Vec<String>, String> {
         tables.iter().map(|title| document.theorems(title)).collect();
     let (theorems, edits) = (theorems?.concat(), document.edits()?);
     let mut wrong = Vec::new();
-    for (definitions, names) in document.pins()? {
+    for Pinned { definitions, by } in document.pinned()? {
         let pins = |name: &str| edits.contains(name) || theorems.iter().any(|t| t.name == name);
         // Beside a pin may stand for which definition it is, and which file has it.
         let beside = |name: &str| {
@@ -83,10 +83,10 @@ fn unpinned(document: &Document) -> Result<Vec<String>, String> {
             definitions.iter().any(|d| d.name == name) || theorems.iter().any(file)
         };
         let first = &definitions[0];
-        if !names.iter().any(|name| pins(name)) {
+        if !by.iter().any(|name| pins(name)) {
             wrong.push(format!("nothing pins {first}"));
         }
-        for name in names.iter().filter(|name| !pins(name) && !beside(name)) {
+        for name in by.iter().filter(|name| !pins(name) && !beside(name)) {
             wrong.push(format!("{name} beside {first} is neither a theorem nor an edit"));
         }
     }

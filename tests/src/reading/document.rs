@@ -8,6 +8,12 @@ pub struct Document {
     sections: BTreeMap<String, Vec<String>>,
 }
 
+/// A row of what has to be believed: its definitions, and the names of what pins them.
+pub struct Pinned<'a> {
+    pub definitions: Vec<Place>,
+    pub by: Vec<&'a str>,
+}
+
 /// What stands in backquotes.
 fn quoted(text: &str) -> Vec<&str> {
     text.split('`').skip(1).step_by(2).collect()
@@ -65,13 +71,14 @@ impl Document {
         Ok(lists?.concat())
     }
 
-    /// The definitions of each of those rows, and the names in its last column: what pins them.
-    pub fn pins(&self) -> Result<Vec<(Vec<Place>, Vec<&str>)>, String> {
-        let mut pins = Vec::new();
+    /// The same definitions row by row, with what pins them: the last column.
+    pub fn pinned(&self) -> Result<Vec<Pinned<'_>>, String> {
+        let mut pinned = Vec::new();
         for row in self.rows("What has to be believed")? {
-            pins.push((places(cell(&row, 1)?, cell(&row, 2)?)?, quoted(cell(&row, 3)?)));
+            let definitions = places(cell(&row, 1)?, cell(&row, 2)?)?;
+            pinned.push(Pinned { definitions, by: quoted(cell(&row, 3)?) });
         }
-        Ok(pins)
+        Ok(pinned)
     }
 
     /// The functions whose contracts are promises: function, promise.
