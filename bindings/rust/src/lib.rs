@@ -7,8 +7,9 @@
 //! gets from one state to another. `docs/FORMAT.md` describes the records and the states, byte by
 //! byte and bit by bit.
 //!
-//! [`Gate`] owns the buffers of the calls, sized to its network. Where no heap is wanted, [`check`],
-//! [`command`] and [`route`] are the same calls over lent buffers.
+//! [`Gate`] judges a network and keeps it; [`Buffers`] owns the buffers of the calls, sized to their
+//! network, and judges nothing unasked. Where no heap is wanted, [`check`], [`command`] and [`route`]
+//! are the same calls over lent buffers.
 //!
 //! Network K has two switches and one policy, that header 1 never leaves. Its first add would let
 //! header 1 out; the second lets header 0 alone pass. Header 0 gets from port 1 of switch 0, where
@@ -61,12 +62,13 @@
 
 #![deny(missing_docs)]
 
+mod buffers;
 mod calls;
 mod gate;
 mod refusal;
 
+pub use buffers::{list_entries, work_bytes, Buffers};
 pub use calls::{check, command, route, Checked, Commanded, Routed};
-pub use calls::{list_entries, work_bytes};
 pub use gate::Gate;
 pub use refusal::Refusal;
 
