@@ -3,22 +3,18 @@
 use std::fs::{self, File};
 use std::path::Path;
 use std::process::Command;
-use wegbaro_tests::build::{printed_in_c, root, run, Folder, STRICT};
+use wegbaro_tests::build::{compile_c, library, printed, printed_in_c, run, stub_library, version};
+use wegbaro_tests::build::{version_number, Folder};
 
-/// Builds a program with a compiler in a language of a standard.
-fn build(source: &str, built: &Path, [compiler, language, standard]: [&str; 3]) {
-    let mut compiler = Command::new(compiler);
-    compiler.args(STRICT).arg(format!("-std={standard}")).arg("-I").arg(root().join("include"));
-    compiler.args(["-x", language]).arg(root().join(source)).args(["-x", "none"]);
-    compiler.arg(root().join("target/staticlib/libwegbaro.a")).arg("-o").arg(built);
-    run(&mut compiler);
+fn folder(name: &str) -> Folder {
+    Folder::new(env!("CARGO_TARGET_TMPDIR"), name)
 }
 
 /// Builds the example and runs it.
 fn example_in(compiler: &str, language: &str, standard: &str) {
-    let folder = Folder::new(env!("CARGO_TARGET_TMPDIR"), standard);
+    let folder = folder(standard);
     let example = folder.path().join("check");
-    build("examples/c/check.c", &example, [compiler, language, standard]);
+    compile_c("examples/c/check.c", &library(), &example, [compiler, language, standard]);
 
     let ran = run(&mut Command::new(&example));
     assert_eq!(String::from_utf8_lossy(&ran.stdout), printed_in_c(), "{standard}");
@@ -41,12 +37,36 @@ fn the_example_in_cpp() {
     }
 }
 
+/// What a program of the header's version makes of a library of another one.
+#[test]
+fn versions_in_c() {
+    let folder = folder("versions");
+    let told = |library: &Path| {
+        let built = folder.path().join("version");
+        compile_c("tests/c/version.c", library, &built, ["cc", "c", "c89"]);
+        printed(&mut Command::new(&built))
+    };
+    let number = version_number();
+    assert_eq!(told(&library()), format!("{} {number} {number} 1\n", version()));
+    for (other, fits) in [
+        (number, 1),
+        (number + 1, 1),
+        (number - 1, 0),
+        (number + 1_000, 0),
+        (number - 1_000, 0),
+        (number + 1_000_000, 0),
+    ] {
+        let stub = stub_library(&folder.path().join(other.to_string()), other);
+        assert_eq!(told(&stub), format!("{} {number} {other} {fits}\n", version()));
+    }
+}
+
 /// What the route call answers in C on K, from one state to another with a list of so many entries.
 #[test]
 fn routes_in_c() {
-    let folder = Folder::new(env!("CARGO_TARGET_TMPDIR"), "route");
+    let folder = folder("route");
     let (built, network) = (folder.path().join("route"), folder.path().join("k"));
-    build("tests/c/route.c", &built, ["cc", "c", "c89"]);
+    compile_c("tests/c/route.c", &library(), &built, ["cc", "c", "c89"]);
     fs::write(&network, wegbaro_tests::k::k().concat()).unwrap();
     for (given, answer) in [
         (["2", "28", "33"], "found 4 0 2 20 10 28\n"),

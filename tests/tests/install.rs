@@ -160,13 +160,13 @@ fn symbols(words: &[&str], file: &Path) -> Vec<(String, String)> {
 }
 
 #[test]
-fn the_shared_object_exports_the_three_calls() {
+fn the_shared_object_exports_the_calls_and_its_version() {
     let prefix = folder("exports");
     install(prefix.path());
     let object = prefix.path().join("lib/libwegbaro.so");
     let exported = symbols(&["-D", "--defined-only"], &object);
     let names: Vec<&str> = exported.iter().map(|(name, _)| name.as_str()).collect();
-    assert_eq!(names, ["wegbaro_check", "wegbaro_command", "wegbaro_route"]);
+    assert_eq!(names, ["wegbaro_check", "wegbaro_command", "wegbaro_route", "wegbaro_version"]);
 }
 
 /// Calls at the same time would share writable data, and a call of anything else could allocate.

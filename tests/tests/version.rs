@@ -25,14 +25,26 @@ fn manifests() -> Vec<PathBuf> {
 fn three_numbers() {
     let parts: Vec<String> = version().split('.').map(str::to_owned).collect();
     assert_eq!(parts.len(), 3, "{parts:?}");
-    assert!(parts.iter().all(|part| part.parse::<u32>().is_ok()), "{parts:?}");
+    // In the version as one number each part has three digits.
+    assert!(parts.iter().all(|part| part.parse().is_ok_and(|part: u32| part < 1_000)), "{parts:?}");
+}
+
+#[test]
+fn of_the_library() {
+    assert_eq!(wegbaro::library_version().to_string(), version());
 }
 
 #[test]
 fn of_the_header() {
     let header = text(&root().join("include/wegbaro.h"));
-    let defined = format!("#define WEGBARO_VERSION \"{}\"", version());
-    assert!(header.lines().any(|line| line == defined), "no line {defined}");
+    let version = version();
+    let whole = format!("\"{version}\"");
+    let parts: Vec<&str> = version.split('.').collect();
+    let defined = [("", &*whole), ("_MAJOR", parts[0]), ("_MINOR", parts[1]), ("_PATCH", parts[2])];
+    for (name, value) in defined {
+        let line = format!("#define WEGBARO_VERSION{name} {value}");
+        assert!(header.lines().any(|other| other == line), "no line {line}");
+    }
 }
 
 #[test]

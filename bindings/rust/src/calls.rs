@@ -1,5 +1,6 @@
 //! The three calls over lent buffers.
 
+use crate::version::expect_library;
 use crate::Refusal;
 
 #[link(name = "wegbaro", kind = "static")]
@@ -90,6 +91,7 @@ pub enum Routed {
 /// work buffer at least [`crate::work_bytes`] of the network, or the call is refused; what is in the
 /// work buffer does not matter, and so much of it is zero after a verdict.
 pub fn check(store: &[u8], n: usize, work: &mut [u8]) -> Result<Checked, Refusal> {
+    expect_library();
     // SAFETY: the slices are valid for their lengths, not null and do not overlap; the call keeps
     // no pointer and takes every length and content.
     let answer =
@@ -119,6 +121,7 @@ pub fn command(
     work: &mut [u8],
     given: &[u8],
 ) -> Result<Commanded, Refusal> {
+    expect_library();
     // SAFETY: as in `check`; `store` and `work` are borrowed mutably, so nothing overlaps.
     let answer = unsafe {
         wegbaro_command(
@@ -158,6 +161,7 @@ pub fn route(
     end: usize,
     list: &mut [u16],
 ) -> Result<Routed, Refusal> {
+    expect_library();
     // SAFETY: as in `check`; `work` and `list` are borrowed mutably, so nothing overlaps.
     let answer = unsafe {
         wegbaro_route(

@@ -59,6 +59,11 @@
 //!
 //! The static library `libwegbaro.a` is taken from `target/staticlib` of the project, or from the
 //! folder that the environment variable `WEGBARO_LIB_DIR` names when this crate is built.
+//!
+//! # Panics
+//!
+//! Every call panics if the linked library is not one for this crate: if its version,
+//! [`library_version`], has another major or minor number than [`VERSION`], or is older.
 
 #![deny(missing_docs)]
 
@@ -66,11 +71,13 @@ mod buffers;
 mod calls;
 mod gate;
 mod refusal;
+mod version;
 
 pub use buffers::{list_entries, work_bytes, Buffers};
 pub use calls::{check, command, route, Checked, Commanded, Routed};
 pub use gate::Gate;
 pub use refusal::Refusal;
+pub use version::{library_version, Version, VERSION};
 
 /// Bytes of a record, and of a command.
 pub const RECORD_BYTES: usize = 24;

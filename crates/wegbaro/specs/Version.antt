@@ -1,0 +1,10 @@
+-- The version of the library as one number.
+use Prim.Native.Nat.{ℕ, _+_, _*_}
+
+-- a version by its three numbers
+abbrev pub numbered : ℕ → ℕ → ℕ → ℕ
+numbered major minor patch = 1000000 * major + 1000 * minor + patch
+
+-- the version that the file VERSION names
+abbrev pub libraryVersion : ℕ
+libraryVersion = numbered 0 7 3
