@@ -58,7 +58,8 @@
 //! ```
 //!
 //! The static library `libwegbaro.a` is taken from `target/staticlib` of the project, or from the
-//! folder that the environment variable `WEGBARO_LIB_DIR` names when this crate is built.
+//! folder that the environment variable `WEGBARO_LIB_DIR` names when this crate is built; a relative
+//! path goes on from the folder where cargo is called.
 //!
 //! # Panics
 //!
