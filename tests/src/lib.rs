@@ -16,6 +16,7 @@ pub mod diagrams;
 pub mod even;
 pub mod formulas;
 pub mod gate;
+pub mod in_c;
 pub mod inputs;
 pub mod k;
 pub mod library;

@@ -1,10 +1,13 @@
 //! The header and the example in C: built without a warning against the static library, and run.
 
-use std::fs::{self, File};
+use std::collections::BTreeSet;
 use std::path::Path;
 use std::process::Command;
 use wegbaro_tests::build::{compile_c, library, printed, printed_in_c, run, stub_library, version};
 use wegbaro_tests::build::{version_number, Folder};
+use wegbaro_tests::cases::{self, CheckCase, CommandCase, RouteCase};
+use wegbaro_tests::gate::{Checked, Commanded, Routed};
+use wegbaro_tests::in_c::InC;
 
 fn folder(name: &str) -> Folder {
     Folder::new(env!("CARGO_TARGET_TMPDIR"), name)
@@ -61,21 +64,51 @@ fn versions_in_c() {
     }
 }
 
-/// What the route call answers in C on K, from one state to another with a list of so many entries.
+/// The cases of the rows: check calls, and the same buffers without work, with a command and with a
+/// route that a later row refuses.
+fn check_cases() -> Vec<CheckCase> {
+    let cases = cases::checks_of_rows();
+    cases.iter().map(CheckCase::without_work).chain(cases.clone()).collect()
+}
+
+fn command_cases() -> Vec<CommandCase> {
+    let cases = cases::checks_of_rows();
+    let empty = cases.iter().map(CheckCase::with_empty_command);
+    empty.chain(cases::all_commands()).collect()
+}
+
+fn route_cases() -> Vec<RouteCase> {
+    let cases = cases::checks_of_rows();
+    let unknown = cases.iter().map(CheckCase::with_unknown_states);
+    unknown.chain(cases::routes::cases()).collect()
+}
+
+/// Each row that a call can answer, met through the header at the place that it must have; and every
+/// buffer afterwards as it must be, byte by byte.
 #[test]
-fn routes_in_c() {
-    let folder = folder("route");
-    let (built, network) = (folder.path().join("route"), folder.path().join("k"));
-    compile_c("tests/c/route.c", &library(), &built, ["cc", "c", "c89"]);
-    fs::write(&network, wegbaro_tests::k::k().concat()).unwrap();
-    for (given, answer) in [
-        (["2", "28", "33"], "found 4 0 2 20 10 28\n"),
-        (["2", "20", "33"], "found 2 0 2 20\n"),
-        (["28", "2", "33"], "no route 0 0\n"),
-        (["2", "32", "33"], "refused 14 0\n"),
-        (["2", "28", "32"], "refused 15 0\n"),
-    ] {
-        let ran = run(Command::new(&built).args(given).stdin(File::open(&network).unwrap()));
-        assert_eq!(String::from_utf8_lossy(&ran.stdout), answer, "{given:?}");
+fn every_row_in_c() {
+    let folder = folder("calls");
+    let c = InC::new(&folder);
+    let mut met = [BTreeSet::new(), BTreeSet::new(), BTreeSet::new()];
+    for case in check_cases() {
+        case.run(&c).unwrap();
+        if let Checked::Refused { number, .. } = case.answer {
+            met[0].insert(number);
+        }
     }
+    for case in command_cases() {
+        case.run(&c).unwrap();
+        if let Commanded::Refused { number, .. } = case.answer {
+            met[1].insert(number);
+        }
+    }
+    for case in route_cases() {
+        case.run(&c).unwrap();
+        if let Routed::Refused { number, .. } = case.answer {
+            met[2].insert(number);
+        }
+    }
+    assert_eq!(met[0], (1..=11).chain([16]).collect());
+    assert_eq!(met[1], (1..=13).chain([16]).collect());
+    assert_eq!(met[2], (1..=11).chain(14..=16).collect());
 }
