@@ -46,7 +46,7 @@ proved:
 
 # The program is linked with the static library.
 program: $(static)
-	CARGO_TARGET_DIR=target/rust cargo build --release --offline --manifest-path tools/Cargo.toml
+	cargo build --release --offline --package wegbaro-tools --target-dir target/rust
 
 shared: $(shared)
 

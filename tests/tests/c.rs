@@ -5,8 +5,8 @@ use std::path::Path;
 use std::process::Command;
 use wegbaro_tests::build::{compile_c, library, printed, printed_in_c, run, stub_library, version};
 use wegbaro_tests::build::{version_number, Folder};
-use wegbaro_tests::cases::{self, CheckCase, CommandCase, RouteCase};
-use wegbaro_tests::gate::{Checked, Commanded, Routed};
+use wegbaro_tests::cases::{self, Case};
+use wegbaro_tests::gate::Answer;
 use wegbaro_tests::in_c::InC;
 
 fn folder(name: &str) -> Folder {
@@ -64,51 +64,24 @@ fn versions_in_c() {
     }
 }
 
-/// The cases of the rows: check calls, and the same buffers without work, with a command and with a
-/// route that a later row refuses.
-fn check_cases() -> Vec<CheckCase> {
-    let cases = cases::checks_of_rows();
-    cases.iter().map(CheckCase::without_work).chain(cases.clone()).collect()
+/// The rows that refuse a call in one of the cases.
+fn rows(cases: &[Case], call: &str) -> BTreeSet<usize> {
+    let row = |case: &Case| match case.answer {
+        Answer::Refused { number, .. } => Some(number),
+        _ => None,
+    };
+    cases.iter().filter(|case| case.call.name() == call).filter_map(row).collect()
 }
 
-fn command_cases() -> Vec<CommandCase> {
-    let cases = cases::checks_of_rows();
-    let empty = cases.iter().map(CheckCase::with_empty_command);
-    empty.chain(cases::all_commands()).collect()
-}
-
-fn route_cases() -> Vec<RouteCase> {
-    let cases = cases::checks_of_rows();
-    let unknown = cases.iter().map(CheckCase::with_unknown_states);
-    unknown.chain(cases::routes::cases()).collect()
-}
-
-/// Each row that a call can answer, met through the header at the place that it must have; and every
-/// buffer afterwards as it must be, byte by byte.
+/// The cases of the rows through the header, and in them each row that a call can answer: number and
+/// place as they must be, and every buffer byte by byte.
 #[test]
 fn every_row_in_c() {
+    let cases: Vec<Case> = cases::of_rows().collect();
+    assert_eq!(rows(&cases, "check"), (1..=11).chain([16]).collect());
+    assert_eq!(rows(&cases, "command"), (1..=13).chain([16]).collect());
+    assert_eq!(rows(&cases, "route"), (1..=11).chain(14..=16).collect());
     let folder = folder("calls");
-    let c = InC::new(&folder);
-    let mut met = [BTreeSet::new(), BTreeSet::new(), BTreeSet::new()];
-    for case in check_cases() {
-        case.run(&c).unwrap();
-        if let Checked::Refused { number, .. } = case.answer {
-            met[0].insert(number);
-        }
-    }
-    for case in command_cases() {
-        case.run(&c).unwrap();
-        if let Commanded::Refused { number, .. } = case.answer {
-            met[1].insert(number);
-        }
-    }
-    for case in route_cases() {
-        case.run(&c).unwrap();
-        if let Routed::Refused { number, .. } = case.answer {
-            met[2].insert(number);
-        }
-    }
-    assert_eq!(met[0], (1..=11).chain([16]).collect());
-    assert_eq!(met[1], (1..=13).chain([16]).collect());
-    assert_eq!(met[2], (1..=11).chain(14..=16).collect());
+    let in_c = InC::new(&folder);
+    cases::expect_all(cases.iter().map(|case| case.run(&in_c)));
 }
