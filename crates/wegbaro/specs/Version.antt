@@ -7,4 +7,4 @@ numbered major minor patch = 1000000 * major + 1000 * minor + patch
 
 -- the version that the file VERSION names
 abbrev pub libraryVersion : ℕ
-libraryVersion = numbered 0 7 3
+libraryVersion = numbered 0 7 4

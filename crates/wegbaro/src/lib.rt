@@ -19,7 +19,7 @@ const MAJOR: u64 = 0;
 const MINOR: u64 = 7;
 
 // Its third number.
-const PATCH: u64 = 3;
+const PATCH: u64 = 4;
 
 // A case with its two numbers.
 fn coded(tag: u64, first: usize, second: usize) -> u64
