@@ -60,7 +60,7 @@ $(gate): | $(static)
 $(program):
 	$(MAKE) program
 
-$(shared): $(static) packaging/libwegbaro.map
+$(shared): $(static) packaging/libwegbaro.map Makefile
 	mkdir -p $(@D)
 	$(CC) -shared $(LDFLAGS) -Wl,-soname,$(SONAME) -Wl,--version-script,packaging/libwegbaro.map \
 	    -Wl,-z,defs -Wl,-z,text -Wl,-z,noexecstack -o $@ \

@@ -1,20 +1,30 @@
 //! The library that a program with this crate is linked with: that of the folder that
 //! `WEGBARO_LIB_DIR` names, and of a version that the crate is for.
 
-use std::ffi::OsStr;
 use std::fs;
 use std::path::{Path, PathBuf};
 use std::process::{Command, Output};
 use wegbaro_tests::build::{root, stub_library, version, version_number, Folder};
 
-/// Prints the version of the library, then what the check call answers without a network: that it
-/// holds if the library is a stub, and otherwise row 1.
+/// Prints the version of the library, then what each call answers without a network, or that it
+/// panics.
 const PROGRAM: &str = r#"
 fn main() {
     println!("{}", wegbaro::library_version());
-    println!("{:?}", wegbaro::check(&[], 0, &mut []));
+    let calls: [fn() -> String; 3] = [
+        || format!("{:?}", wegbaro::check(&[], 0, &mut [])),
+        || format!("{:?}", wegbaro::command(&mut [], 0, &mut [], &[])),
+        || format!("{:?}", wegbaro::route(&[], 0, &mut [], 0, 0, &mut [])),
+    ];
+    for call in calls {
+        println!("{}", std::panic::catch_unwind(call).unwrap_or("panic".to_owned()));
+    }
 }
 "#;
+
+/// What a stub answers, and the proved library.
+const STUB: &str = "Ok(Holds)\nOk(Forwarded { count: 0 })\nOk(Found { count: 0 })\n";
+const PROVED: &str = "Err(Refusal { row: 1, place: 0 })\n";
 
 /// A package with that program, and folders with libraries.
 struct User(Folder);
@@ -44,7 +54,7 @@ impl User {
     }
 
     /// Builds and runs the program from a folder, as a shell there does.
-    fn run_in(&self, folder: &Path, lib_dir: impl AsRef<OsStr>) -> Output {
+    fn run_in(&self, folder: &Path, lib_dir: &str) -> Output {
         let mut cargo = Command::new("cargo");
         cargo.args(["run", "--quiet", "--offline", "--manifest-path"]);
         cargo.arg(self.path("Cargo.toml")).env("CARGO_TARGET_DIR", self.path("target"));
@@ -53,22 +63,20 @@ impl User {
     }
 }
 
-/// What the program printed, which ended well.
-fn printed(ran: Output) -> String {
-    assert!(ran.status.success(), "{}", String::from_utf8_lossy(&ran.stderr));
-    String::from_utf8(ran.stdout).unwrap()
+/// What the program printed, if it could be built.
+fn printed(ran: &Output) -> String {
+    assert!(ran.status.success(), "{}", said(ran));
+    String::from_utf8(ran.stdout.clone()).unwrap()
 }
 
-/// What was said of a program that could not be built, or did not end well.
-fn said(ran: Output) -> String {
-    assert!(!ran.status.success(), "{}", String::from_utf8_lossy(&ran.stdout));
-    String::from_utf8(ran.stderr).unwrap()
+/// What was said on standard error.
+fn said(ran: &Output) -> String {
+    String::from_utf8(ran.stderr.clone()).unwrap()
 }
 
-/// This version with the next patch.
-fn next_patch() -> String {
-    let wegbaro::Version { major, minor, patch } = wegbaro::VERSION;
-    format!("{major}.{minor}.{}", patch + 1)
+/// A version by its number.
+fn text(number: u64) -> String {
+    format!("{}.{}.{}", number / 1_000_000, number / 1_000 % 1_000, number % 1_000)
 }
 
 #[test]
@@ -76,25 +84,24 @@ fn the_folder_that_is_named() {
     let user = User::new("named");
     let this = user.with_stub("this", version_number());
     let next = user.with_stub("next", version_number() + 1);
-    let this_answers = format!("{}\nOk(Holds)\n", version());
-    let next_answers = format!("{}\nOk(Holds)\n", next_patch());
+    let told = |folder: &Path, lib_dir: &str| printed(&user.run_in(folder, lib_dir));
+    let [of_this, of_next] =
+        [0, 1].map(|patches| format!("{}\n{STUB}", text(version_number() + patches)));
 
-    assert_eq!(printed(user.run_in(&this, next.join("lib"))), next_answers);
-    assert_eq!(printed(user.run_in(&this, "lib")), this_answers);
-    assert_eq!(printed(user.run_in(&next, "lib")), next_answers);
-    assert_eq!(printed(user.run_in(&next, "../this/lib")), this_answers);
-
-    let proved = format!("{}\nErr(Refusal {{ row: 1, place: 0 }})\n", version());
-    assert_eq!(printed(user.run_in(&this, "")), proved);
+    assert_eq!(told(&this, next.join("lib").to_str().unwrap()), of_next);
+    assert_eq!(told(&this, "lib"), of_this);
+    assert_eq!(told(&next, "lib"), of_next);
+    assert_eq!(told(&next, "../this/lib"), of_this);
+    assert_eq!(told(&this, ""), format!("{}\n{}", version(), PROVED.repeat(3)));
 }
 
 #[test]
 fn a_folder_without_the_library() {
     let user = User::new("without");
-    let said = said(user.run_in(&user.path("src"), "lib"));
+    let ran = user.run_in(&user.path("src"), "lib");
     let whole = user.path("src/lib/libwegbaro.a");
     let wrong = format!("WEGBARO_LIB_DIR is `lib`, and there is no {}", whole.display());
-    assert!(said.contains(&wrong), "{said}");
+    assert!(!ran.status.success() && said(&ran).contains(&wrong), "{}", said(&ran));
 }
 
 /// Another minor version is another library, and an older one may lack something.
@@ -102,9 +109,10 @@ fn a_folder_without_the_library() {
 fn versions_that_the_crate_is_not_for() {
     let user = User::new("versions");
     for other in [version_number() + 1_000, version_number() + 1_000_000, version_number() - 1] {
-        let folder = user.with_stub(&other.to_string(), other);
-        let said = said(user.run_in(&folder, "lib"));
-        let wrong = format!("this crate is for version {}", version());
-        assert!(said.contains(&wrong) && said.contains("panicked"), "{other}: {said}");
+        let ran = user.run_in(&user.with_stub(&other.to_string(), other), "lib");
+        assert_eq!(printed(&ran), format!("{}\npanic\npanic\npanic\n", text(other)));
+        let wrong =
+            format!("is version {}, and this crate is for version {}", text(other), version());
+        assert_eq!(said(&ran).matches(&wrong).count(), 3, "{}", said(&ran));
     }
 }
