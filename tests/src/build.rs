@@ -7,17 +7,13 @@ use std::process::{self, Command, Output};
 /// The flags by which a C compiler accepts nothing doubtful.
 pub const STRICT: [&str; 4] = ["-Wall", "-Wextra", "-Werror", "-pedantic"];
 
-/// Builds a program of the project with a compiler, in a language of a standard, against a library.
-pub fn compile_c(
-    source: &str,
-    library: &Path,
-    built: &Path,
-    [compiler, language, standard]: [&str; 3],
-) {
-    let mut compiler = Command::new(compiler);
-    compiler.args(STRICT).arg(format!("-std={standard}")).arg("-I").arg(root().join("include"));
-    compiler.args(["-x", language]).arg(root().join(source)).args(["-x", "none"]);
-    run(compiler.arg(library).arg("-o").arg(built));
+/// Builds a program of the project against a library, by a compiler and its flags.
+pub fn compile(compiler: &[&str], source: &str, library: &Path, built: &Path) {
+    let mut command = Command::new(compiler[0]);
+    command.args(STRICT).arg("-I").arg(root().join("include")).args(&compiler[1..]);
+    // The language that a flag may name is that of the source alone.
+    command.arg(root().join(source)).args(["-x", "none"]).arg(library);
+    run(command.arg("-o").arg(built));
 }
 
 /// The proved library.

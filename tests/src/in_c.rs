@@ -1,6 +1,6 @@
 //! The proved library through its header: calls made by a program in C.
 
-use crate::build::{compile_c, library, Folder};
+use crate::build::{compile, library, Folder};
 use crate::gate::{Answer, Call, Gate, Lent};
 use std::cell::RefCell;
 use std::io::{BufRead, BufReader, Read, Write};
@@ -18,7 +18,7 @@ impl InC {
     /// Builds the program in a folder and starts it.
     pub fn new(folder: &Folder) -> InC {
         let built = folder.path().join("calls");
-        compile_c("tests/c/calls.c", &library(), &built, ["cc", "c", "c89"]);
+        compile(&["cc", "-std=c89"], "tests/c/calls.c", &library(), &built);
         let mut command = Command::new(&built);
         command.stdin(Stdio::piped()).stdout(Stdio::piped());
         let mut program = command.spawn().expect("it was built just now");

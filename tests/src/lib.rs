@@ -1,8 +1,9 @@
 //! The gate executed: a second implementation, generators, and cases for any gate.
 //!
 //! A gate to be tested implements [`gate::Gate`]. [`cases`] holds calls with answers written by hand;
-//! [`compare`] runs a gate against another one on generated networks, commands and inputs. [`words`]
-//! is the gate by whose times the proved library's are measured.
+//! [`compare`] runs a gate against another one on generated networks, commands and inputs.
+//! [`library`] is the proved library from Rust, [`in_c`] the same from C. [`words`] is the gate by
+//! whose times the proved library's are measured.
 //!
 //! [`reading`] finds the definitions that a promise rests on, and reads `docs/READING.md`.
 

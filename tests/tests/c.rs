@@ -3,7 +3,7 @@
 use std::collections::BTreeSet;
 use std::path::Path;
 use std::process::Command;
-use wegbaro_tests::build::{compile_c, library, printed, printed_in_c, run, stub_library, version};
+use wegbaro_tests::build::{compile, library, printed, printed_in_c, run, stub_library, version};
 use wegbaro_tests::build::{version_number, Folder};
 use wegbaro_tests::cases::{self, Case};
 use wegbaro_tests::gate::Answer;
@@ -14,20 +14,20 @@ fn folder(name: &str) -> Folder {
 }
 
 /// Builds the example and runs it.
-fn example_in(compiler: &str, language: &str, standard: &str) {
-    let folder = folder(standard);
+fn example_by(compiler: &[&str]) {
+    let folder = folder(&compiler.concat());
     let example = folder.path().join("check");
-    compile_c("examples/c/check.c", &library(), &example, [compiler, language, standard]);
+    compile(compiler, "examples/c/check.c", &library(), &example);
 
     let ran = run(&mut Command::new(&example));
-    assert_eq!(String::from_utf8_lossy(&ran.stdout), printed_in_c(), "{standard}");
-    assert_eq!(String::from_utf8_lossy(&ran.stderr), "", "{standard}");
+    assert_eq!(String::from_utf8_lossy(&ran.stdout), printed_in_c(), "{compiler:?}");
+    assert_eq!(String::from_utf8_lossy(&ran.stderr), "", "{compiler:?}");
 }
 
 #[test]
 fn the_example_in_every_c() {
-    for standard in ["c89", "c99", "c11", "c17"] {
-        example_in("cc", "c", standard);
+    for standard in ["-std=c89", "-std=c99", "-std=c11", "-std=c17"] {
+        example_by(&["cc", standard]);
     }
 }
 
@@ -35,8 +35,8 @@ fn the_example_in_every_c() {
 fn the_example_in_cpp() {
     let there = Command::new("c++").arg("--version").output().is_ok();
     assert!(there, "a C++ compiler is not installed: on Debian, apt-get install g++");
-    for standard in ["c++98", "c++17"] {
-        example_in("c++", "c++", standard);
+    for standard in ["-std=c++98", "-std=c++17"] {
+        example_by(&["c++", "-x", "c++", standard]);
     }
 }
 
@@ -46,7 +46,7 @@ fn versions_in_c() {
     let folder = folder("versions");
     let told = |library: &Path| {
         let built = folder.path().join("version");
-        compile_c("tests/c/version.c", library, &built, ["cc", "c", "c89"]);
+        compile(&["cc", "-std=c89"], "tests/c/version.c", library, &built);
         printed(&mut Command::new(&built))
     };
     let number = version_number();

@@ -6,7 +6,7 @@ use std::fs;
 use std::path::{Path, PathBuf};
 use std::process::Command;
 use std::sync::Once;
-use wegbaro_tests::build::{printed, printed_in_c, printed_of_k, root, run, version};
+use wegbaro_tests::build::{library, printed, printed_in_c, printed_of_k, root, run, version};
 use wegbaro_tests::build::{Folder, STRICT};
 
 fn folder(name: &str) -> Folder {
@@ -206,7 +206,7 @@ fn the_shared_object_exports_the_calls_and_its_version() {
 /// Calls at the same time would share writable data, and a call of anything else could allocate.
 #[test]
 fn the_library_has_no_data_and_calls_nothing_that_has() {
-    let library = root().join("target/staticlib/libwegbaro.a");
+    let library = library();
     let sizes = printed(Command::new("size").arg(&library));
     let parts: Vec<Vec<&str>> =
         sizes.lines().skip(1).map(|line| line.split_whitespace().collect()).collect();

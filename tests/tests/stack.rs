@@ -3,7 +3,7 @@
 use std::fs::{self, File};
 use std::path::Path;
 use std::process::Command;
-use wegbaro_tests::build::{printed, root, run, Folder, STRICT};
+use wegbaro_tests::build::{compile, library, printed, Folder};
 use wegbaro_tests::formulas::{all, and, bit, not, or, policy, r, some, tc, Node, X, Y};
 use wegbaro_tests::gate::{Answer, Call, Gate, Lent, MOST_RECORDS, RECORD};
 use wegbaro_tests::library::Library;
@@ -119,11 +119,8 @@ fn is_judged(network: &[Record]) -> bool {
 /// The program that measures.
 fn meter(folder: &Path) -> Command {
     let built = folder.join("stack");
-    let mut compiler = Command::new("cc");
-    compiler.args(STRICT).args(["-std=c99", "-D_XOPEN_SOURCE=600", "-pthread", "-I"]);
-    compiler.arg(root().join("include")).arg(root().join("tests/c/stack.c"));
-    compiler.arg(root().join("target/staticlib/libwegbaro.a")).arg("-o").arg(&built);
-    run(&mut compiler);
+    let compiler = ["cc", "-std=c99", "-D_XOPEN_SOURCE=600", "-pthread"];
+    compile(&compiler, "tests/c/stack.c", &library(), &built);
     let mut meter = Command::new(built);
     meter.args(ENDS.concat().iter().map(usize::to_string));
     meter
