@@ -59,6 +59,14 @@ impl Answer {
         }
     }
 
+    /// The count of records or of states that it tells.
+    pub fn count(self) -> Option<usize> {
+        match self {
+            Answer::Forwarded { count } | Answer::Found { count } => Some(count),
+            _ => None,
+        }
+    }
+
     pub fn is_refused(self) -> bool {
         matches!(self, Answer::Refused { .. })
     }

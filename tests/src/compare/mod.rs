@@ -40,7 +40,7 @@ pub fn same(
         return Ok((answer, left));
     }
     Err(format!(
-        "{answer:?} against {its:?}, store same: {}, work same: {}, list same: {}, {call:02X?}, n {}, \
+        "{answer:?} against {its:?}, store same: {}, work same: {}, list same: {}, {call:?}, n {}, \
          store {}, work {}, list {}, records {:02X?}",
         left.store == its_left.store,
         left.work == its_left.work,
