@@ -59,6 +59,14 @@ impl Answer {
         }
     }
 
+    /// The count of records or of states that it tells.
+    pub fn count(self) -> Option<usize> {
+        match self {
+            Answer::Forwarded { count } | Answer::Found { count } => Some(count),
+            _ => None,
+        }
+    }
+
     pub fn is_refused(self) -> bool {
         matches!(self, Answer::Refused { .. })
     }
@@ -101,6 +109,45 @@ impl Lent {
 /// A gate: every call over lent buffers.
 pub trait Gate {
     fn answer(&self, call: &Call, lent: &mut Lent) -> Answer;
+
+    /// The answer to a call on buffers like these, and what it leaves in them.
+    fn outcome(&self, call: &Call, lent: &Lent) -> Outcome {
+        let mut left = lent.clone();
+        let answer = self.answer(call, &mut left);
+        Outcome { answer, left }
+    }
+}
+
+/// What a call answers, and the buffers as it leaves them.
+#[derive(Clone, Debug, PartialEq, Eq)]
+pub struct Outcome {
+    pub answer: Answer,
+    pub left: Lent,
+}
+
+impl Outcome {
+    /// An error that tells the first thing that is not what it must be: the answer, or the entry of a
+    /// buffer.
+    pub fn expect(&self, must: &Outcome) -> Result<(), String> {
+        if self.answer != must.answer {
+            return Err(format!("{:?}, not {:?}", self.answer, must.answer));
+        }
+        let Lent { store, n, work, list } = &self.left;
+        expect_entries("store", store, &must.left.store)?;
+        expect_entries("count", &[*n], &[must.left.n])?;
+        expect_entries("work", work, &must.left.work)?;
+        expect_entries("list", list, &must.left.list)
+    }
+}
+
+fn expect_entries<T: PartialEq>(what: &str, got: &[T], must: &[T]) -> Result<(), String> {
+    match got.iter().zip(must).position(|(got, must)| got != must) {
+        Some(place) => Err(format!("{what} differs from entry {place} on")),
+        None if got.len() != must.len() => {
+            Err(format!("{what} of {} entries, not {}", got.len(), must.len()))
+        }
+        None => Ok(()),
+    }
 }
 
 /// A program: whole input to whole output.

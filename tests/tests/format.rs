@@ -88,8 +88,8 @@ fn route_in_k(start: &str, end: &str) -> [String; 2] {
     let [start, end] = [start, end].map(|state| state.parse().unwrap());
     let mut lent = Lent::just(&k());
     let answer = Library.answer(&Call::Route { start, end }, &mut lent);
-    let count = if let Answer::Found { count } = answer { count } else { 0 };
-    let states: Vec<String> = lent.list[..count].iter().map(u16::to_string).collect();
+    let written = &lent.list[..answer.count().unwrap_or(0)];
+    let states: Vec<String> = written.iter().map(u16::to_string).collect();
     [words(answer), states.join(", ")]
 }
 

@@ -122,7 +122,7 @@ fn points_linked_twice_anywhere() {
 #[test]
 fn long_series() {
     let tally = compare::series(&Second, &Library, 46, 12, 6, 400).unwrap();
-    tally.expect("command", &[("forwarded", 500), ("blocked", 200), (ADDED_BY_MODIFY, 100)]);
+    tally.expect("command", &[("forwarded", 500), ("blocked", 80), (ADDED_BY_MODIFY, 100)]);
     tally.expect("command", &[("refused 12", 200), ("refused 16", 100)]);
 }
 
@@ -166,7 +166,7 @@ fn routes_of_every_width() {
 fn routes_of_largest_networks() {
     let tally = routes::of_largest(&Second, &Library, 52, 40).unwrap();
     tally.expect("route", &[("found", 10)]);
-    assert!(tally.longest > 4, "{tally:?}");
+    tally.expect_count("route", 4);
 }
 
 /// Each call would take minutes, if every way were gone.
@@ -179,5 +179,5 @@ fn every_way_through_nested_groups_at_once() {
 fn winding_routes() {
     let tally = routes::of_winding(&Second, &Library, 53, 2, 20).unwrap();
     tally.expect("route", &[("found", 500)]);
-    assert!(tally.longest > 500, "{tally:?}");
+    tally.expect_count("route", 500);
 }

@@ -68,8 +68,8 @@ fn long_routes_of_every_width() {
             let records = [long.records.clone(), policy(0, &nodes)].concat();
             let lent = compare::lend(&mut random, &records, work_needed(&records));
             let state = long.route[..place].iter().copied().min().unwrap();
-            let (answer, _) = compare::same(&Words, &Library, &Call::Check, &lent).unwrap();
-            assert_eq!(answer, Answer::Violated { policy: 0, state }, "{of:?}");
+            let outcome = compare::same(&Words, &Library, &Call::Check, &lent).unwrap();
+            assert_eq!(outcome.answer, Answer::Violated { policy: 0, state }, "{of:?}");
         }
     }
 }

@@ -21,7 +21,7 @@ pub mod versions;
 pub mod widths;
 pub mod work;
 
-use crate::gate::{Answer, Call, Gate, Lent, Program, STORE};
+use crate::gate::{Answer, Call, Gate, Lent, Outcome, Program, STORE};
 use crate::k::k;
 use crate::records::Record;
 use std::fmt::Debug;
@@ -68,12 +68,9 @@ impl Case {
 
     /// Runs the case; an error tells what is wrong.
     pub fn run(&self, gate: &dyn Gate) -> Result<(), String> {
-        let (mut left, must) = (self.lent.clone(), self.left());
-        let answer = gate.answer(&self.call, &mut left);
-        same(&self.name, "answer", &answer, &self.answer)?;
-        same_entries(&self.name, "store", &left.store, &must.store)?;
-        same_entries(&self.name, "work", &left.work, &must.work)?;
-        same_entries(&self.name, "list", &left.list, &must.list)
+        let must = Outcome { answer: self.answer, left: self.left() };
+        let outcome = gate.outcome(&self.call, &self.lent);
+        outcome.expect(&must).map_err(|difference| format!("{}: {difference}", self.name))
     }
 
     /// The buffers as they must be left.
@@ -125,14 +122,6 @@ fn same<A: PartialEq + Debug>(name: &str, what: &str, got: &A, must: &A) -> Resu
     match got == must {
         true => Ok(()),
         false => Err(format!("{name}: {what} {got:?}, not {must:?}")),
-    }
-}
-
-/// An error that tells the first entry that is not what it must be.
-fn same_entries<A: PartialEq>(name: &str, what: &str, got: &[A], must: &[A]) -> Result<(), String> {
-    match got.iter().zip(must).position(|(got, must)| got != must) {
-        None => same(name, what, &got.len(), &must.len()),
-        Some(place) => Err(format!("{name}: {what} differs from entry {place} on")),
     }
 }
 

@@ -8,7 +8,7 @@ pub use tally::{Tally, ADDED_BY_MODIFY, FULL_TO_MODIFY};
 use crate::commands::{filling_command, random_command};
 use crate::damage::damage;
 use crate::formulas::{policy, random_formula};
-use crate::gate::{Answer, Call, Gate, Lent, Program, STORE};
+use crate::gate::{Answer, Call, Gate, Lent, Outcome, Program, STORE};
 use crate::inputs::random_input;
 use crate::networks::{
     all_widths, crowded, full_network, guarded_network, largest, random_group, random_network,
@@ -26,31 +26,17 @@ pub fn lend(random: &mut Random, records: &[Record], work: usize) -> Lent {
     Lent { store, n: records.len(), work: random.bytes(work), ..Lent::default() }
 }
 
-/// A call on two gates: the answer and the buffers left, if all of them agree, byte by byte.
-pub fn same(
-    one: &dyn Gate,
-    other: &dyn Gate,
-    call: &Call,
-    lent: &Lent,
-) -> Result<(Answer, Lent), String> {
-    let (mut left, mut its_left) = (lent.clone(), lent.clone());
-    let answer = one.answer(call, &mut left);
-    let its = other.answer(call, &mut its_left);
-    if answer == its && left == its_left {
-        return Ok((answer, left));
-    }
-    Err(format!(
-        "{answer:?} against {its:?}, store same: {}, work same: {}, list same: {}, {call:02X?}, n {}, \
-         store {}, work {}, list {}, records {:02X?}",
-        left.store == its_left.store,
-        left.work == its_left.work,
-        left.list == its_left.list,
-        lent.n,
-        lent.store.len(),
-        lent.work.len(),
-        lent.list.len(),
-        lent.records(),
-    ))
+/// The outcome of a call on two gates, if it is the same.
+pub fn same(one: &dyn Gate, other: &dyn Gate, call: &Call, lent: &Lent) -> Result<Outcome, String> {
+    let must = one.outcome(call, lent);
+    let told = |difference: String| {
+        let Lent { store, n, work, list } = lent;
+        let lengths = [store.len(), work.len(), list.len()];
+        let records = lent.records();
+        format!("{difference}: {call:?}, n {n}, lengths {lengths:?}, records {records:02X?}")
+    };
+    other.outcome(call, lent).expect(&must).map_err(told)?;
+    Ok(must)
 }
 
 /// Two gates that are compared call by call, and what they answered.
@@ -64,17 +50,17 @@ impl<'a> Comparison<'a> {
         Comparison { gates: [one, other], tally: Tally::default() }
     }
 
-    /// The answer to a call and the buffers left, if the gates agree.
-    fn answer(&mut self, call: &Call, lent: &Lent) -> Result<(Answer, Lent), String> {
+    /// The outcome of a call, if the gates agree.
+    fn outcome(&mut self, call: &Call, lent: &Lent) -> Result<Outcome, String> {
         let [one, other] = self.gates;
-        let (answer, left) = same(one, other, call, lent)?;
-        self.tally.add(call, lent.n, answer);
-        Ok((answer, left))
+        let outcome = same(one, other, call, lent)?;
+        self.tally.add(call, lent.n, outcome.answer);
+        Ok(outcome)
     }
 
     /// The next call of a series: the buffers become those of the call behind it.
     fn go_on(&mut self, random: &mut Random, call: &Call, lent: &mut Lent) -> Result<(), String> {
-        let (answer, left) = self.answer(call, lent)?;
+        let Outcome { answer, left } = self.outcome(call, lent)?;
         let work = random.bytes(left.work.len());
         *lent = Lent { work, ..left };
         lent.go_on(answer);
@@ -97,7 +83,7 @@ pub fn sound_networks(
             let records = random_network(&mut random, of, most);
             let work = random_work(&mut random, work_needed(&records));
             let lent = lend(&mut random, &records, work);
-            compared.answer(&Call::Check, &lent)?;
+            compared.outcome(&Call::Check, &lent)?;
         }
     }
     Ok(compared.tally)
@@ -124,7 +110,7 @@ pub fn largest_networks(
     for _ in 0..rounds {
         let records = largest(&mut random);
         let lent = lend(&mut random, &records, work_needed(&records));
-        compared.answer(&Call::Check, &lent)?;
+        compared.outcome(&Call::Check, &lent)?;
     }
     Ok(compared.tally)
 }
@@ -146,13 +132,13 @@ pub fn damaged_networks(
         let mut records = sound.clone();
         damage(&mut random, &mut records);
         let mut lent = lend(&mut random, &records, 4 * work_needed(&sound));
-        compared.answer(&Call::Check, &lent)?;
+        compared.outcome(&Call::Check, &lent)?;
         let given = random_command(&mut random, &sound);
-        compared.answer(&Call::Command(given), &lent)?;
+        compared.outcome(&Call::Command(given), &lent)?;
         let [start, end] = routes::random_ends(&mut random, &sound, 1)[0];
         let entries = routes::random_entries(&mut random, 1 << of.bits());
         lent.list = routes::random_list(&mut random, entries);
-        compared.answer(&Call::Route { start, end }, &lent)?;
+        compared.outcome(&Call::Route { start, end }, &lent)?;
     }
     Ok(compared.tally)
 }
@@ -175,10 +161,10 @@ pub fn crowded_networks(
         let work = work_needed(&records);
         let lent = lend(&mut random, &records, work);
         let given = random_command(&mut random, &records);
-        compared.answer(&Call::Command(given), &lent)?;
+        compared.outcome(&Call::Command(given), &lent)?;
         insert_one_more(&mut random, of, &mut records);
         let lent = lend(&mut random, &records, work);
-        compared.answer(&Call::Check, &lent)?;
+        compared.outcome(&Call::Check, &lent)?;
     }
     Ok(compared.tally)
 }
@@ -238,7 +224,7 @@ fn expect_refusal(
 ) -> Result<(), String> {
     let work = random.below(64);
     let lent = lend(random, records, work);
-    let (answer, _) = same(one, other, &Call::Check, &lent)?;
+    let answer = same(one, other, &Call::Check, &lent)?.answer;
     if answer == (Answer::Refused { number, place }) {
         return Ok(());
     }

@@ -95,7 +95,7 @@ fn routes_between(
     for [start, end] in ends.iter().copied() {
         lent.work = work[..random_work(random, needed)].to_vec();
         lent.list = list[..random_entries(random, states)].to_vec();
-        compared.answer(&Call::Route { start, end }, &lent)?;
+        compared.outcome(&Call::Route { start, end }, &lent)?;
     }
     Ok(())
 }

@@ -7,8 +7,8 @@ use std::collections::BTreeMap;
 #[derive(Clone, Debug, Default)]
 pub struct Tally {
     counts: BTreeMap<(&'static str, String), usize>,
-    /// States of the longest route.
-    pub longest: usize,
+    /// The largest count that each call answered.
+    most: BTreeMap<&'static str, usize>,
 }
 
 /// A case of the command call: a modify was forwarded and added a rule.
@@ -36,6 +36,11 @@ impl Tally {
         }
     }
 
+    /// Fails unless a call answered a count above this one.
+    pub fn expect_count(&self, call: &str, least: usize) {
+        assert!(self.most.get(call) > Some(&least), "{call}: {self:?}");
+    }
+
     /// Fails unless each of these rows refused something.
     pub fn expect_rows(&self, numbers: &[usize]) {
         for number in numbers {
@@ -48,9 +53,8 @@ impl Tally {
         for case in [Some(answer.case()), case_of_modify(call, n, answer)].into_iter().flatten() {
             *self.counts.entry((call.name(), case)).or_default() += 1;
         }
-        if let Answer::Found { count } = answer {
-            self.longest = self.longest.max(count);
-        }
+        let most = self.most.entry(call.name()).or_default();
+        *most = answer.count().unwrap_or(0).max(*most);
     }
 }
 

@@ -41,18 +41,15 @@ impl Suspects {
 impl Gate for Suspects {
     /// Answers as the second implementation until all gates have been noticed.
     fn answer(&self, call: &Call, lent: &mut Lent) -> Answer {
-        let before = lent.clone();
-        let answer = Second.answer(call, lent);
+        let must = Second.outcome(call, lent);
         let mut unnoticed = self.unnoticed.borrow_mut();
-        unnoticed.retain(|(_, gate)| {
-            let mut left = before.clone();
-            gate.answer(call, &mut left) == answer && left == *lent
-        });
+        unnoticed.retain(|(_, gate)| gate.outcome(call, lent).expect(&must).is_ok());
+        *lent = must.left;
         if unnoticed.is_empty() {
             // A byte more, so that the comparison ends.
             lent.work.push(0);
         }
-        answer
+        must.answer
     }
 }
 
