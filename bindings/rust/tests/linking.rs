@@ -53,13 +53,18 @@ impl User {
         self.path(name)
     }
 
-    /// Builds and runs the program from a folder, as a shell there does.
+    /// Builds and runs the program.
     fn run_in(&self, folder: &Path, lib_dir: &str) -> Output {
+        self.cargo_in(folder, lib_dir).output().unwrap()
+    }
+
+    /// Cargo that builds and runs the program, called in a folder as by a shell there.
+    fn cargo_in(&self, folder: &Path, lib_dir: &str) -> Command {
         let mut cargo = Command::new("cargo");
         cargo.args(["run", "--quiet", "--offline", "--manifest-path"]);
         cargo.arg(self.path("Cargo.toml")).env("CARGO_TARGET_DIR", self.path("target"));
         cargo.current_dir(folder).env("PWD", folder).env("WEGBARO_LIB_DIR", lib_dir);
-        cargo.output().unwrap()
+        cargo
     }
 }
 
@@ -102,6 +107,10 @@ fn a_folder_without_the_library() {
     let whole = user.path("src/lib/libwegbaro.a");
     let wrong = format!("WEGBARO_LIB_DIR is `lib`, and there is no {}", whole.display());
     assert!(!ran.status.success() && said(&ran).contains(&wrong), "{}", said(&ran));
+
+    let ran = user.cargo_in(&user.path("src"), "lib").env_remove("PWD").output().unwrap();
+    let wrong = "WEGBARO_LIB_DIR must be a whole path";
+    assert!(!ran.status.success() && said(&ran).contains(wrong), "{}", said(&ran));
 }
 
 /// Another minor version is another library, and an older one may lack something.
