@@ -9,7 +9,13 @@
 # `rt` nor cargo after `make`.
 
 VERSION := $(shell cat VERSION)
-SONAME := libwegbaro.so.$(firstword $(subst ., ,$(VERSION)))
+
+# What a program that is linked with the shared object asks for when it starts. Versions 0.x may change the calls from one
+# minor version to the next; from 1.0 on only the major number tells of such a change.
+numbers := $(subst ., ,$(VERSION))
+major := $(word 1,$(numbers))
+minor := $(word 2,$(numbers))
+SONAME := libwegbaro.so.$(if $(filter 0,$(major)),$(major).$(minor),$(major))
 
 PREFIX ?= /usr/local
 prefix := $(abspath $(PREFIX))
@@ -40,7 +46,7 @@ proved:
 
 # The program is linked with the static library.
 program: $(static)
-	CARGO_TARGET_DIR=target/rust cargo build --release --offline --manifest-path tools/Cargo.toml
+	cargo build --release --offline --package wegbaro-tools --target-dir target/rust
 
 shared: $(shared)
 
@@ -54,7 +60,7 @@ $(gate): | $(static)
 $(program):
 	$(MAKE) program
 
-$(shared): $(static) packaging/libwegbaro.map
+$(shared): $(static) packaging/libwegbaro.map Makefile
 	mkdir -p $(@D)
 	$(CC) -shared $(LDFLAGS) -Wl,-soname,$(SONAME) -Wl,--version-script,packaging/libwegbaro.map \
 	    -Wl,-z,defs -Wl,-z,text -Wl,-z,noexecstack -o $@ \

@@ -27,8 +27,17 @@
 #error "wegbaro.h: unsigned long must have 64 bits, as on x86-64 Linux"
 #endif
 
-/* The version of the library. */
-#define WEGBARO_VERSION "0.7.3"
+/* ---- Version ---- */
+
+/* The version of this header, and of the library that belongs to it. */
+#define WEGBARO_VERSION "0.7.4"
+#define WEGBARO_VERSION_MAJOR 0
+#define WEGBARO_VERSION_MINOR 7
+#define WEGBARO_VERSION_PATCH 4
+
+/* The same as one number, as wegbaro_version() answers it. */
+#define WEGBARO_VERSION_NUMBER \
+    (WEGBARO_VERSION_MAJOR * 1000000ul + WEGBARO_VERSION_MINOR * 1000ul + WEGBARO_VERSION_PATCH)
 
 /* ---- Sizes ---- */
 
@@ -109,7 +118,7 @@ typedef unsigned long wegbaro_answer;
 extern "C" {
 #endif
 
-/* The next three are `__inline__`, not `inline`, for C89's sake.
+/* This function and those below that have a body are `__inline__`, not `inline`, for C89's sake.
  *
  * The case of an answer: bits 0 and 1. */
 static __inline__ unsigned int wegbaro_case(wegbaro_answer answer)
@@ -179,6 +188,17 @@ wegbaro_answer wegbaro_command(unsigned char *store, size_t store_len, size_t n,
  * another. The store is only read. The work buffer is left as by the check call. `list_len` counts entries, not bytes. */
 wegbaro_answer wegbaro_route(const unsigned char *store, size_t store_len, size_t n, unsigned char *work, size_t work_len,
                              size_t start, size_t end, unsigned short *list, size_t list_len);
+
+/* The version of the library that the program runs with: 1,000,000 times its major number, 1,000 times its minor number,
+ * and its patch. */
+unsigned long wegbaro_version(void);
+
+/* Whether the program may make the calls above: whether that library is of this header's major and minor version, and not
+ * older than the header. From one minor version to the next, records, calls or buffers can change. */
+static __inline__ int wegbaro_is_compatible(void)
+{
+    return wegbaro_version() / 1000 == WEGBARO_VERSION_NUMBER / 1000 && wegbaro_version() >= WEGBARO_VERSION_NUMBER;
+}
 
 #ifdef __cplusplus
 }

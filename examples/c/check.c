@@ -102,6 +102,10 @@ int main(void)
     size_t n = COUNT(network);
     unsigned int i;
 
+    if (!wegbaro_is_compatible()) {
+        fprintf(stderr, "built for Wegbaro %s, and the library is %lu\n", WEGBARO_VERSION, wegbaro_version());
+        return 1;
+    }
     memcpy(store, network, sizeof network);
     if (!print_check(wegbaro_check(store, sizeof store, n, work, sizeof work)))
         return 1;

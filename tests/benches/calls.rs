@@ -7,11 +7,9 @@ use plain::groups::{self, Groups};
 use std::hint::black_box;
 use std::time::Instant;
 use wegbaro_tests::formulas::{and, bit, external, not, policy, r, some, tc, Node, X, Y};
-use wegbaro_tests::gate::{Checked, Commanded, Gate, Routed, MOST_RECORDS, STORE};
+use wegbaro_tests::gate::{Answer, Call, Gate, Lent, MOST_RECORDS};
 use wegbaro_tests::library::Library;
-use wegbaro_tests::networks::{
-    largest, largest_without_policies, nested_groups, work_needed, Widths,
-};
+use wegbaro_tests::networks::{largest, largest_without_policies, nested_groups, Widths};
 use wegbaro_tests::random::Random;
 use wegbaro_tests::records::{add, link, miss, output, rule, run, widths, Record};
 use wegbaro_tests::second::network::{Action, Match, Network, Pattern, Rule};
@@ -23,12 +21,15 @@ const RUNS: usize = 101;
 const STATES: usize = 1024;
 const WORDS: usize = STATES / 64;
 /// Row 11: the work is too short, which is found after all records are read.
-const SHORT: Checked = Checked::Refused { number: 11, place: 0 };
+const SHORT: Answer = Answer::Refused { number: 11, place: 0 };
 
-fn store_of(records: &[Record]) -> Vec<u8> {
-    let mut store = records.concat();
-    store.resize(STORE, 0);
-    store
+fn check(gate: &dyn Gate, lent: &mut Lent) -> Answer {
+    gate.answer(&Call::Check, black_box(lent))
+}
+
+/// A network just lent, but without any work.
+fn without_work(records: &[Record]) -> Lent {
+    Lent { work: vec![], ..Lent::just(records) }
 }
 
 /// Microseconds that a call takes.
@@ -199,10 +200,10 @@ fn compare(network: &Network, plane: &[u64], row: &[u64]) {
 /// Reading the largest network.
 fn reading() -> f64 {
     let records = largest(&mut Random::new(1));
-    let (store, n) = (store_of(&records), records.len());
-    assert_eq!(n, MOST_RECORDS);
-    assert_eq!(Library.check(&store, n, &mut []), SHORT);
-    median((0..RUNS).map(|_| time(|| Library.check(black_box(&store), n, &mut []))).collect())
+    let mut lent = without_work(&records);
+    assert_eq!(lent.n, MOST_RECORDS);
+    assert_eq!(check(&Library, &mut lent), SHORT);
+    median((0..RUNS).map(|_| time(|| check(&Library, &mut lent))).collect())
 }
 
 /// 256 rules at one switch, each of higher priority than those before it, so that every one that
@@ -296,20 +297,18 @@ fn closed_at_one_switch(groups: &[Record]) -> Vec<Record> {
 fn check_groups() -> [f64; 2] {
     let groups = nested_groups(Widths { h: 6, p: 3, w: 0 }, 0);
     let networks = [closed_at_one_switch(&groups), closed_at_one_switch(&[])];
-    let mut work = vec![0; work_needed(&networks[0])];
-    let stores = networks.map(|records| (store_of(&records), records.len()));
-    let mut check = |(store, n): &(Vec<u8>, usize)| {
-        time(|| assert_eq!(Library.check(black_box(store), *n, &mut work), Checked::Holds))
-    };
-    medians(|| [check(&stores[0]), check(&stores[1])])
+    let mut lent = networks.map(|records| Lent::just(&records));
+    medians(|| {
+        let [with, without] = &mut lent;
+        [with, without].map(|lent| time(|| assert_eq!(check(&Library, lent), Answer::Holds)))
+    })
 }
 
 /// The step plane, the external row and two cleared planes: the library, and plain Rust.
 fn step_plane(records: &[Record], departing: Departing) -> [f64; 2] {
-    let (store, n) = (store_of(records), records.len());
-    let mut work = vec![0; work_needed(records)];
-    assert_eq!(Library.check(&store, n, &mut work), Checked::Holds);
-    assert_eq!(Library.check(&store, n, &mut []), SHORT);
+    let (mut lent, mut short) = (Lent::just(records), without_work(records));
+    assert_eq!(check(&Library, &mut lent), Answer::Holds);
+    assert_eq!(check(&Library, &mut short), SHORT);
     let network = file::read(records).unwrap();
     let mut planes = vec![0; 2 * STATES * WORDS];
     let fill = |plane: &mut [u64]| {
@@ -319,8 +318,8 @@ fn step_plane(records: &[Record], departing: Departing) -> [f64; 2] {
     let row = fill(&mut planes[..STATES * WORDS]);
     compare(&network, &planes, &row);
     medians(|| {
-        let whole = time(|| Library.check(black_box(&store), n, &mut work));
-        let read = time(|| Library.check(black_box(&store), n, &mut []));
+        let whole = time(|| check(&Library, &mut lent));
+        let read = time(|| check(&Library, &mut short));
         let plain = time(|| {
             black_box(fill(&mut planes[..STATES * WORDS]));
             black_box(&mut planes).fill(0);
@@ -368,32 +367,31 @@ fn guarded() -> Vec<Record> {
 }
 
 /// The check call on the guarded network: the library, and the second implementation.
-fn check(records: &[Record]) -> [f64; 2] {
-    let (store, n) = (store_of(records), records.len());
-    let mut work = vec![0; work_needed(records)];
+fn check_guarded(records: &[Record]) -> [f64; 2] {
+    let mut lent = Lent::just(records);
     let gates: [&dyn Gate; 2] = [&Library, &Second];
     for gate in gates {
-        assert_eq!(gate.check(&store, n, &mut work), Checked::Holds);
+        assert_eq!(check(gate, &mut lent), Answer::Holds);
     }
-    medians(|| gates.map(|gate| time(|| gate.check(black_box(&store), n, &mut work))))
+    medians(|| gates.map(|gate| time(|| check(gate, &mut lent))))
 }
 
 /// The command call on it, with an add that makes a rule drop and is forwarded.
-fn command(records: &[Record]) -> [f64; 2] {
-    let (before, n) = (store_of(records), records.len());
-    let mut work = vec![0; work_needed(records)];
+fn command_guarded(records: &[Record]) -> [f64; 2] {
+    let before = Lent::just(records);
     let [_, switch, low, high, port, port_care, header, header_care, ..] = records[200];
     let priority = u16::from_le_bytes([low, high]);
     let given =
         add(rule(switch, priority, [port, port_care], [header, header_care], &[output(0, 15)]));
+    let call = Call::Command(given.to_vec());
     let gates: [&dyn Gate; 2] = [&Library, &Second];
     medians(|| {
         gates.map(|gate| {
-            let mut store = before.clone();
+            let mut lent = before.clone();
             let mut answer = None;
-            let taken = time(|| answer = Some(gate.command(&mut store, n, &mut work, &given)));
-            assert_eq!(answer, Some(Commanded::Forwarded { count: n }));
-            assert_ne!(store, before);
+            let taken = time(|| answer = Some(gate.answer(&call, &mut lent)));
+            assert_eq!(answer, Some(Answer::Forwarded { count: lent.n }));
+            assert!(lent.store != before.store);
             taken
         })
     })
@@ -451,20 +449,17 @@ impl Sought {
 
     /// Without reading: the library, and plain Rust, which has the network parsed.
     fn beside_plain(&self) -> [f64; 2] {
-        let (store, n) = (store_of(&self.records), self.records.len());
-        let mut work = vec![0; work_needed(&self.records)];
+        let (mut lent, mut short) = (Lent::just(&self.records), without_work(&self.records));
         let network = file::read(&self.records).unwrap();
         let mut planes = vec![0; 2 * STATES * WORDS];
         let [start, end] = self.ends;
+        let call = Call::Route { start, end };
         let mut list = vec![0; STATES + 1];
         medians(|| {
             let mut answer = None;
-            let whole = time(|| {
-                answer =
-                    found(Library.route(black_box(&store), n, &mut work, start, end, &mut list));
-            });
-            self.compare(answer, &list);
-            let read = time(|| Library.route(black_box(&store), n, &mut [], start, end, &mut list));
+            let whole = time(|| answer = found(Library.answer(&call, black_box(&mut lent))));
+            self.compare(answer, &lent.list);
+            let read = time(|| Library.answer(&call, black_box(&mut short)));
             let plain = time(|| {
                 fill_arriving(black_box(&network), &mut planes[..STATES * WORDS]);
                 black_box(by_link(&network, &mut planes));
@@ -480,29 +475,25 @@ impl Sought {
     fn beside_check(&self) -> [f64; 2] {
         let one_closure = policy(0, &[r(X, Y), tc(0, X, X)]);
         let records = [self.records.clone(), one_closure].concat();
-        let (store, n) = (store_of(&records), records.len());
-        let mut work = vec![0; work_needed(&records)];
+        let mut lent = Lent::just(&records);
         let [start, end] = self.ends;
-        let mut list = vec![0; STATES + 1];
-        assert!(!matches!(Library.check(&store, n, &mut work), Checked::Refused { .. }));
+        let call = Call::Route { start, end };
+        assert!(!check(&Library, &mut lent).is_refused());
         medians(|| {
             let mut answer = None;
-            let route = time(|| {
-                answer =
-                    found(Library.route(black_box(&store), n, &mut work, start, end, &mut list));
-            });
-            self.compare(answer, &list);
-            [route, time(|| Library.check(black_box(&store), n, &mut work))]
+            let route = time(|| answer = found(Library.answer(&call, black_box(&mut lent))));
+            self.compare(answer, &lent.list);
+            [route, time(|| check(&Library, &mut lent))]
         })
     }
 }
 
 /// The count of a route.
-fn found(answer: Routed) -> Option<usize> {
+fn found(answer: Answer) -> Option<usize> {
     match answer {
-        Routed::Found { count } => Some(count),
-        Routed::NoRoute => None,
-        Routed::Refused { .. } => panic!("{answer:?}"),
+        Answer::Found { count } => Some(count),
+        Answer::NoRoute => None,
+        _ => panic!("{answer:?}"),
     }
 }
 
@@ -527,8 +518,8 @@ fn main() {
     let plane = "step plane, the same rules, each runs the highest of 16 groups";
     print(plane, step_plane(&equals_with_groups(), by_link), "plain Rust, links walked once");
     let records = guarded();
-    print("check, 256 rules and eight closures", check(&records), "second implementation");
-    print("command on the same network", command(&records), "second implementation");
+    print("check, 256 rules and eight closures", check_guarded(&records), "second implementation");
+    print("command on the same network", command_guarded(&records), "second implementation");
     let name = "check, 16 groups that 256 rules run, eight closures";
     print(name, check_groups(), "the library, without the groups");
     for sought in [Sought::in_largest(), Sought::longest(), Sought::none()] {

@@ -1,10 +1,8 @@
 //! Verdicts by decision diagrams on BuDDy, and their times.
 
-use crate::gate::{Checked, Gate};
+use crate::gate::{Answer, Call, Gate, Lent};
 use crate::library::Library;
-use crate::networks::work_needed;
 use crate::records::Record;
-use crate::times::store_of;
 use std::fs;
 use std::path::{Path, PathBuf};
 use std::process::{Command, Stdio};
@@ -55,10 +53,9 @@ impl Diagrams {
 
 /// The library's verdict on a sound network, in the program's words.
 fn verdict_on(records: &[Record]) -> String {
-    let mut work = vec![0; work_needed(records)];
-    match Library.check(&store_of(records), records.len(), &mut work) {
-        Checked::Holds => "holds".to_string(),
-        Checked::Violated { policy, state } => format!("violated {policy} {state}"),
+    match Library.answer(&Call::Check, &mut Lent::just(records)) {
+        Answer::Holds => "holds".to_string(),
+        Answer::Violated { policy, state } => format!("violated {policy} {state}"),
         refused => panic!("{refused:?}"),
     }
 }

@@ -1,46 +1,51 @@
 //! The proved library, through its crate for Rust, and the program built on it.
 
-use crate::gate::{Checked, Commanded, Gate, Routed};
+use crate::gate::{Answer, Call, Gate, Lent};
 use std::io::Write;
 use std::path::Path;
 use std::process::{Command, Stdio};
-use wegbaro::Refusal;
+use wegbaro::{Checked, Commanded, Refusal, Routed};
 
 /// The proved library.
 pub struct Library;
 
 impl Gate for Library {
-    fn check(&self, store: &[u8], n: usize, work: &mut [u8]) -> Checked {
-        match wegbaro::check(store, n, work) {
-            Ok(wegbaro::Checked::Holds) => Checked::Holds,
-            Ok(wegbaro::Checked::Violated { policy, state }) => Checked::Violated { policy, state },
-            Err(Refusal { row, place }) => Checked::Refused { number: row, place },
-        }
-    }
-
-    fn command(&self, store: &mut [u8], n: usize, work: &mut [u8], given: &[u8]) -> Commanded {
-        match wegbaro::command(store, n, work, given) {
-            Ok(wegbaro::Commanded::Forwarded { count }) => Commanded::Forwarded { count },
-            Ok(wegbaro::Commanded::Blocked { policy, state }) => {
-                Commanded::Blocked { policy, state }
+    fn answer(&self, call: &Call, lent: &mut Lent) -> Answer {
+        let Lent { store, n, work, list } = lent;
+        let answered = match call {
+            Call::Check => wegbaro::check(store, *n, work).map(Answer::from),
+            Call::Command(given) => wegbaro::command(store, *n, work, given).map(Answer::from),
+            Call::Route { start, end } => {
+                wegbaro::route(store, *n, work, *start, *end, list).map(Answer::from)
             }
-            Err(Refusal { row, place }) => Commanded::Refused { number: row, place },
+        };
+        answered.unwrap_or_else(|Refusal { row, place }| Answer::Refused { number: row, place })
+    }
+}
+
+impl From<Checked> for Answer {
+    fn from(checked: Checked) -> Answer {
+        match checked {
+            Checked::Holds => Answer::Holds,
+            Checked::Violated { policy, state } => Answer::Violated { policy, state },
         }
     }
+}
 
-    fn route(
-        &self,
-        store: &[u8],
-        n: usize,
-        work: &mut [u8],
-        start: usize,
-        end: usize,
-        list: &mut [u16],
-    ) -> Routed {
-        match wegbaro::route(store, n, work, start, end, list) {
-            Ok(wegbaro::Routed::Found { count }) => Routed::Found { count },
-            Ok(wegbaro::Routed::NoRoute) => Routed::NoRoute,
-            Err(Refusal { row, place }) => Routed::Refused { number: row, place },
+impl From<Commanded> for Answer {
+    fn from(commanded: Commanded) -> Answer {
+        match commanded {
+            Commanded::Forwarded { count } => Answer::Forwarded { count },
+            Commanded::Blocked { policy, state } => Answer::Blocked { policy, state },
+        }
+    }
+}
+
+impl From<Routed> for Answer {
+    fn from(routed: Routed) -> Answer {
+        match routed {
+            Routed::Found { count } => Answer::Found { count },
+            Routed::NoRoute => Answer::NoRoute,
         }
     }
 }

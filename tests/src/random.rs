@@ -1,12 +1,27 @@
 //! A small random generator (splitmix64).
 
+use std::env;
+
 pub struct Random {
     state: u64,
 }
 
+/// The environment variable with a number by which all tests draw other inputs. Without it, and by 0,
+/// each draws those of its own seed.
+pub const SEED: &str = "WEGBARO_SEED";
+
+/// The number of the environment variable.
+fn seed_of_all() -> u64 {
+    match env::var(SEED) {
+        Ok(text) => text.parse().unwrap_or_else(|_| panic!("{SEED} is no number: {text}")),
+        Err(_) => 0,
+    }
+}
+
 impl Random {
+    /// The generator of a test's seed.
     pub fn new(seed: u64) -> Random {
-        Random { state: seed }
+        Random { state: seed.wrapping_add(seed_of_all() << 32) }
     }
 
     /// The next 64 bits.

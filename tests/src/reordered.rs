@@ -1,12 +1,12 @@
 //! A gate that is shown every network with its rules in another order.
 
-use crate::gate::{Checked, Commanded, Gate, Routed, MOST_RECORDS, RECORD};
+use crate::gate::{Answer, Call, Gate, Lent, MOST_RECORDS, RECORD};
 use crate::random::Random;
 use crate::second::file;
 use std::cell::RefCell;
 
 /// A gate that is shown the rules of every sound network in a random order. Its answers are those to
-/// such a network; a forwarded command leaves the store as it does with the rules in their order.
+/// such a network; a call that alters the store leaves it as with the rules in their order.
 pub struct Reordered<'a> {
     gate: &'a dyn Gate,
     random: RefCell<Random>,
@@ -32,25 +32,14 @@ impl Reordered<'_> {
 }
 
 impl Gate for Reordered<'_> {
-    fn check(&self, store: &[u8], n: usize, work: &mut [u8]) -> Checked {
-        self.gate.check(&self.reordered(store, n), n, work)
-    }
-
-    fn command(&self, store: &mut [u8], n: usize, work: &mut [u8], given: &[u8]) -> Commanded {
-        let mut reordered = self.reordered(store, n);
-        self.gate.command(store, n, &mut work.to_vec(), given);
-        self.gate.command(&mut reordered, n, work, given)
-    }
-
-    fn route(
-        &self,
-        store: &[u8],
-        n: usize,
-        work: &mut [u8],
-        start: usize,
-        end: usize,
-        list: &mut [u16],
-    ) -> Routed {
-        self.gate.route(&self.reordered(store, n), n, work, start, end, list)
+    fn answer(&self, call: &Call, lent: &mut Lent) -> Answer {
+        let shown = self.reordered(&lent.store, lent.n);
+        let mut left = Lent { store: shown.clone(), ..lent.clone() };
+        let answer = self.gate.answer(call, &mut left);
+        if left.store != shown {
+            self.gate.answer(call, lent);
+        }
+        *lent = Lent { store: std::mem::take(&mut lent.store), ..left };
+        answer
     }
 }

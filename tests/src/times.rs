@@ -2,9 +2,8 @@
 //! diagrams where they can be had.
 
 use crate::diagrams::Diagrams;
-use crate::gate::{Checked, Commanded, Gate, RECORD, STORE};
+use crate::gate::{Answer, Call, Gate, Lent};
 use crate::library::Library;
-use crate::networks::work_needed;
 use crate::records::{add, output, rule, Record};
 use crate::words::Words;
 use std::hint::black_box;
@@ -16,13 +15,6 @@ pub const RUNS: usize = 51;
 const PATIENCE: f64 = 5e6;
 /// Microseconds that the runs of the diagrams take at most, if that is more than one run.
 const DIAGRAMS_PATIENCE: f64 = 1e6;
-
-/// Records in a store of the least length.
-pub fn store_of(records: &[Record]) -> Vec<u8> {
-    let mut store = records.concat();
-    store.resize(STORE, 0);
-    store
-}
 
 /// Microseconds that a call takes.
 pub fn time<T>(call: impl FnOnce() -> T) -> f64 {
@@ -57,12 +49,11 @@ fn in_turn(gates: [&dyn Gate; 2], mut run: impl FnMut(&dyn Gate) -> f64) -> [Tak
 
 /// The check call of two gates on a network that holds.
 pub fn check(gates: [&dyn Gate; 2], records: &[Record]) -> [Taken; 2] {
-    let (store, n) = (store_of(records), records.len());
-    let mut work = vec![0; work_needed(records)];
+    let mut lent = Lent::just(records);
     in_turn(gates, |gate| {
         let mut answer = None;
-        let taken = time(|| answer = Some(gate.check(black_box(&store), n, &mut work)));
-        assert_eq!(answer, Some(Checked::Holds));
+        let taken = time(|| answer = Some(gate.answer(&Call::Check, black_box(&mut lent))));
+        assert_eq!(answer, Some(Answer::Holds));
         taken
     })
 }
@@ -73,18 +64,17 @@ pub fn command(
     records: &[Record],
     given: &Record,
 ) -> ([Taken; 2], Vec<Record>) {
-    let (before, n) = (store_of(records), records.len());
-    let mut work = vec![0; work_needed(records)];
-    let mut left = None;
+    let (before, call) = (Lent::just(records), Call::Command(given.to_vec()));
+    let mut installed = None;
     let times = in_turn(gates, |gate| {
-        let (mut store, mut answer) = (before.clone(), None);
-        let taken = time(|| answer = Some(gate.command(&mut store, n, &mut work, given)));
-        let Some(Commanded::Forwarded { count }) = answer else { panic!("{answer:?}") };
-        let (installed, _) = store[..count * RECORD].as_chunks::<RECORD>();
-        assert_eq!(left.get_or_insert(installed.to_vec()), installed);
+        let (mut lent, mut answer) = (before.clone(), None);
+        let taken = time(|| answer = Some(gate.answer(&call, &mut lent)));
+        let Some(answer @ Answer::Forwarded { .. }) = answer else { panic!("{answer:?}") };
+        lent.go_on(answer);
+        assert_eq!(installed.get_or_insert(lent.records().to_vec()), lent.records());
         taken
     });
-    (times, left.unwrap_or_default())
+    (times, installed.unwrap_or_default())
 }
 
 /// The times of one call; of the diagrams the median.

@@ -1,34 +1,33 @@
 //! The header and the example in C: built without a warning against the static library, and run.
 
-use std::fs::{self, File};
+use std::collections::BTreeSet;
 use std::path::Path;
 use std::process::Command;
-use wegbaro_tests::build::{printed_in_c, root, run, Folder, STRICT};
+use wegbaro_tests::build::{compile, library, printed, printed_in_c, run, stub_library, version};
+use wegbaro_tests::build::{version_number, Folder};
+use wegbaro_tests::cases::{self, Case};
+use wegbaro_tests::gate::Answer;
+use wegbaro_tests::in_c::InC;
 
-/// Builds a program with a compiler in a language of a standard.
-fn build(source: &str, built: &Path, [compiler, language, standard]: [&str; 3]) {
-    let mut compiler = Command::new(compiler);
-    compiler.args(STRICT).arg(format!("-std={standard}")).arg("-I").arg(root().join("include"));
-    compiler.args(["-x", language]).arg(root().join(source)).args(["-x", "none"]);
-    compiler.arg(root().join("target/staticlib/libwegbaro.a")).arg("-o").arg(built);
-    run(&mut compiler);
+fn folder(name: &str) -> Folder {
+    Folder::new(env!("CARGO_TARGET_TMPDIR"), name)
 }
 
 /// Builds the example and runs it.
-fn example_in(compiler: &str, language: &str, standard: &str) {
-    let folder = Folder::new(env!("CARGO_TARGET_TMPDIR"), standard);
+fn example_by(compiler: &[&str]) {
+    let folder = folder(&compiler.concat());
     let example = folder.path().join("check");
-    build("examples/c/check.c", &example, [compiler, language, standard]);
+    compile(compiler, "examples/c/check.c", &library(), &example);
 
     let ran = run(&mut Command::new(&example));
-    assert_eq!(String::from_utf8_lossy(&ran.stdout), printed_in_c(), "{standard}");
-    assert_eq!(String::from_utf8_lossy(&ran.stderr), "", "{standard}");
+    assert_eq!(String::from_utf8_lossy(&ran.stdout), printed_in_c(), "{compiler:?}");
+    assert_eq!(String::from_utf8_lossy(&ran.stderr), "", "{compiler:?}");
 }
 
 #[test]
 fn the_example_in_every_c() {
-    for standard in ["c89", "c99", "c11", "c17"] {
-        example_in("cc", "c", standard);
+    for standard in ["-std=c89", "-std=c99", "-std=c11", "-std=c17"] {
+        example_by(&["cc", standard]);
     }
 }
 
@@ -36,26 +35,53 @@ fn the_example_in_every_c() {
 fn the_example_in_cpp() {
     let there = Command::new("c++").arg("--version").output().is_ok();
     assert!(there, "a C++ compiler is not installed: on Debian, apt-get install g++");
-    for standard in ["c++98", "c++17"] {
-        example_in("c++", "c++", standard);
+    for standard in ["-std=c++98", "-std=c++17"] {
+        example_by(&["c++", "-x", "c++", standard]);
     }
 }
 
-/// What the route call answers in C on K, from one state to another with a list of so many entries.
+/// What a program of the header's version makes of a library of another one.
 #[test]
-fn routes_in_c() {
-    let folder = Folder::new(env!("CARGO_TARGET_TMPDIR"), "route");
-    let (built, network) = (folder.path().join("route"), folder.path().join("k"));
-    build("tests/c/route.c", &built, ["cc", "c", "c89"]);
-    fs::write(&network, wegbaro_tests::k::k().concat()).unwrap();
-    for (given, answer) in [
-        (["2", "28", "33"], "found 4 0 2 20 10 28\n"),
-        (["2", "20", "33"], "found 2 0 2 20\n"),
-        (["28", "2", "33"], "no route 0 0\n"),
-        (["2", "32", "33"], "refused 14 0\n"),
-        (["2", "28", "32"], "refused 15 0\n"),
+fn versions_in_c() {
+    let folder = folder("versions");
+    let told = |library: &Path| {
+        let built = folder.path().join("version");
+        compile(&["cc", "-std=c89"], "tests/c/version.c", library, &built);
+        printed(&mut Command::new(&built))
+    };
+    let number = version_number();
+    assert_eq!(told(&library()), format!("{} {number} {number} 1\n", version()));
+    for (other, fits) in [
+        (number, 1),
+        (number + 1, 1),
+        (number - 1, 0),
+        (number + 1_000, 0),
+        (number - 1_000, 0),
+        (number + 1_000_000, 0),
     ] {
-        let ran = run(Command::new(&built).args(given).stdin(File::open(&network).unwrap()));
-        assert_eq!(String::from_utf8_lossy(&ran.stdout), answer, "{given:?}");
+        let stub = stub_library(&folder.path().join(other.to_string()), other);
+        assert_eq!(told(&stub), format!("{} {number} {other} {fits}\n", version()));
     }
+}
+
+/// The rows that refuse a call in one of the cases.
+fn rows(cases: &[Case], call: &str) -> BTreeSet<usize> {
+    let row = |case: &Case| match case.answer {
+        Answer::Refused { number, .. } => Some(number),
+        _ => None,
+    };
+    cases.iter().filter(|case| case.call.name() == call).filter_map(row).collect()
+}
+
+/// The cases of the rows through the header, and in them each row that a call can answer: number and
+/// place as they must be, and every buffer byte by byte.
+#[test]
+fn every_row_in_c() {
+    let cases: Vec<Case> = cases::of_rows().collect();
+    assert_eq!(rows(&cases, "check"), (1..=11).chain([16]).collect());
+    assert_eq!(rows(&cases, "command"), (1..=13).chain([16]).collect());
+    assert_eq!(rows(&cases, "route"), (1..=11).chain(14..=16).collect());
+    let folder = folder("calls");
+    let in_c = InC::new(&folder);
+    cases::expect_all(cases.iter().map(|case| case.run(&in_c)));
 }

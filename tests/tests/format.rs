@@ -2,11 +2,9 @@
 //! the changed networks, each read from the document and held to the proved library.
 
 use std::fs;
-use wegbaro::Refusal;
-use wegbaro_tests::gate::{Checked, Commanded, Gate, Routed, STORE};
+use wegbaro_tests::gate::{Answer, Call, Gate, Lent};
 use wegbaro_tests::k::k;
 use wegbaro_tests::library::Library;
-use wegbaro_tests::networks::work_needed;
 use wegbaro_tests::records::{miss, output, record, rule, set, widths, Record, IN_PORT};
 use wegbaro_tests::second::states::{Direction, Point, State, Widths};
 
@@ -43,66 +41,56 @@ fn listing(document: &str) -> Vec<Record> {
     found
 }
 
-fn checked(answer: Checked) -> String {
+/// The words for an answer.
+fn words(answer: Answer) -> String {
     match answer {
-        Checked::Holds => "holds".into(),
-        Checked::Violated { policy, state } => format!("violated {policy} {state}"),
-        Checked::Refused { number, place } => format!("refused {number} {place}"),
-    }
-}
-
-fn commanded(answer: Commanded) -> String {
-    match answer {
-        Commanded::Forwarded { count } => format!("forwarded {count}"),
-        Commanded::Blocked { policy, state } => format!("blocked {policy} {state}"),
-        Commanded::Refused { number, place } => format!("refused {number} {place}"),
+        Answer::Violated { policy, state } => format!("violated {policy} {state}"),
+        Answer::Forwarded { count } => format!("forwarded {count}"),
+        Answer::Blocked { policy, state } => format!("blocked {policy} {state}"),
+        Answer::Found { count } => format!("found {count}"),
+        Answer::Refused { number, place } => format!("refused {number} {place}"),
+        Answer::Holds | Answer::NoRoute => answer.case(),
     }
 }
 
 /// The check call's answer to network K changed as the words say.
 fn answer_to(changes: &str) -> String {
-    let mut store = k().concat();
-    // Records behind K may be set too.
-    store.resize(STORE, 0);
-    let (mut n, mut store_len, mut work_len) = (k().len(), STORE, work_needed(&k()));
+    let mut lent = Lent::just(&k());
+    let mut store_len = lent.store.len();
     for change in changes.split(", ") {
         let (what, value) = change.split_once('=').unwrap();
         let value: usize = value.parse().unwrap();
         match (what, what.split_once('.')) {
-            ("n", _) => n = value,
+            ("n", _) => lent.n = value,
             ("store", _) => store_len = value,
-            ("work", _) => work_len = value,
+            ("work", _) => lent.work.resize(value, 0),
+            // Records behind K may be set too.
             (_, Some((place, byte))) => {
                 let at: usize = place.parse::<usize>().unwrap() * 24;
-                store[at + byte.parse::<usize>().unwrap()] = value as u8;
+                lent.store[at + byte.parse::<usize>().unwrap()] = value as u8;
             }
             _ => panic!("no change: {change}"),
         }
     }
-    store.resize(store_len, 0);
-    checked(Library.check(&store, n, &mut vec![0xA5; work_len]))
+    lent.store.resize(store_len, 0);
+    words(Library.answer(&Call::Check, &mut lent))
 }
 
 /// The command call's answer on network K with a version.
 fn answer_on_k(version: u8, command: &str) -> String {
-    let mut store = k().concat();
-    store[4] = version;
-    store.resize(STORE, 0);
-    let mut work = vec![0xA5; work_needed(&k())];
-    commanded(Library.command(&mut store, k().len(), &mut work, &record(&bytes(command))))
+    let mut lent = Lent::just(&k());
+    lent.store[4] = version;
+    words(Library.answer(&Call::Command(record(&bytes(command)).to_vec()), &mut lent))
 }
 
 /// The route call's answer on network K, and the route.
 fn route_in_k(start: &str, end: &str) -> [String; 2] {
     let [start, end] = [start, end].map(|state| state.parse().unwrap());
-    match wegbaro::Gate::new(&k()).unwrap().route(start, end) {
-        Ok(Some(route)) => {
-            let states: Vec<String> = route.iter().map(u16::to_string).collect();
-            [format!("found {}", route.len()), states.join(", ")]
-        }
-        Ok(None) => ["no route".into(), String::new()],
-        Err(Refusal { row, place }) => [format!("refused {row} {place}"), String::new()],
-    }
+    let mut lent = Lent::just(&k());
+    let answer = Library.answer(&Call::Route { start, end }, &mut lent);
+    let written = &lent.list[..answer.count().unwrap_or(0)];
+    let states: Vec<String> = written.iter().map(u16::to_string).collect();
+    [words(answer), states.join(", ")]
 }
 
 #[test]
@@ -126,6 +114,17 @@ fn a_rule_byte_by_byte() {
     assert_eq!(taken_apart(&document(), "byte"), k()[4]);
 }
 
+/// Whether a state of a network steps to another: a route of two states leads there.
+fn is_step(records: &[Record], start: usize, end: usize) -> bool {
+    let answer = Library.answer(&Call::Route { start, end }, &mut Lent::just(records));
+    answer == Answer::Found { count: 2 }
+}
+
+/// The states that state 2 of a network like K steps to.
+fn steps_of_2(records: &[Record]) -> Vec<usize> {
+    (0..32).filter(|to| is_step(records, 2, *to)).collect()
+}
+
 /// The steps of state 2 with the groups that the document puts behind K.
 #[test]
 fn a_step_through_groups() {
@@ -135,9 +134,7 @@ fn a_step_through_groups() {
     let mut records = k();
     records[4][9..12].copy_from_slice(&[4, 3, 0]);
     records.extend([record(&bytes(lower)), group]);
-    let mut gate = wegbaro::Gate::new(&records).unwrap();
-    let is_step = |to: &usize| gate.route(2, *to) == Ok(Some(vec![2, *to as u16]));
-    assert_eq!((0..32).filter(is_step).collect::<Vec<usize>>(), [20, 23]);
+    assert_eq!(steps_of_2(&records), [20, 23]);
 }
 
 /// The steps of state 2 with the document's rule C behind K's rules, by the priority of rule C.
@@ -150,9 +147,7 @@ fn a_step_by_rules_of_equal_priority() {
         let mut records = k();
         records.insert(6, rule);
         records[6][2] = priority;
-        let mut gate = wegbaro::Gate::new(&records).unwrap();
-        let is_step = |to: &usize| gate.route(2, *to) == Ok(Some(vec![2, *to as u16]));
-        assert_eq!((0..32).filter(is_step).collect::<Vec<usize>>(), steps, "{priority}");
+        assert_eq!(steps_of_2(&records), steps, "{priority}");
     }
 }
 
@@ -172,17 +167,8 @@ fn described(state: State) -> [String; 2] {
 /// The headers of h bits with which a frame departs at port 1 of a network with one switch, if it
 /// arrived there with this header.
 fn departing(h: u8, records: &[Record], header: usize) -> Vec<usize> {
-    let mut store = records.concat();
-    store.resize(STORE, 0);
-    let mut work = vec![0; work_needed(records)];
-    let mut list = vec![0; (1 << (h + 3)) + 1];
     let [arrival, departure] = [1 << h, 5 << h];
-    let mut is_reached = |to: &usize| {
-        let (from, to) = (arrival + header, departure + to);
-        let answer = Library.route(&store, records.len(), &mut work, from, to, &mut list);
-        answer == Routed::Found { count: 2 }
-    };
-    (0..1 << h).filter(|to| is_reached(to)).collect()
+    (0..1 << h).filter(|to| is_step(records, arrival + header, departure + to)).collect()
 }
 
 /// The headers of h bits that a pattern matches.

@@ -6,23 +6,34 @@ use std::fs;
 use std::path::{Path, PathBuf};
 use std::process::Command;
 use std::sync::Once;
-use wegbaro_tests::build::{printed, printed_in_c, printed_of_k, root, run, version};
+use wegbaro_tests::build::{library, printed, printed_in_c, printed_of_k, root, run, version};
 use wegbaro_tests::build::{Folder, STRICT};
 
 fn folder(name: &str) -> Folder {
     Folder::new(env!("CARGO_TARGET_TMPDIR"), name)
 }
 
-/// `make` at the root; `false` in place of `rt` fails where a proof would be run anew.
-fn make(words: &[&str]) {
+/// `make` at the root, and what it prints; `false` in place of `rt` fails where a proof would be run
+/// anew.
+fn make(words: &[&str]) -> String {
     let mut make = Command::new("make");
-    run(make.arg("-C").arg(root()).arg("RT=false").args(words).env_remove("MAKEFLAGS"));
+    printed(make.arg("-C").arg(root()).arg("RT=false").args(words).env_remove("MAKEFLAGS"))
+}
+
+/// The name of the shared object by which programs ask for it: of versions 0.x each minor one has its
+/// own.
+fn shared_name(version: &str) -> String {
+    let numbers: Vec<&str> = version.split('.').collect();
+    let asked = if numbers[0] == "0" { &numbers[..2] } else { &numbers[..1] };
+    format!("libwegbaro.so.{}", asked.join("."))
 }
 
 /// Builds once what `make install` takes and no proof is needed for.
 fn built() {
     static BUILT: Once = Once::new();
-    BUILT.call_once(|| make(&["program", "shared"]));
+    BUILT.call_once(|| {
+        make(&["program", "shared"]);
+    });
 }
 
 fn install(prefix: &Path) {
@@ -79,13 +90,14 @@ fn in_a_staging_folder() {
     built();
     make(&["install", "PREFIX=/usr", &to]);
     let versioned = format!("usr/lib/libwegbaro.so.{}", version());
+    let named = format!("usr/lib/{}", shared_name(&version()));
     let expected = [
         "usr/bin/gate",
         "usr/bin/wegbaro",
         "usr/include/wegbaro.h",
         "usr/lib/libwegbaro.a",
         "usr/lib/libwegbaro.so",
-        "usr/lib/libwegbaro.so.0",
+        &named,
         &versioned,
         "usr/lib/pkgconfig/wegbaro.pc",
         "usr/share/doc/wegbaro/CHANGELOG.md",
@@ -116,6 +128,28 @@ fn with_pkg_config() {
     make(&["uninstall", &format!("PREFIX={}", prefix.display())]);
     assert!(!with_shared(&shared, prefix).output().unwrap().status.success());
     assert_eq!(printed(&mut Command::new(&fixed)), printed_in_c());
+}
+
+/// The library keeps its name as long as its calls stay as they are, and programs ask for that name.
+#[test]
+fn the_shared_name() {
+    for (version, name) in [
+        ("0.7.3", "libwegbaro.so.0.7"),
+        ("0.12.0", "libwegbaro.so.0.12"),
+        ("1.0.0", "libwegbaro.so.1"),
+        ("10.4.1", "libwegbaro.so.10"),
+    ] {
+        assert_eq!(shared_name(version), name);
+        let printed = make(&["-n", "install", "PREFIX=/usr", &format!("VERSION={version}")]);
+        let link = format!("ln -sf libwegbaro.so.{version} /usr/lib/{name}");
+        assert!(printed.lines().any(|line| line == link), "{link}:\n{printed}");
+    }
+
+    let (prefix, to) = (folder("name"), folder("asking"));
+    install(prefix.path());
+    let asking = example(prefix.path(), to.path(), &["--cflags", "--libs"], &[]);
+    let needed = printed(Command::new("readelf").arg("-d").arg(&asking));
+    assert!(needed.contains(&format!("[{}]", shared_name(&version()))), "{needed}");
 }
 
 /// Whether the README shows these lines, as code.
@@ -160,19 +194,19 @@ fn symbols(words: &[&str], file: &Path) -> Vec<(String, String)> {
 }
 
 #[test]
-fn the_shared_object_exports_the_three_calls() {
+fn the_shared_object_exports_the_calls_and_its_version() {
     let prefix = folder("exports");
     install(prefix.path());
     let object = prefix.path().join("lib/libwegbaro.so");
     let exported = symbols(&["-D", "--defined-only"], &object);
     let names: Vec<&str> = exported.iter().map(|(name, _)| name.as_str()).collect();
-    assert_eq!(names, ["wegbaro_check", "wegbaro_command", "wegbaro_route"]);
+    assert_eq!(names, ["wegbaro_check", "wegbaro_command", "wegbaro_route", "wegbaro_version"]);
 }
 
 /// Calls at the same time would share writable data, and a call of anything else could allocate.
 #[test]
 fn the_library_has_no_data_and_calls_nothing_that_has() {
-    let library = root().join("target/staticlib/libwegbaro.a");
+    let library = library();
     let sizes = printed(Command::new("size").arg(&library));
     let parts: Vec<Vec<&str>> =
         sizes.lines().skip(1).map(|line| line.split_whitespace().collect()).collect();

@@ -1,49 +1,22 @@
 //! The proved library and its program against the cases and against the second implementation.
 
-use std::time::{Duration, Instant};
-use wegbaro_tests::cases::{self, patterns};
-use wegbaro_tests::compare::{self, routes};
+use wegbaro_tests::cases::{self, expect_all, patterns};
+use wegbaro_tests::compare::{self, routes, ADDED_BY_MODIFY, FULL_TO_MODIFY};
 use wegbaro_tests::library::{program, Library};
 use wegbaro_tests::networks::{Sizes, MODEST};
 use wegbaro_tests::reordered::Reordered;
 use wegbaro_tests::second::{self, Second};
 use wegbaro_tests::unversioned::Unversioned;
 
-/// Fails with every error, one per line.
-fn expect_all(results: impl IntoIterator<Item = Result<(), String>>) {
-    let wrong: Vec<String> = results.into_iter().filter_map(Result::err).collect();
-    assert!(wrong.is_empty(), "{}", wrong.join("\n"));
-}
-
 #[test]
-fn every_check_case() {
-    expect_all(cases::all_checks().iter().flat_map(|case| {
-        [
-            case.run(&Library),
-            case.without_work().run(&Library),
-            case.with_empty_command().run(&Library),
-            case.with_unknown_states().run(&Library),
-        ]
-    }));
-}
-
-#[test]
-fn every_command_case() {
-    expect_all(cases::all_commands().iter().map(|case| case.run(&Library)));
+fn every_case() {
+    expect_all(cases::all().map(|case| case.run(&Library)));
 }
 
 /// The cases of all rows in the versions that their networks do not name.
 #[test]
 fn every_case_in_every_version() {
-    let checks = cases::versions::checks_in_each();
-    let commands = cases::versions::commands_in_each();
-    expect_all(checks.iter().map(|case| case.run(&Library)));
-    expect_all(commands.iter().map(|case| case.run(&Library)));
-}
-
-#[test]
-fn every_route_case() {
-    expect_all(cases::routes::cases().iter().map(|case| case.run(&Library)));
+    expect_all(cases::versions::in_each().iter().map(|case| case.run(&Library)));
 }
 
 #[test]
@@ -115,7 +88,7 @@ fn the_order_of_rules_does_not_matter() {
 fn sound_networks_of_every_width() {
     let small = Sizes { links: 4, rules: 6, policies: 2, nodes: 6, groups: 4 };
     let tally = compare::sound_networks(&Second, &Library, 41, 2, small).unwrap();
-    assert!(tally.holds > 10 && tally.violated > 10, "{tally:?}");
+    tally.expect("check", &[("holds", 10), ("violated", 10)]);
     compare::sound_networks(&Second, &Library, 42, 1, MODEST).unwrap();
 }
 
@@ -127,17 +100,13 @@ fn largest_networks() {
 #[test]
 fn damaged_networks() {
     let tally = compare::damaged_networks(&Second, &Library, 44, 4_000, 6).unwrap();
-    for number in [3, 4, 5, 6, 7, 8, 9, 12, 14, 15, 16] {
-        assert!(tally.refused[number] > 0, "{number}: {tally:?}");
-    }
+    tally.expect_rows(&[3, 4, 5, 6, 7, 8, 9, 12, 14, 15, 16]);
 }
 
 #[test]
 fn crowded_networks() {
     let tally = compare::crowded_networks(&Second, &Library, 45, 100, 5).unwrap();
-    for number in [8, 9, 10, 12, 13, 16] {
-        assert!(tally.refused[number] > 0, "{number}: {tally:?}");
-    }
+    tally.expect_rows(&[8, 9, 10, 12, 13, 16]);
 }
 
 #[test]
@@ -153,16 +122,15 @@ fn points_linked_twice_anywhere() {
 #[test]
 fn long_series() {
     let tally = compare::series(&Second, &Library, 46, 12, 6, 400).unwrap();
-    assert!(tally.forwarded > 500 && tally.blocked > 200, "{tally:?}");
-    assert!(tally.refused[12] > 200 && tally.refused[16] > 100, "{tally:?}");
-    assert!(tally.added_by_modify > 100, "{tally:?}");
+    tally.expect("command", &[("forwarded", 500), ("blocked", 80), (ADDED_BY_MODIFY, 100)]);
+    tally.expect("command", &[("refused 12", 200), ("refused 16", 100)]);
 }
 
 #[test]
 fn full_tables() {
     let tally = compare::full_tables(&Second, &Library, 54, 200, 6, 16).unwrap();
-    assert!(tally.added_by_modify > 50 && tally.full_to_modify > 200, "{tally:?}");
-    assert!(tally.forwarded > 500 && tally.blocked > 50, "{tally:?}");
+    tally.expect("command", &[(ADDED_BY_MODIFY, 50), (FULL_TO_MODIFY, 200)]);
+    tally.expect("command", &[("forwarded", 500), ("blocked", 50)]);
 }
 
 /// What the library does in each version, told by what it does without one.
@@ -170,9 +138,9 @@ fn full_tables() {
 fn versions_as_without_one() {
     let unversioned = Unversioned(&Library);
     let of_series = compare::series(&Library, &unversioned, 55, 100, 8, 40).unwrap();
-    assert!(of_series.added_by_modify > 100, "{of_series:?}");
+    of_series.expect("command", &[(ADDED_BY_MODIFY, 100)]);
     let of_full = compare::full_tables(&Library, &unversioned, 56, 200, 6, 16).unwrap();
-    assert!(of_full.full_to_modify > 200, "{of_full:?}");
+    of_full.expect("command", &[(FULL_TO_MODIFY, 200)]);
     compare::damaged_networks(&Library, &unversioned, 57, 2_000, 6).unwrap();
 }
 
@@ -190,29 +158,26 @@ fn random_inputs_of_the_program() {
 fn routes_of_every_width() {
     let linked = Sizes { links: 40, rules: 12, policies: 2, nodes: 6, groups: 8 };
     let tally = routes::of_every_width(&Second, &Library, 51, 4, 12, linked).unwrap();
-    assert!(tally.found > 5_000 && tally.no_route > 10_000, "{tally:?}");
-    for number in [11, 14, 15] {
-        assert!(tally.refused[number] > 100, "{number}: {tally:?}");
-    }
+    tally.expect("route", &[("found", 5_000), ("no route", 10_000)]);
+    tally.expect("route", &[("refused 11", 100), ("refused 14", 100), ("refused 15", 100)]);
 }
 
 #[test]
 fn routes_of_largest_networks() {
     let tally = routes::of_largest(&Second, &Library, 52, 40).unwrap();
-    assert!(tally.found > 10 && tally.longest > 4, "{tally:?}");
+    tally.expect("route", &[("found", 10)]);
+    tally.expect_count("route", 4);
 }
 
 /// Each call would take minutes, if every way were gone.
 #[test]
 fn every_way_through_nested_groups_at_once() {
-    let case = cases::group_steps::every_way();
-    let start = Instant::now();
-    expect_all([case.run(&Library)]);
-    assert!(start.elapsed() < Duration::from_secs(5), "{:?}", start.elapsed());
+    expect_all([cases::group_steps::every_way().run(&Library)]);
 }
 
 #[test]
 fn winding_routes() {
     let tally = routes::of_winding(&Second, &Library, 53, 2, 20).unwrap();
-    assert!(tally.found > 500 && tally.longest > 500, "{tally:?}");
+    tally.expect("route", &[("found", 500)]);
+    tally.expect_count("route", 500);
 }

@@ -5,12 +5,12 @@ mod worthless;
 
 use std::collections::BTreeSet;
 use wegbaro_tests::cases::patterns::{self, Pair, StepCase};
-use wegbaro_tests::cases::{self, CheckCase, CommandCase, ProgramCase, RouteCase};
+use wegbaro_tests::cases::{self, expect_all, Case};
 use wegbaro_tests::commands::{command, Wish, FAULTS, SOUND};
-use wegbaro_tests::compare::{self, routes, Tally};
+use wegbaro_tests::compare::{self, routes, ADDED_BY_MODIFY, FULL_TO_MODIFY};
 use wegbaro_tests::damage::damage;
 use wegbaro_tests::formulas::{and, bit, external, not, policy, r, some, tc, X, Y};
-use wegbaro_tests::gate::{Checked, Commanded, Gate, Lent, Routed, MOST_RECORDS, STORE};
+use wegbaro_tests::gate::{Answer, Call, Gate, Lent, MOST_RECORDS, STORE};
 use wegbaro_tests::inputs::random_input;
 use wegbaro_tests::k;
 use wegbaro_tests::networks::{
@@ -30,114 +30,28 @@ use worthless::groups::{Lax, GROUP_VICES};
 use worthless::routes::{Astray, ROUTE_VICES};
 use worthless::steps::{Misled, StepVice, STEP_VICES};
 use worthless::versions::{Outdated, VERSION_VICES};
-use worthless::{Worthless, VICES};
-
-/// Fails with every error, one per line.
-fn expect_all(results: impl IntoIterator<Item = Result<(), String>>) {
-    let wrong: Vec<String> = results.into_iter().filter_map(Result::err).collect();
-    assert!(wrong.is_empty(), "{}", wrong.join("\n"));
-}
-
-/// Runs check cases as they are, without work, and through the other calls.
-fn run_checks(cases: Vec<CheckCase>) {
-    expect_all(cases.iter().flat_map(|case| {
-        [
-            case.run(&Second),
-            case.without_work().run(&Second),
-            case.with_empty_command().run(&Second),
-            case.with_unknown_states().run(&Second),
-        ]
-    }));
-}
-
-fn run_commands(cases: Vec<CommandCase>) {
-    expect_all(cases.iter().map(|case| case.run(&Second)));
-}
+use worthless::{Suspects, Worthless, VICES};
 
 #[test]
-fn starred_cases() {
-    run_checks(cases::starred::checks());
-    run_commands(cases::starred::commands());
-}
-
-#[test]
-fn rows_1_and_2() {
-    run_checks(cases::arguments::cases());
-}
-
-#[test]
-fn row_3() {
-    run_checks(cases::kinds::cases());
-}
-
-#[test]
-fn row_4() {
-    run_checks(cases::widths::cases());
-}
-
-#[test]
-fn versions() {
-    run_checks(cases::versions::cases());
-    run_commands(cases::versions::commands());
+fn every_case() {
+    expect_all(cases::all().map(|case| case.run(&Second)));
 }
 
 /// The cases of all rows in the versions that their networks do not name.
 #[test]
-fn cases_in_every_version() {
-    run_checks(cases::versions::checks_in_each());
-    run_commands(cases::versions::commands_in_each());
+fn every_case_in_every_version() {
+    expect_all(cases::versions::in_each().iter().map(|case| case.run(&Second)));
 }
 
+/// 256 rules of one priority, all of which match one state.
 #[test]
-fn row_5() {
-    run_checks(cases::fields::cases());
-}
-
-#[test]
-fn row_6() {
-    run_checks(cases::links::cases());
-}
-
-#[test]
-fn row_7() {
-    run_checks(cases::misses::cases());
-}
-
-#[test]
-fn rows_8_and_10_for_rules() {
-    run_checks(cases::rules::cases());
-}
-
-#[test]
-fn rows_9_and_10_for_policies() {
-    run_checks(cases::policies::cases());
-}
-
-#[test]
-fn row_11() {
-    run_checks(cases::work::cases());
-}
-
-#[test]
-fn commands_and_rows_12_and_13() {
-    run_commands(cases::commands::cases());
-}
-
-#[test]
-fn steps() {
-    run_checks(cases::steps::cases());
-}
-
-#[test]
-fn steps_of_equals() {
-    run_checks(cases::equals::cases());
+fn every_rule_of_one_priority() {
     expect_all([cases::equals::every_rule().run(&Second)]);
 }
 
 #[test]
-fn row_16() {
-    run_checks(cases::groups::cases());
-    run_commands(cases::groups::commands());
+fn every_way_through_nested_groups() {
+    expect_all([cases::group_steps::every_way().run(&Second)]);
 }
 
 #[test]
@@ -149,26 +63,8 @@ fn bucket_patterns() {
 }
 
 #[test]
-fn steps_through_groups() {
-    run_checks(cases::group_steps::cases());
-    expect_all([cases::group_steps::every_way().run(&Second)]);
-}
-
-#[test]
-fn truths() {
-    run_checks(cases::truths::cases());
-}
-
-#[test]
-fn routes_and_rows_14_and_15() {
-    let cases: Vec<RouteCase> = cases::routes::cases();
-    expect_all(cases.iter().map(|case| case.run(&Second)));
-}
-
-#[test]
 fn programs() {
-    let cases: Vec<ProgramCase> = cases::programs::cases();
-    expect_all(cases.iter().map(|case| case.run(&program)));
+    expect_all(cases::programs::cases().iter().map(|case| case.run(&program)));
 }
 
 #[test]
@@ -235,23 +131,13 @@ fn patterns_match_as_often_as_they_must() {
 
 #[test]
 fn every_row_has_cases() {
-    let mut numbers = [0; 17];
-    for case in cases::all_checks() {
-        if let Checked::Refused { number, .. } = case.answer {
-            numbers[number] += 1;
+    let mut met = BTreeSet::new();
+    for case in cases::written() {
+        if let Answer::Refused { number, .. } = case.answer {
+            met.insert(number);
         }
     }
-    for case in cases::all_commands() {
-        if let Commanded::Refused { number, .. } = case.answer {
-            numbers[number] += 1;
-        }
-    }
-    for case in cases::routes::cases() {
-        if let Routed::Refused { number, .. } = case.answer {
-            numbers[number] += 1;
-        }
-    }
-    assert!(numbers[1..].iter().all(|count| *count > 0), "{numbers:?}");
+    assert!((1..=16).eq(met.iter().copied()), "{met:?}");
 }
 
 #[test]
@@ -308,15 +194,15 @@ fn generated_networks_are_sound_and_judged_as_plainly() {
         for _ in 0..40 {
             let records = random_network(&mut random, of, MODEST);
             let mut lent = lend(&mut random, &records);
-            let answer = Second.check(&lent.store, lent.n, &mut lent.work);
+            let answer = Second.answer(&Call::Check, &mut lent);
             let expected = match plain::first_broken(&records) {
-                None => Checked::Holds,
-                Some((policy, state)) => Checked::Violated { policy, state },
+                None => Answer::Holds,
+                Some((policy, state)) => Answer::Violated { policy, state },
             };
             assert_eq!(answer, expected, "{records:?}");
             assert!(lent.work.iter().all(|byte| *byte == 0));
-            holding += usize::from(answer == Checked::Holds);
-            broken += usize::from(answer != Checked::Holds);
+            holding += usize::from(answer == Answer::Holds);
+            broken += usize::from(answer != Answer::Holds);
         }
     }
     assert!(holding > 20 && broken > 20, "{holding} and {broken}");
@@ -330,7 +216,7 @@ fn series_go_as_in_the_plain_reading() {
         let mut lent = compare::holding_network(&mut random, &Second, of);
         for _ in 0..10 {
             let wish = random.pick(&SOUND);
-            let given = command(&mut random, &compare::records_of(&lent), wish);
+            let given = command(&mut random, lent.records(), wish);
             match play(&mut lent, &given) {
                 true => forwarded += 1,
                 false => blocked += 1,
@@ -344,21 +230,21 @@ fn series_go_as_in_the_plain_reading() {
 fn play(lent: &mut Lent, given: &[u8]) -> bool {
     lent.work.fill(0xC3);
     let before = lent.clone();
-    let left = plain::apply(&compare::records_of(lent), given.try_into().unwrap());
-    let answer = Second.command(&mut lent.store, lent.n, &mut lent.work, given);
+    let left = plain::apply(lent.records(), given.try_into().unwrap());
+    let answer = Second.answer(&Call::Command(given.to_vec()), lent);
     assert!(lent.work.iter().all(|byte| *byte == 0));
+    lent.go_on(answer);
     match plain::first_broken(&left) {
         None => {
             let mut store = left.concat();
             store.resize(STORE, 0);
             store.extend(&before.store[STORE..]);
-            lent.n = left.len();
-            assert_eq!(answer, Commanded::Forwarded { count: left.len() });
+            assert_eq!(answer, Answer::Forwarded { count: left.len() });
             assert_eq!(lent.store, store);
             true
         }
         Some((policy, state)) => {
-            assert_eq!(answer, Commanded::Blocked { policy, state });
+            assert_eq!(answer, Answer::Blocked { policy, state });
             assert_eq!(lent.store, before.store);
             false
         }
@@ -376,16 +262,15 @@ fn routes_are_the_best_of_all_paths() {
         let mut lent = lend(&mut random, &records);
         for start in 0..1 << of.bits() {
             for (end, best) in plain::routes_from(&records, start).into_iter().enumerate() {
-                let mut list = vec![0; (1 << of.bits()) + 1];
-                let answer =
-                    Second.route(&lent.store, lent.n, &mut lent.work, start, end, &mut list);
+                lent.list = vec![0; (1 << of.bits()) + 1];
+                let answer = Second.answer(&Call::Route { start, end }, &mut lent);
                 let Some(best) = best else {
-                    assert_eq!(answer, Routed::NoRoute, "{start} to {end}: {records:?}");
+                    assert_eq!(answer, Answer::NoRoute, "{start} to {end}: {records:?}");
                     none += 1;
                     continue;
                 };
-                let entries: Vec<usize> = list.into_iter().map(usize::from).collect();
-                assert_eq!(answer, Routed::Found { count: best.len() }, "{records:?}");
+                let entries: Vec<usize> = lent.list.iter().copied().map(usize::from).collect();
+                assert_eq!(answer, Answer::Found { count: best.len() }, "{records:?}");
                 assert_eq!(entries[..best.len()], best, "{start} to {end}: {records:?}");
                 found += 1;
                 longest = longest.max(best.len());
@@ -419,8 +304,8 @@ fn malformed_commands_are_refused() {
         for fault in FAULTS {
             let given = command(&mut random, &records, Wish::Malformed(fault));
             let mut left = lent.clone();
-            let answer = Second.command(&mut left.store, left.n, &mut left.work, &given);
-            let expected = Commanded::Refused { number: 12, place: 0 };
+            let answer = Second.answer(&Call::Command(given.clone()), &mut left);
+            let expected = Answer::Refused { number: 12, place: 0 };
             assert_eq!(answer, expected, "{fault:?} {given:?}");
             assert!(left == lent, "{fault:?} {given:?}");
         }
@@ -438,8 +323,8 @@ fn commands_without_their_group_are_refused() {
             let lent = lend(&mut random, &records);
             let given = command(&mut random, &records, Wish::RunsAbsentGroup);
             let mut left = lent.clone();
-            let answer = Second.command(&mut left.store, left.n, &mut left.work, &given);
-            assert_eq!(answer, Commanded::Refused { number: 16, place: 0 }, "{given:?}");
+            let answer = Second.answer(&Call::Command(given.clone()), &mut left);
+            assert_eq!(answer, Answer::Refused { number: 16, place: 0 }, "{given:?}");
             assert!(left == lent, "{given:?}");
         }
     }
@@ -480,8 +365,8 @@ fn every_width_is_generated_and_sound() {
             kinds[usize::from(node[2])] = true;
         }
         let mut lent = lend(&mut random, &records);
-        let answer = Second.check(&lent.store, lent.n, &mut lent.work);
-        assert!(!matches!(answer, Checked::Refused { .. }), "{answer:?}");
+        let answer = Second.answer(&Call::Check, &mut lent);
+        assert!(!answer.is_refused(), "{answer:?}");
     }
     assert_eq!(kinds, [true; 9]);
 }
@@ -496,8 +381,8 @@ fn every_version_is_generated() {
     for _ in 0..30 {
         let full = full_network(&mut random, of);
         let lent = lend(&mut random, &full);
-        let answer = Second.check(&lent.store, lent.n, &mut lent.work.clone());
-        assert!(!matches!(answer, Checked::Refused { .. }), "{answer:?}");
+        let answer = Second.answer(&Call::Check, &mut lent.clone());
+        assert!(!answer.is_refused(), "{answer:?}");
         rules.insert(full.iter().filter(|record| record[0] == 4).count());
         let others = [
             random_network(&mut random, of, MODEST),
@@ -562,8 +447,8 @@ fn the_largest_network_is_sound() {
     let count = |kind: u8| records.iter().filter(|record| record[0] == kind).count();
     assert_eq!([1, 2, 3, 4, 5, 9].map(count), [1, 112, 16, 256, 256, 16]);
     assert_eq!((lent.n, lent.work.len()), (MOST_RECORDS, 4_456_448));
-    let answer = Second.check(&lent.store, lent.n, &mut lent.work);
-    assert!(!matches!(answer, Checked::Refused { .. }), "{answer:?}");
+    let answer = Second.answer(&Call::Check, &mut lent);
+    assert!(!answer.is_refused(), "{answer:?}");
 }
 
 /// A refusal stands at a damaged record or behind it, or one before it, whose node has become the
@@ -578,8 +463,8 @@ fn damage_is_refused_where_it_is() {
         let room = 4 * work_needed(&records);
         let first = damage(&mut random, &mut records);
         let lent = compare::lend(&mut random, &records, room);
-        let answer = Second.check(&lent.store, lent.n, &mut lent.work.clone());
-        let Checked::Refused { number, place } = answer else {
+        let answer = Second.answer(&Call::Check, &mut lent.clone());
+        let Answer::Refused { number, place } = answer else {
             continue;
         };
         refused += 1;
@@ -591,7 +476,7 @@ fn damage_is_refused_where_it_is() {
             record[named..].fill(0xEE);
         }
         if number != 11 && place < lent.n {
-            assert_eq!(Second.check(&other.store, other.n, &mut other.work), answer);
+            assert_eq!(Second.answer(&Call::Check, &mut other), answer);
         }
     }
     assert!(refused > 500, "{refused}");
@@ -612,8 +497,8 @@ fn damage_meets_every_version() {
         // Nothing else was damaged.
         if records == before {
             let mut lent = compare::lend(&mut random, &records, room);
-            let answer = Second.check(&lent.store, lent.n, &mut lent.work);
-            let is_refused = answer == Checked::Refused { number: 5, place: 0 };
+            let answer = Second.answer(&Call::Check, &mut lent);
+            let is_refused = answer == Answer::Refused { number: 5, place: 0 };
             assert_eq!(is_refused, !VERSIONS.contains(&version), "{version}: {answer:?}");
             met.insert(version);
         }
@@ -621,83 +506,74 @@ fn damage_meets_every_version() {
     assert!([0, 1, 2, 3, 4, 5, 255].iter().all(|version| met.contains(version)), "{met:?}");
 }
 
+/// Whether some case goes wrong.
+fn is_noticed(cases: &[Case], gate: &dyn Gate) -> bool {
+    cases.iter().any(|case| case.run(gate).is_err())
+}
+
+/// By cases of the call that has it.
 #[test]
 fn cases_notice_every_vice() {
-    let mut checks = cases::all_checks();
-    let mut commands = cases::all_commands();
-    checks.retain(|case| case.lent.n < MOST_RECORDS);
-    commands.retain(|case| case.lent.n < MOST_RECORDS);
-    for vice in VICES {
-        let gate = Worthless::new(vice);
-        let in_commands = || commands.iter().any(|case| case.run(&gate).is_err());
-        let in_checks = || checks.iter().any(|case| case.run(&gate).is_err());
-        assert!(in_commands() || in_checks(), "{vice:?}");
+    let small = |case: &Case| case.lent.n < MOST_RECORDS;
+    let cases: Vec<Case> = cases::written().filter(small).collect();
+    for (vice, call) in VICES {
+        let gate = Worthless::new((vice, call));
+        let mut of_call = cases.iter().filter(|case| case.call.name() == call);
+        assert!(of_call.any(|case| case.run(&gate).is_err()), "{vice:?} in {call}");
     }
 }
 
 #[test]
 fn cases_notice_every_vice_of_routes() {
-    let routes = cases::routes::cases();
+    let cases = cases::routes::cases();
     for vice in ROUTE_VICES {
-        let gate = Astray(vice);
-        assert!(routes.iter().any(|case| case.run(&gate).is_err()), "{vice:?}");
+        assert!(is_noticed(&cases, &Astray(vice)), "{vice:?}");
     }
 }
 
 /// A gate without such a vice passes, so that it is the vice that is noticed.
 #[test]
 fn cases_notice_every_vice_of_steps() {
-    let steps = cases::steps::cases();
-    let wrong = |gate: Misled| steps.iter().any(|case| case.run(&gate).is_err());
-    assert!(!wrong(Misled(None)));
+    let cases = cases::steps::cases();
+    assert!(!is_noticed(&cases, &Misled(None)));
     for vice in STEP_VICES {
-        assert!(wrong(Misled(Some(vice))), "{vice:?}");
+        assert!(is_noticed(&cases, &Misled(Some(vice))), "{vice:?}");
     }
 }
 
 #[test]
 fn cases_notice_every_vice_of_groups() {
-    let checks = cases::groups::cases();
-    let commands = cases::groups::commands();
+    let cases = [cases::groups::cases(), cases::groups::commands()].concat();
     for vice in GROUP_VICES {
-        let in_checks = checks.iter().any(|case| case.run(&Lax(vice)).is_err());
-        let in_commands = commands.iter().any(|case| case.run(&Lax(vice)).is_err());
-        assert!(in_checks || in_commands, "{vice:?}");
+        assert!(is_noticed(&cases, &Lax(vice)), "{vice:?}");
     }
 }
 
 #[test]
 fn cases_notice_every_vice_of_versions() {
-    let checks = cases::versions::cases();
-    let commands = cases::versions::commands();
-    let wrong = |gate: Outdated| {
-        checks.iter().any(|case| case.run(&gate).is_err())
-            || commands.iter().any(|case| case.run(&gate).is_err())
-    };
-    assert!(!wrong(Outdated(None)));
+    let cases = [cases::versions::cases(), cases::versions::commands()].concat();
+    assert!(!is_noticed(&cases, &Outdated(None)));
     for vice in VERSION_VICES {
-        assert!(wrong(Outdated(Some(vice))), "{vice:?}");
+        assert!(is_noticed(&cases, &Outdated(Some(vice))), "{vice:?}");
     }
 }
 
 /// A gate that runs groups bucket by bucket, and has no vice, passes.
 #[test]
 fn cases_notice_every_vice_of_buckets() {
-    let steps = cases::group_steps::cases();
-    let wrong = |gate: Spilling| steps.iter().any(|case| case.run(&gate).is_err());
-    assert!(!wrong(Spilling(None)));
+    let cases = cases::group_steps::cases();
+    assert!(!is_noticed(&cases, &Spilling(None)));
     for vice in BUCKET_VICES {
-        assert!(wrong(Spilling(Some(vice))), "{vice:?}");
+        assert!(is_noticed(&cases, &Spilling(Some(vice))), "{vice:?}");
     }
 }
 
 #[test]
 fn cases_notice_every_vice_of_choices() {
-    let steps = cases::equals::cases();
-    let wrong = |gate: Choosing| steps.iter().any(|case| case.run(&gate).is_err());
-    assert!(!wrong(Choosing(None)));
+    let cases = cases::equals::cases();
+    assert!(!is_noticed(&cases, &Choosing(None)));
     for vice in CHOICE_VICES {
-        assert!(wrong(Choosing(Some(vice))), "{vice:?}");
+        assert!(is_noticed(&cases, &Choosing(Some(vice))), "{vice:?}");
     }
 }
 
@@ -713,8 +589,8 @@ fn calls_notice_the_vices_of_equals() {
         ChoiceVice::TakesLowerOnes,
     ] {
         let gate = Choosing(Some(vice));
-        assert!(routes.iter().any(|case| case.run(&gate).is_err()), "{vice:?}");
-        assert!(commands.iter().any(|case| case.run(&gate).is_err()), "{vice:?}");
+        assert!(is_noticed(&routes, &gate), "{vice:?}");
+        assert!(is_noticed(&commands, &gate), "{vice:?}");
     }
 }
 
@@ -760,68 +636,52 @@ fn bucket_patterns_notice_every_misreading() {
     }
 }
 
-/// The first error of a gate in any comparison.
-fn comparisons_against(gate: &dyn Gate) -> Result<(), String> {
-    compare::series(&Second, gate, 21, 40, 5, 16)?;
-    compare::damaged_networks(&Second, gate, 22, 60, 5)?;
-    compare::sound_networks(&Second, gate, 23, 1, SMALL)?;
-    compare::full_tables(&Second, gate, 47, 4, 5, 16)?;
-    Ok(())
-}
-
 const SMALL: Sizes = Sizes { links: 4, rules: 4, policies: 1, nodes: 4, groups: 4 };
 
 #[test]
 fn comparisons_notice_every_vice() {
-    for vice in VICES {
-        let found = comparisons_against(&Worthless::new(vice));
-        assert!(found.is_err(), "{vice:?}");
-    }
-}
-
-/// The first error of a gate in any comparison of routes.
-fn routes_against(gate: &dyn Gate) -> Result<(), String> {
-    routes::of_winding(&Second, gate, 31, 1, 12)?;
-    routes::of_every_width(&Second, gate, 32, 1, 2, SMALL)?;
-    Ok(())
+    Suspects::of(VICES, Worthless::new).expect_noticed(|suspects| {
+        compare::series(&Second, suspects, 21, 40, 5, 16)?;
+        compare::damaged_networks(&Second, suspects, 22, 200, 5)?;
+        compare::full_tables(&Second, suspects, 47, 4, 5, 16)?;
+        compare::sound_networks(&Second, suspects, 23, 1, SMALL)?;
+        Ok(())
+    });
 }
 
 #[test]
 fn comparisons_notice_every_vice_of_routes() {
-    for vice in ROUTE_VICES {
-        assert!(routes_against(&Astray(vice)).is_err(), "{vice:?}");
-    }
+    Suspects::of(ROUTE_VICES, Astray).expect_noticed(|suspects| {
+        routes::of_every_width(&Second, suspects, 32, 1, 2, SMALL)?;
+        routes::of_winding(&Second, suspects, 31, 1, 12)?;
+        Ok(())
+    });
 }
 
-/// The first error of a gate in checks and routes of many small networks.
-fn steps_against(gate: &dyn Gate) -> Result<(), String> {
-    compare::damaged_networks(&Second, gate, 33, 16_000, 5)?;
-    routes::of_every_width(&Second, gate, 45, 1, 2, Sizes { groups: 12, ..SMALL })?;
+/// Checks, commands and routes of many small networks.
+fn steps_of(gate: &dyn Gate, suspects: &dyn Gate) -> Result<(), String> {
+    compare::damaged_networks(gate, suspects, 33, 16_000, 5)?;
+    routes::of_every_width(gate, suspects, 45, 1, 2, Sizes { groups: 12, ..SMALL })?;
     Ok(())
 }
 
+/// A gate without such a vice agrees with the second implementation until all are noticed.
 #[test]
 fn comparisons_notice_every_vice_of_steps() {
-    assert_eq!(steps_against(&Misled(None)), Ok(()));
-    for vice in STEP_VICES {
-        assert!(steps_against(&Misled(Some(vice))).is_err(), "{vice:?}");
-    }
+    let suspects = Suspects::of(STEP_VICES, |vice| Misled(Some(vice)));
+    suspects.expect_noticed(|suspects| steps_of(&Misled(None), suspects));
 }
 
 #[test]
 fn comparisons_notice_every_vice_of_buckets() {
-    assert_eq!(steps_against(&Spilling(None)), Ok(()));
-    for vice in BUCKET_VICES {
-        assert!(steps_against(&Spilling(Some(vice))).is_err(), "{vice:?}");
-    }
+    let suspects = Suspects::of(BUCKET_VICES, |vice| Spilling(Some(vice)));
+    suspects.expect_noticed(|suspects| steps_of(&Spilling(None), suspects));
 }
 
 #[test]
 fn comparisons_notice_every_vice_of_choices() {
-    assert_eq!(steps_against(&Choosing(None)), Ok(()));
-    for vice in CHOICE_VICES {
-        assert!(steps_against(&Choosing(Some(vice))).is_err(), "{vice:?}");
-    }
+    let suspects = Suspects::of(CHOICE_VICES, |vice| Choosing(Some(vice)));
+    suspects.expect_noticed(|suspects| steps_of(&Choosing(None), suspects));
 }
 
 /// It does to gates with some vices, and that is noticed.
@@ -840,72 +700,58 @@ fn the_order_of_rules_does_not_matter() {
     }
 }
 
-/// The first error of a gate in damaged and in crowded networks, and in series on full tables.
-fn groups_against(gate: &dyn Gate) -> Result<(), String> {
-    compare::damaged_networks(&Second, gate, 35, 6_000, 5)?;
-    compare::crowded_networks(&Second, gate, 36, 40, 5)?;
-    compare::full_tables(&Second, gate, 46, 40, 5, 16)?;
-    Ok(())
-}
-
 #[test]
 fn comparisons_notice_every_vice_of_groups() {
-    for vice in GROUP_VICES {
-        assert!(groups_against(&Lax(vice)).is_err(), "{vice:?}");
-    }
+    Suspects::of(GROUP_VICES, Lax).expect_noticed(|suspects| {
+        compare::damaged_networks(&Second, suspects, 35, 6_000, 5)?;
+        compare::full_tables(&Second, suspects, 46, 40, 5, 16)?;
+        compare::crowded_networks(&Second, suspects, 36, 40, 5)?;
+        Ok(())
+    });
 }
 
-/// The first error of a gate in series, with room in the table or not, and in damaged networks.
-fn versions_against(gate: &dyn Gate) -> Result<(), String> {
-    compare::series(&Second, gate, 37, 20, 5, 16)?;
-    compare::full_tables(&Second, gate, 38, 40, 5, 16)?;
-    compare::damaged_networks(&Second, gate, 39, 1_000, 5)?;
+/// Series, with room in the table or not, and damaged networks.
+fn versions_of(gate: &dyn Gate, other: &dyn Gate) -> Result<(), String> {
+    compare::series(gate, other, 37, 20, 5, 16)?;
+    compare::full_tables(gate, other, 38, 40, 5, 16)?;
+    compare::damaged_networks(gate, other, 39, 1_000, 5)?;
     Ok(())
 }
 
 #[test]
 fn comparisons_notice_every_vice_of_versions() {
-    assert_eq!(versions_against(&Outdated(None)), Ok(()));
-    for vice in VERSION_VICES {
-        let found = versions_against(&Outdated(Some(vice)));
-        assert!(found.is_err(), "{vice:?}");
-    }
+    let suspects = Suspects::of(VERSION_VICES, |vice| Outdated(Some(vice)));
+    suspects.expect_noticed(|suspects| versions_of(&Outdated(None), suspects));
 }
 
 /// What the gate does in each version, told by what it does without one.
 #[test]
 fn versions_as_without_one() {
     let unversioned = Unversioned(&Second);
-    assert_eq!(versions_against(&unversioned), Ok(()));
+    assert_eq!(versions_of(&Second, &unversioned), Ok(()));
     let tally = compare::crowded_networks(&Second, &unversioned, 43, 20, 5).unwrap();
-    assert!(tally.refused[13] > 0, "{tally:?}");
+    assert!(tally.refused(13) > 0, "{tally:?}");
 }
 
 #[test]
 fn comparisons_meet_every_answer() {
-    let of_series: Tally = compare::series(&Second, &Second, 24, 60, 5, 16).unwrap();
-    assert!(of_series.forwarded > 100 && of_series.blocked > 50, "{of_series:?}");
-    assert!(of_series.refused[12] > 50 && of_series.refused[16] > 20, "{of_series:?}");
-    assert!(of_series.added_by_modify > 20, "{of_series:?}");
+    let of_series = compare::series(&Second, &Second, 24, 60, 5, 16).unwrap();
+    of_series.expect("command", &[("forwarded", 100), ("blocked", 50), (ADDED_BY_MODIFY, 20)]);
+    of_series.expect("command", &[("refused 12", 50), ("refused 16", 20)]);
     let of_full = compare::full_tables(&Second, &Second, 41, 40, 5, 16).unwrap();
-    assert!(of_full.forwarded > 50 && of_full.added_by_modify > 10, "{of_full:?}");
-    assert!(of_full.blocked > 5 && of_full.full_to_modify > 10, "{of_full:?}");
-    let full_to_add = of_full.refused[13] - of_full.full_to_modify;
-    assert!(full_to_add > 10 && of_full.refused[16] > 5, "{of_full:?}");
+    of_full.expect("command", &[("forwarded", 50), ("blocked", 5), ("refused 16", 5)]);
+    of_full.expect("command", &[(ADDED_BY_MODIFY, 10), (FULL_TO_MODIFY, 10)]);
+    let full_to_modify = of_full.count("command", FULL_TO_MODIFY);
+    of_full.expect("command", &[("refused 13", full_to_modify + 10)]);
     let of_damage = compare::damaged_networks(&Second, &Second, 25, 1_500, 6).unwrap();
-    assert!(of_damage.holds > 50 && of_damage.violated > 50, "{of_damage:?}");
-    assert!(of_damage.forwarded > 50 && of_damage.blocked > 50, "{of_damage:?}");
-    assert!(of_damage.found > 50 && of_damage.no_route > 50, "{of_damage:?}");
-    for number in [3, 4, 5, 6, 7, 8, 9, 12, 14, 15, 16] {
-        assert!(of_damage.refused[number] > 0, "{number}: {of_damage:?}");
-    }
+    of_damage.expect("check", &[("holds", 50), ("violated", 50)]);
+    of_damage.expect("command", &[("forwarded", 50), ("blocked", 50)]);
+    of_damage.expect("route", &[("found", 50), ("no route", 50)]);
+    of_damage.expect_rows(&[3, 4, 5, 6, 7, 8, 9, 12, 14, 15, 16]);
     let of_crowd = compare::crowded_networks(&Second, &Second, 29, 60, 5).unwrap();
-    for number in [8, 9, 10, 12, 13, 16] {
-        assert!(of_crowd.refused[number] > 0, "{number}: {of_crowd:?}");
-    }
+    of_crowd.expect_rows(&[8, 9, 10, 12, 13, 16]);
     let of_sound = compare::sound_networks(&Second, &Second, 26, 2, SMALL).unwrap();
-    assert!(of_sound.holds > 10 && of_sound.violated > 10, "{of_sound:?}");
-    assert!(of_sound.refused[11] > 0, "{of_sound:?}");
+    of_sound.expect("check", &[("holds", 10), ("violated", 10), ("refused 11", 0)]);
 }
 
 #[test]

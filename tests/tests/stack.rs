@@ -3,11 +3,11 @@
 use std::fs::{self, File};
 use std::path::Path;
 use std::process::Command;
-use wegbaro_tests::build::{printed, root, run, Folder, STRICT};
+use wegbaro_tests::build::{compile, library, printed, Folder};
 use wegbaro_tests::formulas::{all, and, bit, not, or, policy, r, some, tc, Node, X, Y};
-use wegbaro_tests::gate::{Checked, Commanded, Gate, MOST_RECORDS, RECORD, STORE};
+use wegbaro_tests::gate::{Answer, Call, Gate, Lent, MOST_RECORDS, RECORD};
 use wegbaro_tests::library::Library;
-use wegbaro_tests::networks::{largest, largest_with, nested_groups, work_needed, LARGEST};
+use wegbaro_tests::networks::{largest, largest_with, nested_groups, LARGEST};
 use wegbaro_tests::random::Random;
 use wegbaro_tests::records::{add, delete, in_version, modify, rule, run as run_group, Record};
 use wegbaro_tests::winding::winding;
@@ -107,28 +107,20 @@ fn with_adding_modify(network: &[Record]) -> (Vec<Record>, Vec<Record>) {
 fn adds(network: &[Record], given: &Record) -> bool {
     let mut free = network.to_vec();
     free.retain(|record| record[0] != 5);
-    let mut store = free.concat();
-    store.resize(STORE, 0);
-    let answer = Library.command(&mut store, free.len(), &mut vec![0; work_needed(&free)], given);
-    answer == Commanded::Forwarded { count: free.len() + 1 }
+    let answer = Library.answer(&Call::Command(given.to_vec()), &mut Lent::just(&free));
+    answer == Answer::Forwarded { count: free.len() + 1 }
 }
 
 /// Whether no row refuses a network.
 fn is_judged(network: &[Record]) -> bool {
-    let mut store = network.concat();
-    store.resize(STORE, 0);
-    let answer = Library.check(&store, network.len(), &mut vec![0; work_needed(network)]);
-    !matches!(answer, Checked::Refused { .. })
+    !Library.answer(&Call::Check, &mut Lent::just(network)).is_refused()
 }
 
 /// The program that measures.
 fn meter(folder: &Path) -> Command {
     let built = folder.join("stack");
-    let mut compiler = Command::new("cc");
-    compiler.args(STRICT).args(["-std=c99", "-D_XOPEN_SOURCE=600", "-pthread", "-I"]);
-    compiler.arg(root().join("include")).arg(root().join("tests/c/stack.c"));
-    compiler.arg(root().join("target/staticlib/libwegbaro.a")).arg("-o").arg(&built);
-    run(&mut compiler);
+    let compiler = ["cc", "-std=c99", "-D_XOPEN_SOURCE=600", "-pthread"];
+    compile(&compiler, "tests/c/stack.c", &library(), &built);
     let mut meter = Command::new(built);
     meter.args(ENDS.concat().iter().map(usize::to_string));
     meter

@@ -25,26 +25,54 @@ fn manifests() -> Vec<PathBuf> {
 fn three_numbers() {
     let parts: Vec<String> = version().split('.').map(str::to_owned).collect();
     assert_eq!(parts.len(), 3, "{parts:?}");
-    assert!(parts.iter().all(|part| part.parse::<u32>().is_ok()), "{parts:?}");
+    // In the version as one number each part has three digits.
+    assert!(parts.iter().all(|part| part.parse().is_ok_and(|part: u32| part < 1_000)), "{parts:?}");
+}
+
+#[test]
+fn of_the_library() {
+    assert_eq!(wegbaro::library_version().to_string(), version());
 }
 
 #[test]
 fn of_the_header() {
     let header = text(&root().join("include/wegbaro.h"));
-    let defined = format!("#define WEGBARO_VERSION \"{}\"", version());
-    assert!(header.lines().any(|line| line == defined), "no line {defined}");
+    let version = version();
+    let whole = format!("\"{version}\"");
+    let parts: Vec<&str> = version.split('.').collect();
+    let defined = [("", &*whole), ("_MAJOR", parts[0]), ("_MINOR", parts[1]), ("_PATCH", parts[2])];
+    for (name, value) in defined {
+        let line = format!("#define WEGBARO_VERSION{name} {value}");
+        assert!(header.lines().any(|other| other == line), "no line {line}");
+    }
 }
 
+/// The workspace says it once, and each package takes it from there.
 #[test]
 fn of_the_rust_packages() {
+    assert_eq!(version_line(&root().join("Cargo.toml")), format!("version = \"{}\"", version()));
     let manifests = manifests();
-    assert!(manifests.len() >= 2, "{manifests:?}");
-    let line = format!("version = \"{}\"", version());
+    assert!(manifests.len() >= 3, "{manifests:?}");
     for manifest in manifests {
-        let first =
-            text(&manifest).lines().find(|line| line.starts_with("version")).map(str::to_owned);
-        assert_eq!(first.as_deref(), Some(line.as_str()), "{}", manifest.display());
+        let line = version_line(&manifest);
+        assert_eq!(line, "version.workspace = true", "{}", manifest.display());
     }
+}
+
+/// The first line of a manifest that is about a version.
+fn version_line(manifest: &Path) -> String {
+    let text = text(manifest);
+    text.lines().find(|line| line.starts_with("version")).unwrap_or_default().to_owned()
+}
+
+/// No package is from a registry, so that all have this version.
+#[test]
+fn of_the_lock_file() {
+    let locked = text(&root().join("Cargo.lock"));
+    let versions: Vec<&str> =
+        locked.lines().filter_map(|line| line.strip_prefix("version = \"")).collect();
+    assert!(versions.len() >= 3, "{versions:?}");
+    assert!(versions.iter().all(|line| *line == format!("{}\"", version())), "{versions:?}");
 }
 
 #[test]

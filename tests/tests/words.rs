@@ -1,46 +1,25 @@
 //! Plain Rust on 64-bit words beside the proved library: the same answers, and the same bytes in the
 //! store and the work.
 
-use wegbaro_tests::cases;
+use wegbaro_tests::cases::{self, expect_all};
 use wegbaro_tests::commands::random_command;
-use wegbaro_tests::compare::{self, Tally};
+use wegbaro_tests::compare::{self, ADDED_BY_MODIFY, FULL_TO_MODIFY};
 use wegbaro_tests::formulas::{and, policy, push, push_is_state, r, some, tc, Node, X, Y};
-use wegbaro_tests::gate::{Checked, Lent};
+use wegbaro_tests::gate::{Answer, Call, Lent};
 use wegbaro_tests::library::Library;
 use wegbaro_tests::networks::{all_widths, random_network, work_needed, Sizes, MODEST};
 use wegbaro_tests::random::Random;
 use wegbaro_tests::winding::winding;
 use wegbaro_tests::words::Words;
 
-/// Fails with every error, one per line.
-fn expect_all(results: impl IntoIterator<Item = Result<(), String>>) {
-    let wrong: Vec<String> = results.into_iter().filter_map(Result::err).collect();
-    assert!(wrong.is_empty(), "{}", wrong.join("\n"));
-}
-
-/// Fails unless each of these rows refused something.
-fn expect_rows(tally: &Tally, rows: &[usize]) {
-    for row in rows {
-        assert!(tally.refused[*row] > 0, "{row}: {tally:?}");
-    }
-}
-
 #[test]
-fn every_check_case() {
-    expect_all(cases::all_checks().iter().flat_map(|case| {
-        [case.run(&Words), case.without_work().run(&Words), case.with_empty_command().run(&Words)]
-    }));
-}
-
-#[test]
-fn every_command_case() {
-    expect_all(cases::all_commands().iter().map(|case| case.run(&Words)));
+fn every_case() {
+    expect_all(cases::all().map(|case| case.run(&Words)));
 }
 
 #[test]
 fn every_case_in_every_version() {
-    expect_all(cases::versions::checks_in_each().iter().map(|case| case.run(&Words)));
-    expect_all(cases::versions::commands_in_each().iter().map(|case| case.run(&Words)));
+    expect_all(cases::versions::in_each().iter().map(|case| case.run(&Words)));
 }
 
 #[test]
@@ -49,8 +28,7 @@ fn sound_networks_of_every_width() {
     let linked = Sizes { links: 40, rules: 40, policies: 4, nodes: 12, groups: 16 };
     for (seed, rounds, most) in [(71, 6, small), (72, 3, MODEST), (73, 2, linked)] {
         let tally = compare::sound_networks(&Words, &Library, seed, rounds, most).unwrap();
-        assert!(tally.holds > 10 && tally.violated > 10, "{tally:?}");
-        expect_rows(&tally, &[11]);
+        tally.expect("check", &[("holds", 10), ("violated", 10), ("refused 11", 0)]);
     }
 }
 
@@ -64,7 +42,7 @@ fn commands_of_every_width() {
             let spare = random.below(100);
             let lent = compare::lend(&mut random, &records, work_needed(&records) + spare);
             let given = random_command(&mut random, &records);
-            compare::same_command(&Words, &Library, &lent, &given).unwrap();
+            compare::same(&Words, &Library, &Call::Command(given), &lent).unwrap();
         }
     }
 }
@@ -90,8 +68,8 @@ fn long_routes_of_every_width() {
             let records = [long.records.clone(), policy(0, &nodes)].concat();
             let lent = compare::lend(&mut random, &records, work_needed(&records));
             let state = long.route[..place].iter().copied().min().unwrap();
-            let answer = compare::same_check(&Words, &Library, &lent).unwrap();
-            assert_eq!(answer, Checked::Violated { policy: 0, state }, "{of:?}");
+            let outcome = compare::same(&Words, &Library, &Call::Check, &lent).unwrap();
+            assert_eq!(outcome.answer, Answer::Violated { policy: 0, state }, "{of:?}");
         }
     }
 }
@@ -104,14 +82,14 @@ fn any_arguments() {
         let of = random.pick(&compare::widths_up_to(6));
         let records = random_network(&mut random, of, MODEST);
         let work = random.below(work_needed(&records) + 100);
-        let Lent { mut store, n, work } = compare::lend(&mut random, &records, work);
+        let Lent { mut store, n, work, .. } = compare::lend(&mut random, &records, work);
         let any = random.below(700);
         let n = random.pick(&[0, 1, n - 1, n, n, n + 1, 657, 658, any, usize::MAX]);
         store.truncate(random.pick(&[0, 24, 15_767, 15_768, store.len()]));
-        let lent = Lent { store, n, work };
-        compare::same_check(&Words, &Library, &lent).unwrap();
+        let lent = Lent { store, n, work, ..Lent::default() };
+        compare::same(&Words, &Library, &Call::Check, &lent).unwrap();
         let given = random_command(&mut random, &records);
-        compare::same_command(&Words, &Library, &lent, &given).unwrap();
+        compare::same(&Words, &Library, &Call::Command(given), &lent).unwrap();
     }
 }
 
@@ -123,29 +101,28 @@ fn largest_networks() {
 #[test]
 fn damaged_networks() {
     let tally = compare::damaged_networks(&Words, &Library, 77, 6_000, 6).unwrap();
-    expect_rows(&tally, &[3, 4, 5, 6, 7, 8, 9, 12, 16]);
+    tally.expect_rows(&[3, 4, 5, 6, 7, 8, 9, 12, 16]);
     let tally = compare::damaged_networks(&Words, &Library, 78, 400, 10).unwrap();
-    expect_rows(&tally, &[3, 5, 7, 9, 12, 16]);
+    tally.expect_rows(&[3, 5, 7, 9, 12, 16]);
 }
 
 #[test]
 fn crowded_networks() {
     let tally = compare::crowded_networks(&Words, &Library, 79, 200, 6).unwrap();
-    expect_rows(&tally, &[8, 9, 10, 12, 13, 16]);
+    tally.expect_rows(&[8, 9, 10, 12, 13, 16]);
 }
 
 #[test]
 fn series_of_every_width() {
     let tally = compare::series(&Words, &Library, 80, 40, 7, 60).unwrap();
-    assert!(tally.forwarded > 200 && tally.blocked > 100, "{tally:?}");
-    assert!(tally.added_by_modify > 50, "{tally:?}");
-    expect_rows(&tally, &[12, 16]);
+    tally.expect("command", &[("forwarded", 200), ("blocked", 100), (ADDED_BY_MODIFY, 50)]);
+    tally.expect("command", &[("refused 12", 0), ("refused 16", 0)]);
     compare::series(&Words, &Library, 81, 40, 10, 10).unwrap();
 }
 
 #[test]
 fn full_tables() {
     let tally = compare::full_tables(&Words, &Library, 82, 120, 8, 16).unwrap();
-    assert!(tally.added_by_modify > 20 && tally.full_to_modify > 100, "{tally:?}");
-    assert!(tally.forwarded > 200 && tally.blocked > 20, "{tally:?}");
+    tally.expect("command", &[(ADDED_BY_MODIFY, 20), (FULL_TO_MODIFY, 100)]);
+    tally.expect("command", &[("forwarded", 200), ("blocked", 20)]);
 }

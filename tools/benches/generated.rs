@@ -3,9 +3,9 @@
 
 use std::hint::black_box;
 use std::time::Instant;
-use wegbaro_tests::gate::{Checked, Commanded, Gate, STORE};
+use wegbaro_tests::gate::{Answer, Call, Gate, Lent};
 use wegbaro_tests::library::Library;
-use wegbaro_tests::networks::{work_needed, Widths};
+use wegbaro_tests::networks::Widths;
 use wegbaro_tests::records::{modify, Record};
 use wegbaro_tests::second::Second;
 use wegbaro_tools::generate::{generate, Kind, Options};
@@ -55,32 +55,24 @@ fn in_turn(timed: impl Fn(&dyn Gate) -> f64) -> [f64; 2] {
     })
 }
 
-fn store(records: &[Record]) -> Vec<u8> {
-    let mut store = records.concat();
-    store.resize(STORE, 0);
-    store
+/// Microseconds of a call, which is answered so.
+fn time(gate: &dyn Gate, records: &[Record], call: &Call, expected: Answer) -> f64 {
+    let mut lent = Lent::just(records);
+    let start = Instant::now();
+    let answer = black_box(gate.answer(call, &mut lent));
+    let time = start.elapsed();
+    assert_eq!(answer, expected);
+    time.as_secs_f64() * 1e6
 }
 
 /// Microseconds of a check.
 fn check(gate: &dyn Gate, records: &[Record]) -> f64 {
-    let store = store(records);
-    let mut work = vec![0; work_needed(records)];
-    let start = Instant::now();
-    let answer = black_box(gate.check(&store, records.len(), &mut work));
-    let time = start.elapsed();
-    assert_eq!(answer, Checked::Holds);
-    time.as_secs_f64() * 1e6
+    time(gate, records, &Call::Check, Answer::Holds)
 }
 
 /// Microseconds of a command that gives the first rule the actions that it has.
 fn command(gate: &dyn Gate, records: &[Record]) -> f64 {
     let rule = records.iter().find(|record| record[0] == 4).expect("a network with rules");
-    let given = modify(*rule);
-    let mut store = store(records);
-    let mut work = vec![0; work_needed(records)];
-    let start = Instant::now();
-    let answer = black_box(gate.command(&mut store, records.len(), &mut work, &given));
-    let time = start.elapsed();
-    assert_eq!(answer, Commanded::Forwarded { count: records.len() });
-    time.as_secs_f64() * 1e6
+    let call = Call::Command(modify(*rule).to_vec());
+    time(gate, records, &call, Answer::Forwarded { count: records.len() })
 }

@@ -11,20 +11,15 @@ use crate::steps::{Carrier, Network, State, Taken, Way};
 use crate::trouble::{Status, Trouble};
 use crate::words::{record_words, Answer, Form, Teller};
 use crate::Record;
-use wegbaro::{list_entries, work_bytes, Refusal, Routed, STORE_BYTES};
+use wegbaro::{Buffers, Refusal};
 
 /// The states of a route, or none where no frame gets there.
 pub type Found = Result<Option<Vec<usize>>, Refusal>;
 
 /// Asks the library for a route in a network, whether that holds or not.
 pub fn find(records: &[Record], [start, end]: [usize; 2]) -> Found {
-    let mut store = records.concat();
-    store.resize(store.len().max(STORE_BYTES), 0);
-    let mut work = vec![0; work_bytes(records)];
-    let mut list = vec![0; list_entries(records)];
-    let answer = wegbaro::route(&store, records.len(), &mut work, start, end, &mut list)?;
-    let Routed::Found { count } = answer else { return Ok(None) };
-    Ok(Some(list[..count].iter().copied().map(usize::from).collect()))
+    let route = Buffers::new(records).route(start, end)?;
+    Ok(route.map(|states| states.into_iter().map(usize::from).collect()))
 }
 
 /// The two states that a call names. Where the widths are refused, no state can be named, and any

@@ -6,10 +6,10 @@ use common::{parsed, with_policies};
 use wegbaro_tests::formulas::{
     all, and, bit, external, not, or, policy, r, random_formula, some, tc, Node, X, Y,
 };
-use wegbaro_tests::gate::{Checked, Gate, STORE};
+use wegbaro_tests::gate::{Answer, Call, Gate, Lent};
 use wegbaro_tests::k::{delete_d, dropping_add, first_add, k, rule_d, second_add, setting_add};
 use wegbaro_tests::library::{program, Library};
-use wegbaro_tests::networks::{random_network, work_needed, Sizes, Widths, MODEST};
+use wegbaro_tests::networks::{random_network, Sizes, Widths, MODEST};
 use wegbaro_tests::random::Random;
 use wegbaro_tests::records::Record;
 use wegbaro_tools::formula::print_formula;
@@ -100,10 +100,8 @@ fn printed_formulas_compile_to_themselves() {
 }
 
 /// The answer of the check call.
-fn check(records: &[Record]) -> Checked {
-    let mut store = records.concat();
-    store.resize(STORE, 0);
-    Library.check(&store, records.len(), &mut vec![0; work_needed(records)])
+fn check(records: &[Record]) -> Answer {
+    Library.answer(&Call::Check, &mut Lent::just(records))
 }
 
 #[test]
@@ -120,7 +118,7 @@ fn printed_formulas_mean_the_same() {
         let answer = judged(&nodes);
         assert_eq!(judged(&compiled(&formula)), answer, "{formula}");
         match answer {
-            Checked::Holds => held += 1,
+            Answer::Holds => held += 1,
             _ => violated += 1,
         }
     }

@@ -3,9 +3,8 @@
 mod common;
 
 use common::parsed;
-use wegbaro_tests::gate::{Checked, Gate, STORE};
+use wegbaro_tests::gate::{Answer, Call, Gate, Lent};
 use wegbaro_tests::library::Library;
-use wegbaro_tests::networks::work_needed;
 use wegbaro_tests::records::Record;
 use wegbaro_tools::generate::{generate, Kind, Options};
 use wegbaro_tools::print::whole_records;
@@ -26,10 +25,8 @@ fn records(text: &str) -> Vec<Record> {
     whole_records(&parsed.bytes).0
 }
 
-fn check(records: &[Record]) -> Checked {
-    let mut store = records.concat();
-    store.resize(STORE, 0);
-    Library.check(&store, records.len(), &mut vec![0; work_needed(records)])
+fn check(records: &[Record]) -> Answer {
+    Library.answer(&Call::Check, &mut Lent::just(records))
 }
 
 /// Each network holds, and no two rules of it act together.
@@ -43,7 +40,7 @@ fn networks_of_every_size_hold() {
             assert!(records.iter().any(|record| record[0] == 4), "{text}");
             assert!(records[0][1..4].iter().sum::<u8>() < 10);
             assert_eq!(acting_together(Network::new(&records).unwrap()), [], "{text}");
-            assert_eq!(check(&records), Checked::Holds, "{text}");
+            assert_eq!(check(&records), Answer::Holds, "{text}");
         }
     }
 }
@@ -72,7 +69,7 @@ fn groups_change_no_step() {
                 let state = State::numbered(number, with.widths);
                 assert_eq!(with.next(state), without.next(state), "state {number} of {text}");
             }
-            assert_eq!(check(&through), Checked::Holds, "{text}");
+            assert_eq!(check(&through), Answer::Holds, "{text}");
         }
     }
 }
@@ -87,7 +84,7 @@ fn the_longest_route() {
         assert!(hops > 2, "{text}");
         let less = format!("{before}more than {} hop{}", hops - 1, if hops > 2 { "s" } else { "" });
         let answer = check(&records(&less));
-        assert!(matches!(answer, Checked::Violated { policy: 2, .. }), "{answer:?} for {less}");
+        assert!(matches!(answer, Answer::Violated { policy: 2, .. }), "{answer:?} for {less}");
     }
 }
 

@@ -8,9 +8,9 @@ use wegbaro::{check, command, work_bytes, Gate, Refusal, STORE_BYTES};
 use wegbaro_tests::commands::random_command;
 use wegbaro_tests::damage::damage;
 use wegbaro_tests::formulas::{and, or, policy, push, push_is_state, random_formula, some, Y};
-use wegbaro_tests::gate::{Checked, Gate as _};
+use wegbaro_tests::gate::{Answer, Call, Gate as _, Lent};
 use wegbaro_tests::networks::{all_widths, crowded, guarded_network, random_network};
-use wegbaro_tests::networks::{work_needed, Sizes, Widths, MODEST};
+use wegbaro_tests::networks::{Sizes, Widths, MODEST};
 use wegbaro_tests::random::Random;
 use wegbaro_tests::records::{delete, miss, modify, output, record, rule, widths, with};
 use wegbaro_tests::records::{ANY, VERSIONS};
@@ -172,11 +172,9 @@ fn steps_are_those_of_the_library() {
 
 /// The lowest state that breaks the one policy, by the second implementation.
 fn lowest(records: &[Record]) -> Option<usize> {
-    let mut store = records.concat();
-    store.resize(STORE_BYTES, 0);
-    match Second.check(&store, records.len(), &mut vec![0; work_needed(records)]) {
-        Checked::Holds => None,
-        Checked::Violated { state, .. } => Some(state),
+    match Second.answer(&Call::Check, &mut Lent::just(records)) {
+        Answer::Holds => None,
+        Answer::Violated { state, .. } => Some(state),
         refused => panic!("{refused:?}"),
     }
 }

@@ -4,11 +4,11 @@ mod common;
 
 use common::{parsed, with_policies};
 use wegbaro_tests::formulas::policy;
-use wegbaro_tests::gate::{Checked, STORE};
-use wegbaro_tests::networks::{random_network, work_needed, Sizes, Widths, MODEST};
+use wegbaro_tests::gate::{Answer, Call, Gate, Lent};
+use wegbaro_tests::networks::{random_network, Sizes, Widths, MODEST};
 use wegbaro_tests::random::Random;
 use wegbaro_tests::records::Record;
-use wegbaro_tests::second;
+use wegbaro_tests::second::Second;
 use wegbaro_tools::compile::{compile, Compiled};
 use wegbaro_tools::names::Names;
 use wegbaro_tools::parse::{parse, Reader};
@@ -47,10 +47,8 @@ fn with_policy(network: &[Record], policy: &str) -> Option<Vec<Record>> {
     }
 }
 
-fn check(records: &[Record]) -> Checked {
-    let mut store = records.concat();
-    store.resize(STORE, 0);
-    second::check(&store, records.len(), &mut vec![0; work_needed(records)])
+fn check(records: &[Record]) -> Answer {
+    Second.answer(&Call::Check, &mut Lent::just(records))
 }
 
 #[test]
@@ -69,9 +67,9 @@ fn every_sentence_is_its_formula() {
             let same = with_policy(&network, &formula).map(|records| check(&records));
             assert_eq!(same, Some(answer), "{sentence}");
             match answer {
-                Checked::Holds => held += 1,
-                Checked::Violated { .. } => violated += 1,
-                Checked::Refused { .. } => panic!("{answer:?} for {sentence}"),
+                Answer::Holds => held += 1,
+                Answer::Violated { .. } => violated += 1,
+                _ => panic!("{answer:?} for {sentence}"),
             }
         }
     }
@@ -115,7 +113,7 @@ fn both_forms_of_a_sentence() {
             }
             let mut reader = Reader::with(wide, Names::default());
             let forms = read_sentence(&mut reader, &mut statements(sentence)[0], wide);
-            let answers: Vec<Checked> = (forms.unwrap().unwrap().iter())
+            let answers: Vec<Answer> = (forms.unwrap().unwrap().iter())
                 .map(|form| match compile(form, wide) {
                     Compiled::One(nodes, _) => check(&with_policies(&network, &policy(0, &nodes))),
                     other => panic!("{other:?} for {sentence}"),
@@ -124,7 +122,7 @@ fn both_forms_of_a_sentence() {
             assert_eq!(answers.len(), 2);
             assert_eq!(answers[0], answers[1], "{sentence}");
             match answers[0] {
-                Checked::Holds => held += 1,
+                Answer::Holds => held += 1,
                 _ => violated += 1,
             }
         }

@@ -6,11 +6,11 @@ mod common;
 use common::with_policies;
 use std::collections::BTreeMap;
 use wegbaro_tests::formulas::policy;
-use wegbaro_tests::gate::{Checked, STORE};
-use wegbaro_tests::networks::{all_widths, random_network, work_needed, Sizes, Widths, MODEST};
+use wegbaro_tests::gate::{Answer, Call, Gate, Lent};
+use wegbaro_tests::networks::{all_widths, random_network, Sizes, Widths, MODEST};
 use wegbaro_tests::random::Random;
 use wegbaro_tests::records::Record;
-use wegbaro_tests::second;
+use wegbaro_tests::second::{self, Second};
 use wegbaro_tools::compile::{compile, Compiled};
 use wegbaro_tools::formula::Node;
 use wegbaro_tools::names::Names;
@@ -440,12 +440,10 @@ fn the_lowest_state_of_a_policy() {
         let truth = world.truth(&tree);
         let lowest = (0..world.states).find(|state| truth[state * world.states]);
         let records = with_policies(&network, &policy(0, &nodes));
-        let mut store = records.concat();
-        store.resize(STORE, 0);
-        let checked = second::check(&store, records.len(), &mut vec![0; work_needed(&records)]);
+        let checked = Second.answer(&Call::Check, &mut Lent::just(&records));
         match lowest {
-            Some(state) => assert_eq!(checked, Checked::Violated { policy: 0, state }, "{formula}"),
-            None => assert_eq!(checked, Checked::Holds, "{formula}"),
+            Some(state) => assert_eq!(checked, Answer::Violated { policy: 0, state }, "{formula}"),
+            None => assert_eq!(checked, Answer::Holds, "{formula}"),
         }
         match lowest {
             Some(_) => violated += 1,

@@ -1,6 +1,7 @@
 //! The three calls over lent buffers.
 
-use crate::{Record, Refusal};
+use crate::version::expect_library;
+use crate::Refusal;
 
 #[link(name = "wegbaro", kind = "static")]
 extern "C" {
@@ -87,9 +88,10 @@ pub enum Routed {
 /// that takes just one.
 ///
 /// Every length and every content is allowed. The store has at least [`crate::STORE_BYTES`], the
-/// work buffer at least [`work_bytes`] of the network, or the call is refused; what is in the work
-/// buffer does not matter, and so much of it is zero after a verdict.
+/// work buffer at least [`crate::work_bytes`] of the network, or the call is refused; what is in the
+/// work buffer does not matter, and so much of it is zero after a verdict.
 pub fn check(store: &[u8], n: usize, work: &mut [u8]) -> Result<Checked, Refusal> {
+    expect_library();
     // SAFETY: the slices are valid for their lengths, not null and do not overlap; the call keeps
     // no pointer and takes every length and content.
     let answer =
@@ -119,6 +121,7 @@ pub fn command(
     work: &mut [u8],
     given: &[u8],
 ) -> Result<Commanded, Refusal> {
+    expect_library();
     // SAFETY: as in `check`; `store` and `work` are borrowed mutably, so nothing overlaps.
     let answer = unsafe {
         wegbaro_command(
@@ -147,9 +150,9 @@ pub fn command(
 /// lists it is one of the shortest, and of those the one with the smaller state where it first
 /// differs from another. No policy is judged.
 ///
-/// Store and work buffer are as for [`check`], and the list has at least [`list_entries`] of the
-/// network, or the call is refused. Entries behind the route keep their values; where there is no
-/// route, or the call is refused, all entries do.
+/// Store and work buffer are as for [`check`], and the list has at least [`crate::list_entries`] of
+/// the network, or the call is refused. Entries behind the route keep their values; where there is
+/// no route, or the call is refused, all entries do.
 pub fn route(
     store: &[u8],
     n: usize,
@@ -158,6 +161,7 @@ pub fn route(
     end: usize,
     list: &mut [u16],
 ) -> Result<Routed, Refusal> {
+    expect_library();
     // SAFETY: as in `check`; `work` and `list` are borrowed mutably, so nothing overlaps.
     let answer = unsafe {
         wegbaro_route(
@@ -183,34 +187,4 @@ pub fn route(
 /// The case of an answer and its two numbers.
 fn parts(answer: u64) -> (u64, usize, usize) {
     (answer & 3, (answer >> 2 & 0xFFFF) as usize, (answer >> 18) as usize)
-}
-
-/// The bytes of work that these records need: a plane of 2^(2N) bits for each node of the longest
-/// policy, and two more. No bytes, if the first record is not that of widths within their limits.
-pub fn work_bytes(records: &[Record]) -> usize {
-    let Some(bits) = state_bits(records) else { return 0 };
-    (longest_policy(records) + 2) * ((1 << (2 * bits)) / 8)
-}
-
-/// The entries that a list for any route of these records needs: 2^N + 1. No entries, if the first
-/// record is not that of widths within their limits.
-pub fn list_entries(records: &[Record]) -> usize {
-    state_bits(records).map_or(0, |bits| (1 << bits) + 1)
-}
-
-/// The bits of a state, N, if the first record is that of widths within their limits.
-fn state_bits(records: &[Record]) -> Option<u8> {
-    let Some([1, h @ 1..=6, p @ 2..=4, w @ 0..=4, ..]) = records.first() else { return None };
-    let bits = 1 + h + p + w;
-    (bits <= 10).then_some(bits)
-}
-
-/// The nodes of the longest policy, at most 32.
-fn longest_policy(records: &[Record]) -> usize {
-    let mut nodes = [0; 256];
-    for record in records.iter().filter(|record| record[0] == 5) {
-        nodes[usize::from(record[1])] += 1;
-    }
-    let longest = nodes.into_iter().max().unwrap_or(0);
-    longest.min(32)
 }

@@ -1,20 +1,17 @@
-//! A gate that owns its buffers.
+//! A gate: a network that is judged and kept.
 
-use crate::{check, command, list_entries, route, work_bytes};
-use crate::{Checked, Commanded, Record, Refusal, Routed, RECORD_BYTES, STORE_BYTES};
+use crate::{work_bytes, Buffers, Checked, Commanded, Record, Refusal};
 use std::fmt;
 
-/// A network, and the buffers in which commands to it are judged.
+/// A network with its verdict, and the buffers in which commands to it are judged.
 ///
 /// Once [`Gate::check`] says that the network holds, it holds for good: a command that would break
 /// a policy is blocked and changes nothing. That is proved for every series of commands. Where
-/// several matching rules have the highest priority, all of them act; [`check`] says which policies
-/// then also hold for a switch that takes just one of them.
+/// several matching rules have the highest priority, all of them act; [`crate::check`] says which
+/// policies then also hold for a switch that takes just one of them.
 #[derive(Clone)]
 pub struct Gate {
-    store: Vec<u8>,
-    count: usize,
-    work: Vec<u8>,
+    buffers: Buffers,
     verdict: Checked,
 }
 
@@ -28,11 +25,9 @@ impl Gate {
     /// The same with a work buffer of so many bytes: the answers of a caller that has no more.
     /// Where they are too few, row 11 refuses the network.
     pub fn with_work(records: &[Record], bytes: usize) -> Result<Gate, Refusal> {
-        let mut store = records.concat();
-        store.resize(store.len().max(STORE_BYTES), 0);
-        let mut work = vec![0; bytes];
-        let verdict = check(&store, records.len(), &mut work)?;
-        Ok(Gate { store, count: records.len(), work, verdict })
+        let mut buffers = Buffers::with_work(records, bytes);
+        let verdict = buffers.check()?;
+        Ok(Gate { buffers, verdict })
     }
 
     /// The verdict on the network as it is now.
@@ -40,46 +35,40 @@ impl Gate {
         self.verdict
     }
 
-    /// Judges a command as [`command`] does, and carries it out if the network that it leaves holds.
-    /// Only rows 12, 16 and 13, in this order, can refuse it: a command leaves widths, policies and
-    /// groups as they are.
+    /// Judges a command as [`crate::command`] does, and carries it out if the network that it leaves
+    /// holds. Only rows 12, 16 and 13, in this order, can refuse it: a command leaves widths,
+    /// policies and groups as they are.
     ///
     /// Where the network does not hold, the command is judged all the same: it is forwarded if what
     /// it leaves holds.
     pub fn command(&mut self, given: &[u8]) -> Result<Commanded, Refusal> {
-        let answer = command(&mut self.store, self.count, &mut self.work, given)?;
-        if let Commanded::Forwarded { count } = answer {
-            self.count = count;
+        let answer = self.buffers.command(given)?;
+        if matches!(answer, Commanded::Forwarded { .. }) {
             self.verdict = Checked::Holds;
         }
         Ok(answer)
     }
 
-    /// The states of a route from one state to another, as [`route`] finds it, or none where no
-    /// frame gets there. Only row 14 can refuse it.
+    /// The states of a route from one state to another, as [`crate::route`] finds it, or none where
+    /// no frame gets there. Only row 14 can refuse it.
     pub fn route(&mut self, start: usize, end: usize) -> Result<Option<Vec<u16>>, Refusal> {
-        let mut list = vec![0; list_entries(self.records())];
-        let answer = route(&self.store, self.count, &mut self.work, start, end, &mut list)?;
-        let Routed::Found { count } = answer else { return Ok(None) };
-        list.truncate(count);
-        Ok(Some(list))
+        self.buffers.route(start, end)
     }
 
     /// The network's records.
     pub fn records(&self) -> &[Record] {
-        let (records, _) = self.store.as_chunks::<RECORD_BYTES>();
-        &records[..self.count]
+        self.buffers.records()
     }
 
     /// How many records the network has.
     pub fn count(&self) -> usize {
-        self.count
+        self.records().len()
     }
 }
 
 impl fmt::Debug for Gate {
     fn fmt(&self, f: &mut fmt::Formatter<'_>) -> fmt::Result {
         let mut gate = f.debug_struct("Gate");
-        gate.field("count", &self.count).field("verdict", &self.verdict).finish_non_exhaustive()
+        gate.field("count", &self.count()).field("verdict", &self.verdict).finish_non_exhaustive()
     }
 }

@@ -7,8 +7,9 @@
 //! gets from one state to another. `docs/FORMAT.md` describes the records and the states, byte by
 //! byte and bit by bit.
 //!
-//! [`Gate`] owns the buffers of the calls, sized to its network. Where no heap is wanted, [`check`],
-//! [`command`] and [`route`] are the same calls over lent buffers.
+//! [`Gate`] judges a network and keeps it; [`Buffers`] owns the buffers of the calls, sized to their
+//! network, and judges nothing unasked. Where no heap is wanted, [`check`], [`command`] and [`route`]
+//! are the same calls over lent buffers.
 //!
 //! Network K has two switches and one policy, that header 1 never leaves. Its first add would let
 //! header 1 out; the second lets header 0 alone pass. Header 0 gets from port 1 of switch 0, where
@@ -57,18 +58,27 @@
 //! ```
 //!
 //! The static library `libwegbaro.a` is taken from `target/staticlib` of the project, or from the
-//! folder that the environment variable `WEGBARO_LIB_DIR` names when this crate is built.
+//! folder that the environment variable `WEGBARO_LIB_DIR` names when this crate is built; a relative
+//! path goes on from the folder where cargo is called.
+//!
+//! # Panics
+//!
+//! Every call panics if the linked library is not one for this crate: if its version,
+//! [`library_version`], has another major or minor number than [`VERSION`], or is older.
 
 #![deny(missing_docs)]
 
+mod buffers;
 mod calls;
 mod gate;
 mod refusal;
+mod version;
 
+pub use buffers::{list_entries, work_bytes, Buffers};
 pub use calls::{check, command, route, Checked, Commanded, Routed};
-pub use calls::{list_entries, work_bytes};
 pub use gate::Gate;
 pub use refusal::Refusal;
+pub use version::{library_version, Version, VERSION};
 
 /// Bytes of a record, and of a command.
 pub const RECORD_BYTES: usize = 24;

@@ -1,4 +1,4 @@
-// The calls for C and Rust, each answer one 64-bit number.
+// The calls for C and Rust, each answer one 64-bit number, and the version of the library.
 use calls::Checked;
 use calls::Commanded;
 use route::Routed;
@@ -10,6 +10,16 @@ ghost use Rattle.route.specs.Answer.{routeAnswerOf};
 ghost use Rattle.route.specs.Call.{routeCall};
 ghost use Rattle.route.specs.Laws.Bounds.{RouteSmall};
 ghost use Rattle.wegbaro.specs.Code.{coded, checkCode, commandCode, routeCode, CheckCoded, CommandCoded, RouteCoded};
+ghost use Rattle.wegbaro.specs.Version.{libraryVersion};
+
+// The first number of the library's version.
+const MAJOR: u64 = 0;
+
+// Its second number.
+const MINOR: u64 = 7;
+
+// Its third number.
+const PATCH: u64 = 4;
 
 // A case with its two numbers.
 fn coded(tag: u64, first: usize, second: usize) -> u64
@@ -87,4 +97,12 @@ pub extern "C" fn wegbaro_route(
 {
     let a = route::route(store, n, work, start, end, list);
     route_code(a)
+}
+
+// The version of the library.
+#[no_mangle]
+pub extern "C" fn wegbaro_version() -> u64
+    ensures { λ r. ⌜ r ≡ libraryVersion ⌝ }
+{
+    1000000 * MAJOR + 1000 * MINOR + PATCH
 }

@@ -1,7 +1,7 @@
 //! Rows 1 and 2: the count and the store's length.
 
 use super::starred::K_WORK;
-use super::{holds, refused, violated, CheckCase, PLENTY};
+use super::{holds, refused, violated, Case};
 use crate::formulas::{and, bit, external, or, policy, r, some, tc, X, Y};
 use crate::gate::{Lent, STORE};
 use crate::k::k;
@@ -12,11 +12,11 @@ use crate::records::{output, Record};
 /// The work of the largest network: 34 planes of 131,072 bytes.
 pub const LARGEST_WORK: usize = 4_456_448;
 
-pub fn cases() -> Vec<CheckCase> {
+pub fn cases() -> Vec<Case> {
     [counts(), lengths()].concat()
 }
 
-fn counts() -> Vec<CheckCase> {
+fn counts() -> Vec<Case> {
     let mut broken = largest_holding();
     broken[640] = policy(7, &[bit(X, 9)])[0];
     let mut faulty = largest_holding();
@@ -35,13 +35,13 @@ fn counts() -> Vec<CheckCase> {
 }
 
 /// K in its store, with another count.
-fn with_count(name: &str, n: usize, number: usize, place: usize) -> CheckCase {
+fn with_count(name: &str, n: usize, number: usize, place: usize) -> Case {
     let mut case = refused(name, &k(), number, place);
     case.lent.n = n;
     case
 }
 
-fn lengths() -> Vec<CheckCase> {
+fn lengths() -> Vec<Case> {
     let mut just = holds("store of 15,768 bytes", &k(), K_WORK);
     just.lent.store.truncate(STORE);
     let mut largest = holds("657 records in 15,768 bytes", &largest_holding(), LARGEST_WORK);
@@ -62,9 +62,9 @@ fn lengths() -> Vec<CheckCase> {
 }
 
 /// A store of bytes FF, refused by its length or by n.
-fn of_ones(name: &str, length: usize, n: usize, number: usize) -> CheckCase {
+fn of_ones(name: &str, length: usize, n: usize, number: usize) -> Case {
     let mut case = refused(name, &[], number, 0);
-    case.lent = Lent { store: vec![0xFF; length], n, work: vec![0xC3; PLENTY] };
+    case.lent = Lent { store: vec![0xFF; length], n, ..case.lent };
     case
 }
 

@@ -3,15 +3,15 @@
 use super::arguments::{largest_holding, LARGEST_WORK};
 use super::fields::{FAULTY_ACTIONS, FAULTY_MATCHES, SOUND_ACTIONS, SOUND_MATCHES};
 use super::starred::{k_with_rule, k_with_rules, K_WORK};
-use super::{bare, lend, CommandCase, BARE_WORK, PLENTY, SPARE};
+use super::{bare, lend, Case, BARE_WORK, PLENTY, SPARE};
 use crate::formulas::{bit, policy, X};
-use crate::gate::{Commanded, STORE};
+use crate::gate::{Answer, Call};
 use crate::k::{dropping_add, first_add, k, k_with_d, rule_d, second_add, setting_add};
 use crate::records::{
     add, delete, modify, output, record, rule, set, with, Action, Record, ANY, IN_PORT,
 };
 
-pub fn cases() -> Vec<CommandCase> {
+pub fn cases() -> Vec<Case> {
     [
         adds(),
         modifies(),
@@ -35,19 +35,10 @@ pub fn forwarded(
     given: Record,
     after: &[Record],
     zeroed: usize,
-) -> CommandCase {
-    let lent = lend(records, zeroed + SPARE);
-    let mut store_after = after.concat();
-    store_after.resize(STORE, 0);
-    store_after.extend(&lent.store[STORE..]);
-    CommandCase {
-        name: name.to_string(),
-        lent,
-        given: given.to_vec(),
-        answer: Commanded::Forwarded { count: after.len() },
-        store_after,
-        zeroed,
-    }
+) -> Case {
+    let answer = Answer::Forwarded { count: after.len() };
+    let case = case(name, records, zeroed + SPARE, &given, answer);
+    Case { installed: Some(after.to_vec()), zeroed, ..case }
 }
 
 /// A command that would leave a broken network.
@@ -58,29 +49,19 @@ pub fn blocked(
     policy: usize,
     state: usize,
     zeroed: usize,
-) -> CommandCase {
-    let lent = lend(records, zeroed + SPARE);
-    CommandCase {
-        name: name.to_string(),
-        store_after: lent.store.clone(),
-        lent,
-        given: given.to_vec(),
-        answer: Commanded::Blocked { policy, state },
-        zeroed,
-    }
+) -> Case {
+    let answer = Answer::Blocked { policy, state };
+    Case { zeroed, ..case(name, records, zeroed + SPARE, &given, answer) }
 }
 
 /// A command that a row refuses; the place is 0.
-pub fn refused(name: &str, records: &[Record], given: &[u8], number: usize) -> CommandCase {
-    let lent = lend(records, PLENTY);
-    CommandCase {
-        name: name.to_string(),
-        store_after: lent.store.clone(),
-        lent,
-        given: given.to_vec(),
-        answer: Commanded::Refused { number, place: 0 },
-        zeroed: 0,
-    }
+pub fn refused(name: &str, records: &[Record], given: &[u8], number: usize) -> Case {
+    case(name, records, PLENTY, given, Answer::Refused { number, place: 0 })
+}
+
+/// A command on records with so much work.
+fn case(name: &str, records: &[Record], work: usize, given: &[u8], answer: Answer) -> Case {
+    Case::on(name, lend(records, work), Call::Command(given.to_vec()), answer)
 }
 
 /// K without the records of the range.
@@ -111,7 +92,7 @@ pub fn replaced(records: &[Record], place: usize, record: Record) -> Vec<Record>
     records
 }
 
-fn adds() -> Vec<CommandCase> {
+fn adds() -> Vec<Case> {
     let d = rule_d();
     let no_rules = k_without(4..6);
     let bare_misses = &k()[..4];
@@ -143,7 +124,7 @@ fn adds() -> Vec<CommandCase> {
     ]
 }
 
-fn modifies() -> Vec<CommandCase> {
+fn modifies() -> Vec<Case> {
     let dropping = with(dropping_add(), 0, 4);
     let longer = rule(0, 10, [1, 3], [0, 1], &[set(0, 0), set(0, 1), IN_PORT, output(2, 3)]);
     let absent = rule(0, 10, [1, 3], [1, 1], &[output(2, 3)]);
@@ -166,7 +147,7 @@ fn modifies() -> Vec<CommandCase> {
     ]
 }
 
-fn deletes() -> Vec<CommandCase> {
+fn deletes() -> Vec<Case> {
     let case = |name: &str, before: &[Record], rule: Record, after: &[Record]| {
         forwarded(name, before, delete(rule), after, K_WORK)
     };
@@ -191,7 +172,7 @@ fn deletes() -> Vec<CommandCase> {
 }
 
 /// The result alone is judged, also where the present network is broken.
-fn verdicts() -> Vec<CommandCase> {
+fn verdicts() -> Vec<Case> {
     let broken = k_with_rule(with(first_add(), 0, 4));
     let absent = rule(1, 1, ANY, ANY, &[output(0, 3)]);
     let two_policies = [k(), policy(1, &[bit(X, 0)])].concat();
@@ -211,7 +192,7 @@ fn verdicts() -> Vec<CommandCase> {
 /// Rules of A's or B's priority that match what A or B does too: the add of one is blocked if it sends
 /// what must not leave, wherever A and B send, and a delete of one leaves what the other sends. A
 /// dropping rule takes away nothing that an equal one sends.
-fn equals() -> Vec<CommandCase> {
+fn equals() -> Vec<Case> {
     let setting = [set(1, 1), output(2, 3)];
     let set_at_0 = rule(0, 10, [1, 3], ANY, &setting);
     let set_at_1 = rule(1, 10, ANY, [0, 1], &setting);
@@ -260,7 +241,7 @@ pub fn setting_a() -> Record {
 
 /// K with a rule for what arrives at port 2 of switch 1, where no link ends: header 1 leaves there
 /// if it is sent back, and is dropped if it goes on over the link.
-fn returns() -> Vec<CommandCase> {
+fn returns() -> Vec<Case> {
     let at_2 = |actions: &[Action]| rule(1, 5, [2, 3], ANY, actions);
     let sound = |name: &str, actions: &[Action]| {
         let rule = at_2(actions);
@@ -282,7 +263,7 @@ fn returns() -> Vec<CommandCase> {
 }
 
 /// The largest network holds whatever its rules are. Its first rule is record 129.
-fn largest() -> Vec<CommandCase> {
+fn largest() -> Vec<Case> {
     let records = largest_holding();
     let first = records[129];
     let mut other = rule(0, 0, ANY, ANY, &[output(0, 0), output(15, 15)]);
@@ -312,7 +293,7 @@ pub fn new_to(records: &[Record]) -> Record {
     candidates.find(absent).expect("few rules")
 }
 
-fn lengths_and_kinds() -> Vec<CommandCase> {
+fn lengths_and_kinds() -> Vec<Case> {
     let sound = second_add();
     let mut cases = vec![];
     for length in [0, 1, 8, 12, 23] {
@@ -333,7 +314,7 @@ fn lengths_and_kinds() -> Vec<CommandCase> {
 }
 
 /// Field faults of each kind of command on a network without policies, where sound ones pass.
-fn field_faults() -> Vec<CommandCase> {
+fn field_faults() -> Vec<Case> {
     let dropping = rule(0, 500, ANY, ANY, &[output(0, 3)]);
     let mut cases = vec![];
     for (kind, command) in [(6, add(dropping)), (7, modify(dropping)), (8, delete(dropping))] {
@@ -366,7 +347,7 @@ fn field_faults() -> Vec<CommandCase> {
 }
 
 /// A sound command that means none of the present rules: only an add changes anything.
-fn sound_command(kind: u8, given: Record) -> CommandCase {
+fn sound_command(kind: u8, given: Record) -> Case {
     let mut after = bare();
     if kind == 6 {
         after.push(with(given, 0, 4));
@@ -382,14 +363,14 @@ fn put(record: Record, byte: usize, bytes: &[u8]) -> Record {
 }
 
 /// Rows of the file and of the work come before those of the command.
-fn row_orders() -> Vec<CommandCase> {
+fn row_orders() -> Vec<Case> {
     let short_work = |name: &str, given: &[u8]| {
         let mut case = refused(name, &k(), given, 11);
         case.lent.work.truncate(K_WORK - 1);
         case
     };
     let mut file = refused("faulty file, faulty command", &k_without(3..4), &[], 7);
-    file.answer = Commanded::Refused { number: 7, place: 3 };
+    file.answer = Answer::Refused { number: 7, place: 3 };
     let mut arguments = refused("n of 0, faulty command", &k(), &[], 1);
     arguments.lent.n = 0;
     vec![
@@ -402,7 +383,7 @@ fn row_orders() -> Vec<CommandCase> {
 }
 
 /// 256 and 255 rules. The last rule of the full table is record 259.
-fn full_tables() -> Vec<CommandCase> {
+fn full_tables() -> Vec<Case> {
     let full = k_with_rules(256);
     let last = full[259];
     let absent = rule(1, 7, ANY, ANY, &[output(0, 3)]);

@@ -6,14 +6,14 @@
 use super::group_steps::numbered;
 use super::patterns::{not_sent, Pair, StepCase};
 use super::steps::{one_switch, table, Steps};
-use super::{holds, violated, CheckCase};
+use super::{holds, violated, Case};
 use crate::formulas::policy;
 use crate::networks::work_needed;
 use crate::records::{
     miss, output, rule, run, set, to_group, to_port, widths, Action, Bucket, Record, ANY, IN_PORT,
 };
 
-pub fn cases() -> Vec<CheckCase> {
+pub fn cases() -> Vec<Case> {
     [pairs(), threes(), ranks(), bytes(), misses(), headers(), switches(), groups(), combined()]
         .concat()
 }
@@ -40,12 +40,12 @@ fn anywhere(priority: u16, actions: &[Action]) -> Record {
 }
 
 /// A table for the rules in this order.
-fn in_order(name: &str, rules: &[Record], steps: &[Steps]) -> Vec<CheckCase> {
+fn in_order(name: &str, rules: &[Record], steps: &[Steps]) -> Vec<Case> {
     table(name, &one_switch(&[], &DROP, rules), 4, steps)
 }
 
 /// Tables for the rules in orders by which each is once the first, in the middle and the last.
-fn in_turn(name: &str, rules: &[Record], steps: &[Steps]) -> Vec<CheckCase> {
+fn in_turn(name: &str, rules: &[Record], steps: &[Steps]) -> Vec<Case> {
     let turned = |first: usize| {
         let mut rules = rules.to_vec();
         rules.rotate_left(first);
@@ -55,7 +55,7 @@ fn in_turn(name: &str, rules: &[Record], steps: &[Steps]) -> Vec<CheckCase> {
 }
 
 /// Two equals: where both match, what both send.
-fn pairs() -> Vec<CheckCase> {
+fn pairs() -> Vec<Case> {
     let at_1 = |actions: &[Action]| at_port_1(EQUAL, actions);
     let header_0 = |actions: &[Action]| with_header_0(EQUAL, actions);
     let header_1 = rule(0, EQUAL, ANY, [1, 1], &[IN_PORT]);
@@ -95,7 +95,7 @@ fn pairs() -> Vec<CheckCase> {
 }
 
 /// Three equals, of which two or all match; and one that does not, between two that do.
-fn threes() -> Vec<CheckCase> {
+fn threes() -> Vec<Case> {
     let at_1 = at_port_1(EQUAL, &[IN_PORT]);
     let header_0 = with_header_0(EQUAL, &OUT_2);
     let other = rule(0, EQUAL, [2, 3], [1, 1], &OUT_3);
@@ -115,7 +115,7 @@ fn threes() -> Vec<CheckCase> {
 }
 
 /// Equals under a rule of higher priority and over one of lower priority, wherever that one stands.
-fn ranks() -> Vec<CheckCase> {
+fn ranks() -> Vec<Case> {
     let at_1 = at_port_1(EQUAL, &[IN_PORT]);
     let header_0 = with_header_0(EQUAL, &OUT_2);
     let to_3 = anywhere(EQUAL, &OUT_3);
@@ -147,7 +147,7 @@ fn ranks() -> Vec<CheckCase> {
 }
 
 /// Priorities are equal only if both their bytes are.
-fn bytes() -> Vec<CheckCase> {
+fn bytes() -> Vec<Case> {
     let of_priorities = |[at_1, header_0, header_1]: [u16; 3]| {
         [
             at_port_1(at_1, &OUT_2),
@@ -170,7 +170,7 @@ fn bytes() -> Vec<CheckCase> {
 
 /// The miss record acts alone, where no rule matches: not beside equals, even of priority 0, and not
 /// in their place, even if both send nothing.
-fn misses() -> Vec<CheckCase> {
+fn misses() -> Vec<Case> {
     let nothing = [at_port_1(0, &[output(1, 3)]), with_header_0(0, &[output(1, 3)])];
     let sending = [at_port_1(0, &OUT_2), with_header_0(0, &OUT_3)];
     [
@@ -190,7 +190,7 @@ fn misses() -> Vec<CheckCase> {
 }
 
 /// Each runs from the header of the arrival, whatever another one has set.
-fn headers() -> Vec<CheckCase> {
+fn headers() -> Vec<Case> {
     let set_1 = [set(1, 1), output(2, 3)];
     let set_between = [output(2, 3), set(1, 1), output(0, 3)];
     let set_0 = [set(0, 1), output(3, 3)];
@@ -224,7 +224,7 @@ fn headers() -> Vec<CheckCase> {
 
 /// Two switches: a state is 16 (departing) + 8 switch + 2 port + header. Rules of the same priority and
 /// patterns at the other switch add nothing, and those of higher priority there hide nothing.
-fn switches() -> Vec<CheckCase> {
+fn switches() -> Vec<Case> {
     let at = |switch: u8, priority: u16, actions: &[Action]| {
         rule(switch, priority, [1, 3], ANY, actions)
     };
@@ -257,7 +257,7 @@ fn switches() -> Vec<CheckCase> {
 }
 
 /// Equals that run groups: each has what its groups send, also where they share one.
-fn groups() -> Vec<CheckCase> {
+fn groups() -> Vec<Case> {
     let in_turn = |name: &str, rules: [Record; 2], groups: &[&[Bucket]], steps: &[Steps]| {
         let [one, other] = rules;
         let both = [[one, other], [other, one]].map(|rules| {
@@ -315,7 +315,7 @@ pub fn all_sent(rules: &[Record]) -> Vec<Record> {
 
 /// Policies are judged over what all of them send: with both of [`either`] everything is sent, though
 /// with the first alone something is not.
-fn combined() -> Vec<CheckCase> {
+fn combined() -> Vec<Case> {
     let [one, other] = either();
     let holding = |name: &str, rules: &[Record]| {
         let records = all_sent(rules);

@@ -1,17 +1,17 @@
 //! Row 5: fields, stray bits, unnamed bytes and actions.
 
 use super::starred::K_WORK;
-use super::{bare, bare_set, holds, refused, violated, CheckCase, BARE_WORK};
+use super::{bare, bare_set, holds, refused, violated, Case, BARE_WORK};
 use crate::formulas::{all, and, bit, external, not, or, r, some, tc, Node, X, Y};
 use crate::k::{k, k_set};
 use crate::records::Record;
 
-pub fn cases() -> Vec<CheckCase> {
+pub fn cases() -> Vec<Case> {
     [unnamed_bytes(), links(), matches(), actions(), nodes()].concat()
 }
 
 /// Each byte that a record does not use.
-fn unnamed_bytes() -> Vec<CheckCase> {
+fn unnamed_bytes() -> Vec<Case> {
     let mut cases = vec![];
     let mut stray = |place: usize, bytes: std::ops::Range<usize>| {
         for byte in bytes {
@@ -33,7 +33,7 @@ fn unnamed_bytes() -> Vec<CheckCase> {
 }
 
 /// Switches are below 2 and ports below 4.
-fn links() -> Vec<CheckCase> {
+fn links() -> Vec<Case> {
     let mut cases = vec![];
     for (byte, first) in [(1, 2), (2, 4), (3, 2), (4, 4)] {
         for value in [first, 16, 255] {
@@ -74,7 +74,7 @@ pub const SOUND_MATCHES: [[u8; 7]; 8] = [
     [0, 0, 0, 0, 0, 1, 1],
 ];
 
-fn matches() -> Vec<CheckCase> {
+fn matches() -> Vec<Case> {
     let mut cases = vec![
         refused("miss of switch 2", &bare_set(3, 1, 2), 5, 3),
         refused("miss of switch 255", &bare_set(2, 1, 255), 5, 2),
@@ -168,7 +168,7 @@ pub const SOUND_ACTIONS: [&[u8]; 15] = [
 ];
 
 /// Actions of a miss and of a rule.
-fn actions() -> Vec<CheckCase> {
+fn actions() -> Vec<Case> {
     let mut cases = vec![];
     for place in [3, 5] {
         for bytes in FAULTY_ACTIONS {
@@ -197,7 +197,7 @@ fn bare_put(place: usize, byte: usize, bytes: &[u8]) -> Vec<Record> {
 }
 
 /// K's last node, number 13, made another one. N is 5.
-fn nodes() -> Vec<CheckCase> {
+fn nodes() -> Vec<Case> {
     let faulty: [Node; 25] = [
         bit(2, 0),
         bit(255, 0),
@@ -225,7 +225,7 @@ fn nodes() -> Vec<CheckCase> {
         [9, 255, 255],
         bit(2, 5),
     ];
-    let mut cases: Vec<CheckCase> = faulty
+    let mut cases: Vec<Case> = faulty
         .into_iter()
         .map(|node| refused(&format!("last node {node:?}"), &with_last_node(node), 5, 19))
         .collect();
@@ -238,7 +238,7 @@ fn nodes() -> Vec<CheckCase> {
 }
 
 /// Sound last nodes, and the lowest state for which each is true.
-fn sound_nodes() -> Vec<CheckCase> {
+fn sound_nodes() -> Vec<Case> {
     let broken = |name: &str, node: Node, state: usize| {
         violated(name, &with_last_node(node), 0, state, K_WORK)
     };

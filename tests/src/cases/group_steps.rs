@@ -4,14 +4,14 @@ use super::patterns::{Pair, StepCase};
 use super::steps::{
     from_ports, table, ByHeader, Steps, NOWHERE, TO_1, TO_1_AND_2, TO_2, TO_CONTROLLER, TO_DROP,
 };
-use super::CheckCase;
+use super::Case;
 use crate::networks::{nested_groups, Widths};
 use crate::records::{
     group, link, miss, output, rule, run, set, to_group, to_port, widths, Action, Bucket, Record,
     ANY, IN_PORT,
 };
 
-pub fn cases() -> Vec<CheckCase> {
+pub fn cases() -> Vec<Case> {
     [ports(), headers(), headers_after(), nested(), wide_headers(), switches(), rules(), links()]
         .concat()
 }
@@ -48,18 +48,18 @@ pub fn numbered(groups: &[&[Bucket]]) -> Vec<Record> {
 
 /// A table for one switch whose miss record alone acts. Header width 1 and port width 2: a state is
 /// 8 (departing) + 2 port + header.
-fn missed(name: &str, actions: &[Action], groups: &[&[Bucket]], ports: Ports) -> Vec<CheckCase> {
+fn missed(name: &str, actions: &[Action], groups: &[&[Bucket]], ports: Ports) -> Vec<Case> {
     let records = [vec![widths(1, 2, 0), miss(0, actions)], numbered(groups)].concat();
     table(name, &records, 4, &from_ports(ports))
 }
 
 /// A table for one group that is all that is done.
-fn buckets(name: &str, buckets: &[Bucket], ports: Ports) -> Vec<CheckCase> {
+fn buckets(name: &str, buckets: &[Bucket], ports: Ports) -> Vec<Case> {
     missed(name, &[run(0)], &[buckets], ports)
 }
 
 /// Where buckets send: to any port but that of arrival.
-fn ports() -> Vec<CheckCase> {
+fn ports() -> Vec<Case> {
     let to = |port: u8| to_port(ANY, port);
     let with_drop: Ports =
         [[&[8, 12], &[9, 13]], [&[8, 10], &[9, 11]], [&[8, 10, 12], &[9, 11, 13]]];
@@ -81,7 +81,7 @@ fn ports() -> Vec<CheckCase> {
 }
 
 /// Each bucket sets the header with which the frame entered the group.
-fn headers() -> Vec<CheckCase> {
+fn headers() -> Vec<Case> {
     let set_1: Ports = [[&[12], &[13]], [&[11], &[11]], [&[11, 12], &[11, 13]]];
     let both: Ports = [[&[8, 13], &[8, 13]], [&[8], &[8]], [&[8, 13], &[8, 13]]];
     let third: Ports = [[&[8, 9], &[8, 9]], [&[8, 9, 10], &[8, 9, 11]], [&[8, 9, 10], &[8, 9, 11]]];
@@ -101,7 +101,7 @@ fn headers() -> Vec<CheckCase> {
 }
 
 /// The frame enters a group with the header of that moment, and has it still after the group.
-fn headers_after() -> Vec<CheckCase> {
+fn headers_after() -> Vec<Case> {
     let kept: Ports = [[&[9, 12], &[9, 13]], [&[9], &[9]], [&[9, 12], &[9, 13]]];
     let entered: Ports = [NOWHERE, [&[11], &[11]], [&[11], &[11]]];
     let then_set: Ports = [[&[13], &[13]], TO_1, [&[10, 13], &[11, 13]]];
@@ -126,7 +126,7 @@ fn headers_after() -> Vec<CheckCase> {
 }
 
 /// A bucket goes on to a lower group with the header that it has set.
-fn nested() -> Vec<CheckCase> {
+fn nested() -> Vec<Case> {
     let as_1: Ports = [NOWHERE, [&[11], &[11]], [&[11], &[11]]];
     let apart: Ports = [[&[13], &[13]], [&[10], &[10]], [&[10, 13], &[10, 13]]];
     let as_1_and_to_2: Ports = [[&[12], &[13]], [&[11], &[11]], [&[11, 12], &[11, 13]]];
@@ -175,7 +175,7 @@ fn fifteen_deep() -> Vec<Vec<Bucket>> {
 }
 
 /// Header width 2: a state is 16 (departing) + 4 port + header, and a bucket sets some bits.
-fn wide_headers() -> Vec<CheckCase> {
+fn wide_headers() -> Vec<Case> {
     let table_of = |name: &str, buckets: &[&[Bucket]], made: [&'static [usize]; 4]| {
         let highest = buckets.len() as u8 - 1;
         let acting = [widths(2, 2, 0), miss(0, &[run(highest)])];
@@ -197,7 +197,7 @@ fn wide_headers() -> Vec<CheckCase> {
 
 /// Two switches with groups of the same numbers: a state is 16 (departing) + 8 switch + 2 port +
 /// header. Switch 0 sends to port 1, switch 1 to port 2.
-fn switches() -> Vec<CheckCase> {
+fn switches() -> Vec<Case> {
     let steps: [Steps; 8] = [
         (4, &[18]),
         (5, &[19]),
@@ -223,7 +223,7 @@ fn switches() -> Vec<CheckCase> {
 }
 
 /// A rule that runs a group decides as any other, even if the group sends nothing.
-fn rules() -> Vec<CheckCase> {
+fn rules() -> Vec<Case> {
     let acting = |rules: &[Record]| [&[widths(1, 2, 0), miss(0, &[output(0, 3)])], rules].concat();
     let header_1 = rule(0, 5, ANY, [1, 1], &[run(0)]);
     let port_1 = rule(0, 9, [1, 3], ANY, &[run(1)]);
@@ -234,7 +234,7 @@ fn rules() -> Vec<CheckCase> {
 }
 
 /// Copies of a group cross links as others do.
-fn links() -> Vec<CheckCase> {
+fn links() -> Vec<Case> {
     let over: [Steps; 4] = [(10, &[4]), (11, &[5]), (12, &[2]), (13, &[3])];
     let steps = [from_ports([TO_2, TO_1, TO_1_AND_2]), over.to_vec()].concat();
     let acting = [widths(1, 2, 0), link(0, 1, 0, 2), miss(0, &[run(0)])];

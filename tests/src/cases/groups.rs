@@ -2,7 +2,7 @@
 
 use super::commands::{blocked, forwarded, refused as refused_command};
 use super::starred::{k_with_rules, K_WORK};
-use super::{bare, holds, refused, CheckCase, CommandCase, BARE_WORK};
+use super::{bare, holds, refused, Case, BARE_WORK};
 use crate::k::k;
 use crate::networks::planes;
 use crate::records::{
@@ -14,7 +14,7 @@ use crate::records::{
 const TO_PORT_1: Bucket = [0, 0, 1, 1];
 const DROP: Action = [1, 0, 3];
 
-pub fn cases() -> Vec<CheckCase> {
+pub fn cases() -> Vec<Case> {
     [
         fields(),
         bucket_counts(),
@@ -32,7 +32,7 @@ pub fn cases() -> Vec<CheckCase> {
     .concat()
 }
 
-pub fn commands() -> Vec<CommandCase> {
+pub fn commands() -> Vec<Case> {
     [changes(), absent_groups(), verdicts(), command_rows(), full_tables()].concat()
 }
 
@@ -47,16 +47,16 @@ fn with_groups(groups: &[Record]) -> Vec<Record> {
     [&bare(), groups].concat()
 }
 
-fn sound(name: &str, groups: &[Record]) -> CheckCase {
+fn sound(name: &str, groups: &[Record]) -> Case {
     holds(name, &with_groups(groups), BARE_WORK)
 }
 
-fn faulty(name: &str, groups: &[Record], place: usize) -> CheckCase {
+fn faulty(name: &str, groups: &[Record], place: usize) -> Case {
     refused(name, &with_groups(groups), 16, place)
 }
 
 /// Switch, number and the bytes that a group does not use.
-fn fields() -> Vec<CheckCase> {
+fn fields() -> Vec<Case> {
     let mut cases = vec![];
     for switch in [0, 1] {
         cases.push(sound(&format!("group of switch {switch}"), &[plain(switch, 3)]));
@@ -80,7 +80,7 @@ fn fields() -> Vec<CheckCase> {
 }
 
 /// One to three buckets, as many as the count says.
-fn bucket_counts() -> Vec<CheckCase> {
+fn bucket_counts() -> Vec<Case> {
     let counted = |buckets: usize, count: u8| {
         let name = format!("{buckets} buckets, count {count}");
         (name, with(group(0, 3, &vec![TO_PORT_1; buckets]), 8, count))
@@ -99,7 +99,7 @@ fn bucket_counts() -> Vec<CheckCase> {
 }
 
 /// Header value and care of each bucket.
-fn headers() -> Vec<CheckCase> {
+fn headers() -> Vec<Case> {
     let mut cases = vec![];
     for bucket in 0..3 {
         for pattern in [[0, 0], [0, 1], [1, 1]] {
@@ -116,7 +116,7 @@ fn headers() -> Vec<CheckCase> {
 }
 
 /// Kind and number of each bucket's target, where no other group is there.
-fn targets() -> Vec<CheckCase> {
+fn targets() -> Vec<Case> {
     let mut cases = vec![];
     for bucket in 0..3 {
         for port in 0..4 {
@@ -158,7 +158,7 @@ fn with_bytes(bucket: usize, byte: usize, bytes: [u8; 2]) -> Record {
     record
 }
 
-fn unused_buckets() -> Vec<CheckCase> {
+fn unused_buckets() -> Vec<Case> {
     let mut cases = vec![];
     for (used, bytes) in [(1, 13..21), (2, 17..21)] {
         for byte in bytes {
@@ -173,7 +173,7 @@ fn unused_buckets() -> Vec<CheckCase> {
 }
 
 /// The highest switch, header care and port of other widths, and one more.
-fn other_widths() -> Vec<CheckCase> {
+fn other_widths() -> Vec<Case> {
     let mut cases = vec![];
     for [h, p, w] in [[1, 2, 0], [6, 3, 0], [3, 2, 4], [1, 4, 4], [2, 3, 2]] {
         let misses = (0..1 << w).map(|switch| miss(switch, &[output(0, 0)]));
@@ -200,7 +200,7 @@ fn other_widths() -> Vec<CheckCase> {
 }
 
 /// Buckets that go on: to a lower group of the same switch, and to no other.
-fn lower_groups() -> Vec<CheckCase> {
+fn lower_groups() -> Vec<Case> {
     let onward = |switch: u8, number: u8, to: u8| group(switch, number, &[to_group(ANY, to)]);
     let low = plain(0, 2);
     let mut cases = vec![
@@ -238,7 +238,7 @@ fn lower_groups() -> Vec<CheckCase> {
 }
 
 /// Ascending by switch, then by number.
-fn orders() -> Vec<CheckCase> {
+fn orders() -> Vec<Case> {
     vec![
         sound("groups ascending", &[plain(0, 0), plain(0, 1), plain(0, 15)]),
         sound("groups of both switches", &[plain(0, 15), plain(1, 0)]),
@@ -254,7 +254,7 @@ fn orders() -> Vec<CheckCase> {
 }
 
 /// Sixteen groups; a 17th is record 22.
-fn group_counts() -> Vec<CheckCase> {
+fn group_counts() -> Vec<Case> {
     let sixteen: Vec<Record> = (0..16).map(|number| plain(0, number)).collect();
     let spread: Vec<Record> = (0..16).map(|place| plain(place / 8, 2 * (place % 8))).collect();
     let more = |groups: &[Record], last: &[Record]| [groups, last].concat();
@@ -282,7 +282,7 @@ fn acting(place: usize, actions: &[Action], groups: &[Record]) -> Vec<Record> {
 }
 
 /// Misses and rules run groups of their switch only, each action that does.
-fn groups_run() -> Vec<CheckCase> {
+fn groups_run() -> Vec<Case> {
     let mut cases = vec![];
     for (place, switch) in ACTING {
         let mut case = |what: &str, actions: &[Action], groups: &[Record], is_sound: bool| {
@@ -315,7 +315,7 @@ fn groups_run() -> Vec<CheckCase> {
 }
 
 /// A group is there if some record names it, wherever that stands and whatever else is wrong with it.
-fn present_groups() -> Vec<CheckCase> {
+fn present_groups() -> Vec<Case> {
     let mut cases = vec![];
     for (place, switch) in ACTING {
         let mut case = |what: &str, number: u8, groups: &[Record], fault: usize| {
@@ -340,7 +340,7 @@ fn present_groups() -> Vec<CheckCase> {
 }
 
 /// Rows with lower numbers come first in a record, and earlier records before later ones.
-fn rows_before() -> Vec<CheckCase> {
+fn rows_before() -> Vec<Case> {
     let a = rule(0, 10, [1, 3], [0, 1], &[run(3)]);
     let absent = |place: usize| acting(place, &[run(3)], &[]);
     let one_byte = |place: usize, byte: usize, value: u8| {
@@ -396,7 +396,7 @@ fn a_with(actions: &[Action]) -> Record {
 }
 
 /// An added rule goes behind the last rule, before policies and groups; no command changes a group.
-fn changes() -> Vec<CommandCase> {
+fn changes() -> Vec<Case> {
     let put_in = |records: &[Record], place: usize, record: Record| {
         [&records[..place], &[record], &records[place..]].concat()
     };
@@ -427,7 +427,7 @@ fn changes() -> Vec<CommandCase> {
 }
 
 /// Adds and modifies that run a group that their switch has not, whether or not the rule is there.
-fn absent_groups() -> Vec<CommandCase> {
+fn absent_groups() -> Vec<Case> {
     let mut cases = vec![];
     for (name, actions) in [
         ("absent group 2", &[run(2)][..]),
@@ -450,7 +450,7 @@ fn absent_groups() -> Vec<CommandCase> {
 }
 
 /// K with group 3 of switch 0 behind its policy, and an add at port 1 that runs it.
-fn verdicts() -> Vec<CommandCase> {
+fn verdicts() -> Vec<Case> {
     let with_bucket = |bucket: Bucket| [k(), vec![group(0, 3, &[bucket])]].concat();
     let at_1 = rule(0, 20, [1, 3], ANY, &[run(3)]);
     let sound = |name: &str, bucket: Bucket| {
@@ -472,7 +472,7 @@ fn verdicts() -> Vec<CommandCase> {
 }
 
 /// Rows 11 and 12 come before row 16.
-fn command_rows() -> Vec<CommandCase> {
+fn command_rows() -> Vec<Case> {
     let absent = add(new_rule(0, &[run(2)]));
     let there = add(new_rule(0, &[run(3)]));
     let mut short = refused_command("short work, absent group", &grouped(), &absent, 11);
@@ -499,7 +499,7 @@ fn new_rule_with_unused_group() -> Record {
 }
 
 /// Row 16 comes before row 13.
-fn full_tables() -> Vec<CommandCase> {
+fn full_tables() -> Vec<Case> {
     let full = [k_with_rules(256), vec![plain(0, 3)]].concat();
     let mut running = full.clone();
     running[4] = a_with(&[run(3)]);

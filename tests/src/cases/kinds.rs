@@ -1,15 +1,15 @@
 //! Row 3: kinds and their order.
 
 use super::starred::K_WORK;
-use super::{bare, bare_set, holds, refused, CheckCase, BARE_WORK};
+use super::{bare, bare_set, holds, refused, Case, BARE_WORK};
 use crate::k::{k, k_set};
 use crate::records::{group, link, to_port, Record, ANY};
 
-pub fn cases() -> Vec<CheckCase> {
+pub fn cases() -> Vec<Case> {
     [kinds(), orders()].concat()
 }
 
-fn kinds() -> Vec<CheckCase> {
+fn kinds() -> Vec<Case> {
     let mut cases = vec![];
     for kind in [0, 2, 3, 4, 5, 6, 7, 8, 9, 10, 255] {
         let name = format!("first record of kind {kind}");
@@ -26,7 +26,7 @@ fn kinds() -> Vec<CheckCase> {
     cases
 }
 
-fn orders() -> Vec<CheckCase> {
+fn orders() -> Vec<Case> {
     let (widths, miss, rule) = (bare()[0], bare()[3], bare()[4]);
     let link = link(1, 2, 0, 1);
     let node = k()[6];

@@ -1,12 +1,12 @@
 //! Row 6: ends of links.
 
-use super::{holds, refused, CheckCase};
+use super::{holds, refused, Case};
 use crate::records::{link, miss, output, widths, Record};
 
 /// Two planes of 512 bytes, for N of 6.
 const WORK: usize = 1_024;
 
-pub fn cases() -> Vec<CheckCase> {
+pub fn cases() -> Vec<Case> {
     let first = link(0, 1, 1, 2);
     let sound = |name: &str, links: &[Record]| holds(name, &network(links), WORK);
     let faulty = |name: &str, links: &[Record], place| refused(name, &network(links), 6, place);

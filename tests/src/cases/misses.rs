@@ -1,13 +1,13 @@
 //! Row 7: one miss per switch, ascending and complete.
 
-use super::{holds, refused, CheckCase};
+use super::{holds, refused, Case};
 use crate::formulas::{bit, not, policy, Node, X, Y};
 use crate::networks::planes;
 use crate::records::{
     group, link, miss as miss_with, output, record, rule, to_port, widths, Record, ANY,
 };
 
-pub fn cases() -> Vec<CheckCase> {
+pub fn cases() -> Vec<Case> {
     [orders(), ends(), higher_kinds()].concat()
 }
 
@@ -22,7 +22,7 @@ fn network(w: u8, misses: &[u8]) -> Vec<Record> {
     records
 }
 
-fn orders() -> Vec<CheckCase> {
+fn orders() -> Vec<Case> {
     vec![
         holds("misses 0, 1", &network(1, &[0, 1]), planes(2, 5)),
         refused("misses 1, 0", &network(1, &[1, 0]), 7, 1),
@@ -37,7 +37,7 @@ fn orders() -> Vec<CheckCase> {
 }
 
 /// Incomplete misses with no record behind them: the place is n.
-fn ends() -> Vec<CheckCase> {
+fn ends() -> Vec<Case> {
     let upto = |end: u8| (0..end).collect::<Vec<u8>>();
     let linked = [widths(1, 2, 1), link(0, 1, 1, 2)];
     vec![
@@ -54,7 +54,7 @@ fn ends() -> Vec<CheckCase> {
 
 /// Incomplete misses seen at the first record of a higher kind, place 2. Rows 3 and 5 of that record
 /// come first, rows 8 to 10 and 16 later.
-fn higher_kinds() -> Vec<CheckCase> {
+fn higher_kinds() -> Vec<Case> {
     let sound = rule(0, 1, ANY, ANY, &[output(0, 0)]);
     let wide = rule(2, 1, ANY, ANY, &[output(0, 0)]);
     let node = |number: u8, node: Node| policy(number, &[node])[0];
@@ -81,7 +81,7 @@ fn higher_kinds() -> Vec<CheckCase> {
 }
 
 /// One miss of two, then this record and a faulty one.
-fn behind_one_miss(name: &str, record: Record, number: usize) -> CheckCase {
+fn behind_one_miss(name: &str, record: Record, number: usize) -> Case {
     let records = [&network(1, &[0])[..], &[record, [0; 24]]].concat();
     refused(&format!("one miss of two, {name}"), &records, number, 2)
 }

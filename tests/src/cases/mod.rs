@@ -21,7 +21,7 @@ pub mod versions;
 pub mod widths;
 pub mod work;
 
-use crate::gate::{Checked, Commanded, Gate, Lent, Program, Routed, STORE};
+use crate::gate::{Answer, Call, Gate, Lent, Outcome, Program, STORE};
 use crate::k::k;
 use crate::records::Record;
 use std::fmt::Debug;
@@ -35,37 +35,20 @@ const PLENTY: usize = 4_400;
 /// The work that K's first six records need: two planes of 128 bytes.
 const BARE_WORK: usize = 256;
 
-/// A check call with what it must answer and how much work it must zero.
+/// A call with what it must answer and leave.
 #[derive(Clone, Debug)]
-pub struct CheckCase {
+pub struct Case {
     pub name: String,
+    pub call: Call,
     pub lent: Lent,
-    pub answer: Checked,
+    pub answer: Answer,
+    /// The records that the store must have then, and zeros behind them up to its least length. Without
+    /// them the store must stay as it is.
+    pub installed: Option<Vec<Record>>,
+    /// How much of the work must be zero then.
     pub zeroed: usize,
-}
-
-/// A command call with what it must answer, the store it must leave and the work it must zero.
-#[derive(Clone, Debug)]
-pub struct CommandCase {
-    pub name: String,
-    pub lent: Lent,
-    pub given: Vec<u8>,
-    pub answer: Commanded,
-    pub store_after: Vec<u8>,
-    pub zeroed: usize,
-}
-
-/// A route call with what it must answer, the route it must write and the work it must zero.
-#[derive(Clone, Debug)]
-pub struct RouteCase {
-    pub name: String,
-    pub lent: Lent,
-    pub start: usize,
-    pub end: usize,
-    pub list: Vec<u16>,
-    pub answer: Routed,
-    pub route: Vec<u16>,
-    pub zeroed: usize,
+    /// What the list must begin with then.
+    pub listed: Vec<u16>,
 }
 
 /// A whole input and its whole output.
@@ -76,90 +59,53 @@ pub struct ProgramCase {
     pub output: String,
 }
 
-impl CheckCase {
+impl Case {
+    /// A case that leaves all buffers as they are.
+    fn on(name: &str, lent: Lent, call: Call, answer: Answer) -> Case {
+        let name = name.to_string();
+        Case { name, call, lent, answer, installed: None, zeroed: 0, listed: vec![] }
+    }
+
     /// Runs the case; an error tells what is wrong.
     pub fn run(&self, gate: &dyn Gate) -> Result<(), String> {
+        let must = Outcome { answer: self.answer, left: self.left() };
+        let outcome = gate.outcome(&self.call, &self.lent);
+        outcome.expect(&must).map_err(|difference| format!("{}: {difference}", self.name))
+    }
+
+    /// The buffers as they must be left.
+    fn left(&self) -> Lent {
         let mut left = self.lent.clone();
-        let answer = gate.check(&left.store, left.n, &mut left.work);
-        same(&self.name, "answer", &answer, &self.answer)?;
-        same_bytes(&self.name, "store", &left.store, &self.lent.store)?;
-        same_bytes(&self.name, "work", &left.work, &zeroed(&self.lent.work, self.zeroed))
-    }
-
-    /// What the command call must answer on the same buffers to a command of no bytes: the same
-    /// refusal, or row 12 after a verdict's rows are passed.
-    pub fn with_empty_command(&self) -> CommandCase {
-        let (number, place) = match self.answer {
-            Checked::Refused { number, place } => (number, place),
-            _ => (12, 0),
-        };
-        CommandCase {
-            name: format!("{}, empty command", self.name),
-            lent: self.lent.clone(),
-            given: vec![],
-            answer: Commanded::Refused { number, place },
-            store_after: self.lent.store.clone(),
-            zeroed: 0,
+        if let Some(records) = &self.installed {
+            let bytes = records.as_flattened();
+            left.store[..STORE].fill(0);
+            left.store[..bytes.len()].copy_from_slice(bytes);
         }
+        left.work[..self.zeroed].fill(0);
+        left.list[..self.listed.len()].copy_from_slice(&self.listed);
+        left
     }
 
-    /// What the route call must answer on the same buffers between states that no width has, with a
-    /// list of no entries: the same refusal, or row 14 after a verdict's rows are passed.
-    pub fn with_unknown_states(&self) -> RouteCase {
-        let (number, place) = match self.answer {
-            Checked::Refused { number, place } => (number, place),
-            _ => (14, 0),
-        };
-        RouteCase {
-            name: format!("{}, route of unknown states", self.name),
-            lent: self.lent.clone(),
-            start: 1 << 10,
-            end: 1 << 10,
-            list: vec![],
-            answer: Routed::Refused { number, place },
-            route: vec![],
-            zeroed: 0,
-        }
-    }
-
-    /// The case without any work: what rows 1 to 10 refuse is refused alike, the rest by row 11.
-    pub fn without_work(&self) -> CheckCase {
-        let answer = match self.answer {
-            Checked::Refused { .. } => self.answer,
-            _ => Checked::Refused { number: 11, place: 0 },
-        };
-        CheckCase {
-            name: format!("{}, without work", self.name),
+    /// A check case, the same without any work, and on its buffers each other call, given what a row
+    /// behind all of the check call's refuses.
+    fn with_other_calls(self) -> Vec<Case> {
+        let without_work = Case {
             lent: Lent { work: vec![], ..self.lent.clone() },
-            answer,
-            zeroed: 0,
-        }
+            ..self.refused_at_last("without work", Call::Check, 11)
+        };
+        let command = self.refused_at_last("empty command", Call::Command(vec![]), 12);
+        let unknown = Call::Route { start: 1 << 10, end: 1 << 10 };
+        let route = self.refused_at_last("route of unknown states", unknown, 14);
+        vec![without_work, command, route, self]
     }
-}
 
-impl CommandCase {
-    /// Runs the case; an error tells what is wrong.
-    pub fn run(&self, gate: &dyn Gate) -> Result<(), String> {
-        let mut left = self.lent.clone();
-        let answer = gate.command(&mut left.store, left.n, &mut left.work, &self.given);
-        same(&self.name, "answer", &answer, &self.answer)?;
-        same_bytes(&self.name, "store", &left.store, &self.store_after)?;
-        same_bytes(&self.name, "work", &left.work, &zeroed(&self.lent.work, self.zeroed))
-    }
-}
-
-impl RouteCase {
-    /// Runs the case; an error tells what is wrong.
-    pub fn run(&self, gate: &dyn Gate) -> Result<(), String> {
-        let (mut left, mut list) = (self.lent.clone(), self.list.clone());
-        let (start, end) = (self.start, self.end);
-        let answer = gate.route(&left.store, left.n, &mut left.work, start, end, &mut list);
-        let mut must = self.list.clone();
-        must[..self.route.len()].copy_from_slice(&self.route);
-        same(&self.name, "answer", &answer, &self.answer)?;
-        same(&self.name, "list", &list, &must)?;
-        same_bytes(&self.name, "store", &left.store, &self.lent.store)?;
-        same_bytes(&self.name, "work", &left.work, &zeroed(&self.lent.work, self.zeroed))
+    /// A call on the buffers of a check case: the check call's refusal, or else one by this row.
+    fn refused_at_last(&self, what: &str, call: Call, number: usize) -> Case {
+        let answer = match self.answer.is_refused() {
+            true => self.answer,
+            false => Answer::Refused { number, place: 0 },
+        };
+        Case::on(&format!("{}, {what}", self.name), self.lent.clone(), call, answer)
     }
 }
 
@@ -179,29 +125,42 @@ fn same<A: PartialEq + Debug>(name: &str, what: &str, got: &A, must: &A) -> Resu
     }
 }
 
-/// An error that tells the first byte that is not what it must be.
-fn same_bytes(name: &str, what: &str, got: &[u8], must: &[u8]) -> Result<(), String> {
-    match got.iter().zip(must).position(|(got, must)| got != must) {
-        None => same(name, what, &got.len(), &must.len()),
-        Some(place) => Err(format!("{name}: {what} differs from byte {place} on")),
-    }
+/// Fails with every error, one per line.
+pub fn expect_all(results: impl IntoIterator<Item = Result<(), String>>) {
+    let wrong: Vec<String> = results.into_iter().filter_map(Result::err).collect();
+    assert!(wrong.is_empty(), "{}", wrong.join("\n"));
 }
 
-/// The work with its first bytes zero.
-fn zeroed(work: &[u8], length: usize) -> Vec<u8> {
-    let mut work = work.to_vec();
-    work[..length].fill(0);
-    work
+/// Every case of every call, as it is written.
+pub fn written() -> impl Iterator<Item = Case> {
+    all_checks().into_iter().chain(all_commands()).chain(routes::cases())
+}
+
+/// Every case of every call, those of the check call through the others too.
+pub fn all() -> impl Iterator<Item = Case> {
+    through_each_call(written())
+}
+
+/// The same, of the check cases only those of the rows: few enough for a gate that is slow.
+pub fn of_rows() -> impl Iterator<Item = Case> {
+    through_each_call(checks_of_rows().into_iter().chain(all_commands()).chain(routes::cases()))
+}
+
+fn through_each_call(cases: impl Iterator<Item = Case>) -> impl Iterator<Item = Case> {
+    cases.flat_map(|case| match case.call {
+        Call::Check => case.with_other_calls(),
+        _ => vec![case],
+    })
 }
 
 /// Every check case.
-pub fn all_checks() -> Vec<CheckCase> {
+pub fn all_checks() -> Vec<Case> {
     [checks_of_rows(), steps::cases(), equals::cases(), group_steps::cases(), truths::cases()]
         .concat()
 }
 
 /// The starred check cases and those of the rows.
-pub fn checks_of_rows() -> Vec<CheckCase> {
+pub fn checks_of_rows() -> Vec<Case> {
     [
         starred::checks(),
         arguments::cases(),
@@ -220,7 +179,7 @@ pub fn checks_of_rows() -> Vec<CheckCase> {
 }
 
 /// Every command case.
-pub fn all_commands() -> Vec<CommandCase> {
+pub fn all_commands() -> Vec<Case> {
     [starred::commands(), commands::cases(), versions::commands(), groups::commands()].concat()
 }
 
@@ -241,33 +200,18 @@ fn lend(records: &[Record], work: usize) -> Lent {
     let mut store = records.concat();
     store.resize(STORE, 0xA5);
     store.resize(STORE + BEYOND, 0x5A);
-    Lent { store, n: records.len(), work: vec![0xC3; work] }
+    Lent { store, n: records.len(), work: vec![0xC3; work], ..Lent::default() }
 }
 
-fn holds(name: &str, records: &[Record], zeroed: usize) -> CheckCase {
-    CheckCase {
-        name: name.to_string(),
-        lent: lend(records, zeroed + SPARE),
-        answer: Checked::Holds,
-        zeroed,
-    }
+fn holds(name: &str, records: &[Record], zeroed: usize) -> Case {
+    let lent = lend(records, zeroed + SPARE);
+    Case { zeroed, ..Case::on(name, lent, Call::Check, Answer::Holds) }
 }
 
-fn violated(
-    name: &str,
-    records: &[Record],
-    policy: usize,
-    state: usize,
-    zeroed: usize,
-) -> CheckCase {
-    CheckCase { answer: Checked::Violated { policy, state }, ..holds(name, records, zeroed) }
+fn violated(name: &str, records: &[Record], policy: usize, state: usize, zeroed: usize) -> Case {
+    Case { answer: Answer::Violated { policy, state }, ..holds(name, records, zeroed) }
 }
 
-fn refused(name: &str, records: &[Record], number: usize, place: usize) -> CheckCase {
-    CheckCase {
-        name: name.to_string(),
-        lent: lend(records, PLENTY),
-        answer: Checked::Refused { number, place },
-        zeroed: 0,
-    }
+fn refused(name: &str, records: &[Record], number: usize, place: usize) -> Case {
+    Case::on(name, lend(records, PLENTY), Call::Check, Answer::Refused { number, place })
 }

@@ -4,9 +4,9 @@
 //! and 1 alone. What a pattern matches, and what SET makes of a header, is read off character by
 //! character, as in the standard's tables. Strings become numbers in records and states only.
 
-use super::{holds, lend, same, violated, CheckCase};
+use super::{holds, lend, same, violated, Case};
 use crate::formulas::{and, bit, external, not, or, policy, r, some, Node, X, Y};
-use crate::gate::{Gate, Routed};
+use crate::gate::{Answer, Call, Gate};
 use crate::networks::{work_needed, Widths};
 use crate::records::{
     group, miss, output, rule, run, set, to_port, widths, Action, Bucket, Pattern, Record, ANY,
@@ -41,15 +41,15 @@ impl StepCase {
     /// route is one step.
     pub fn run(&self, gate: &dyn Gate) -> Result<(), String> {
         let mut lent = lend(&self.records, work_needed(&self.records));
-        let mut list = vec![0; (1 << Widths::of(&self.records[0]).bits()) + 1];
+        lent.list = vec![0; (1 << Widths::of(&self.records[0]).bits()) + 1];
         for Pair { from, to, is_step } in self.pairs.iter().copied() {
             let name = format!("{}: {from} to {to}", self.name);
-            let answer = gate.route(&lent.store, lent.n, &mut lent.work, from, to, &mut list);
+            let answer = gate.answer(&Call::Route { start: from, end: to }, &mut lent);
             if is_step {
-                same(&name, "answer", &answer, &Routed::Found { count: 2 })?;
-                same(&name, "route", &[list[0], list[1]], &[from as u16, to as u16])?;
+                same(&name, "answer", &answer, &Answer::Found { count: 2 })?;
+                same(&name, "route", &[lent.list[0], lent.list[1]], &[from as u16, to as u16])?;
             } else {
-                same(&name, "answer", &answer, &Routed::NoRoute)?;
+                same(&name, "answer", &answer, &Answer::NoRoute)?;
             }
         }
         Ok(())
@@ -153,12 +153,12 @@ fn set_pairs(pattern: &str, port: &str, digits: usize) -> Vec<Pair> {
 }
 
 /// The patterns of SET, at all headers in one call.
-pub fn sets_at_once(h: u8) -> impl Iterator<Item = CheckCase> {
+pub fn sets_at_once(h: u8) -> impl Iterator<Item = Case> {
     patterns(h).into_iter().map(|pattern| set_judged(&pattern, &pattern))
 }
 
 /// The patterns of SET, each judged as if it were each of them.
-pub fn sets_mistaken(h: u8) -> Vec<CheckCase> {
+pub fn sets_mistaken(h: u8) -> Vec<Case> {
     let mut cases = vec![];
     for pattern in patterns(h) {
         cases.extend(patterns(h).iter().map(|judged| set_judged(&pattern, judged)));
@@ -168,7 +168,7 @@ pub fn sets_mistaken(h: u8) -> Vec<CheckCase> {
 
 /// SET by a pattern, judged as SET by another: for each character a policy forbids that a frame is
 /// sent on with another bit, and a last one that it is not sent on.
-fn set_judged(pattern: &str, judged: &str) -> CheckCase {
+fn set_judged(pattern: &str, judged: &str) -> Case {
     let h = judged.len() as u8;
     let mut records = setting(pattern);
     for (number, character) in (0..h).zip(judged.chars()) {

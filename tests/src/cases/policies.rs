@@ -1,12 +1,12 @@
 //! Rows 9 and 10: operands, policy numbers, free variables and counts of policies and nodes.
 
-use super::{bare, holds, refused, violated, CheckCase};
+use super::{bare, holds, refused, violated, Case};
 use crate::formulas::{all, and, bit, not, or, policy, r, some, tc, Node, X, Y};
 use crate::k::{k, k_set};
 use crate::networks::planes;
 use crate::records::{group, record, to_port, with, Record, ANY};
 
-pub fn cases() -> Vec<CheckCase> {
+pub fn cases() -> Vec<Case> {
     [operands(), numbers(), free_variables(), last_nodes(), policy_counts(), node_counts()].concat()
 }
 
@@ -29,7 +29,7 @@ fn work(nodes: usize) -> usize {
     planes(nodes + 2, 5)
 }
 
-fn operands() -> Vec<CheckCase> {
+fn operands() -> Vec<Case> {
     let mut cases = vec![
         refused("K, operand 9 and a record of kind 0", &k_set(&[(8, 3, 9), (9, 0, 0)]), 9, 8),
         refused(
@@ -73,7 +73,7 @@ fn first_operand(number: u8) -> Vec<Node> {
 }
 
 /// BIT X 0 as every policy's only node.
-fn numbers() -> Vec<CheckCase> {
+fn numbers() -> Vec<Case> {
     let with_numbers = |numbers: &[u8]| {
         let nodes: &[Node] = &[bit(X, 0)];
         let policies: Vec<(u8, &[Node])> = numbers.iter().map(|number| (*number, nodes)).collect();
@@ -95,7 +95,7 @@ fn numbers() -> Vec<CheckCase> {
     ]
 }
 
-fn free_variables() -> Vec<CheckCase> {
+fn free_variables() -> Vec<Case> {
     let faulty = |nodes: &[Node]| {
         let name = format!("Y free at the end of {nodes:?}");
         refused(&name, &with_policy(nodes), 9, 5 + nodes.len())
@@ -135,7 +135,7 @@ fn free_variables() -> Vec<CheckCase> {
 }
 
 /// Which node is the last one is decided by the next record's first two bytes.
-fn last_nodes() -> Vec<CheckCase> {
+fn last_nodes() -> Vec<Case> {
     let k18_and = |next: Record| [&k()[..18], &[next]].concat();
     let mut read_up_to_18 = refused("K, n of 18", &k(), 9, 17);
     read_up_to_18.lent.n = 18;
@@ -157,7 +157,7 @@ fn last_nodes() -> Vec<CheckCase> {
 }
 
 /// Eight policies, and a ninth. Policy 0 is record 6, policy 8 record 14.
-fn policy_counts() -> Vec<CheckCase> {
+fn policy_counts() -> Vec<Case> {
     let eight = |last: Node| {
         let seven = (0..7).flat_map(|number| policy(number, &[r(X, X)]));
         let mut records = bare();
@@ -179,7 +179,7 @@ fn policy_counts() -> Vec<CheckCase> {
 }
 
 /// 32 nodes, and a 33rd. Node 0 is record 6, node 32 record 38.
-fn node_counts() -> Vec<CheckCase> {
+fn node_counts() -> Vec<Case> {
     let filled = |count: usize, last: &[Node]| {
         let mut nodes = vec![r(X, Y); count];
         nodes.extend(last);

@@ -2,8 +2,8 @@
 
 use super::commands::inserted;
 use super::starred::{k_with_rule, K_WORK};
-use super::{bare, lend, RouteCase, SPARE};
-use crate::gate::Routed;
+use super::{bare, lend, Case, SPARE};
+use crate::gate::{Answer, Call, Lent};
 use crate::k::{first_add, k};
 use crate::networks::{all_widths, work_needed, Widths};
 use crate::records::{
@@ -17,7 +17,7 @@ const BEFORE: u16 = 0xBEEF;
 /// Entries beyond the 2^N + 1 that a list has at least.
 const MORE: usize = 3;
 
-pub fn cases() -> Vec<RouteCase> {
+pub fn cases() -> Vec<Case> {
     [
         on_k(),
         loops(),
@@ -34,41 +34,41 @@ pub fn cases() -> Vec<RouteCase> {
 }
 
 /// The case of a route; with no states, of there being none.
-fn case(name: &str, records: &[Record], [start, end]: [usize; 2], route: &[usize]) -> RouteCase {
+fn case(name: &str, records: &[Record], [start, end]: [usize; 2], route: &[usize]) -> Case {
+    let answer = match route.len() {
+        0 => Answer::NoRoute,
+        count => Answer::Found { count },
+    };
     let zeroed = work_needed(records);
     let states = 1 << Widths::of(&records[0]).bits();
-    RouteCase {
-        name: format!("{name}: {start} to {end}"),
-        lent: lend(records, zeroed + SPARE),
-        start,
-        end,
-        list: vec![BEFORE; states + 1 + MORE],
-        answer: match route.len() {
-            0 => Routed::NoRoute,
-            count => Routed::Found { count },
-        },
-        route: route.iter().map(|state| *state as u16).collect(),
-        zeroed,
-    }
+    let lent = with_list(lend(records, zeroed + SPARE), states + 1 + MORE);
+    let listed = route.iter().map(|state| *state as u16).collect();
+    let name = format!("{name}: {start} to {end}");
+    Case { zeroed, listed, ..Case::on(&name, lent, Call::Route { start, end }, answer) }
 }
 
-fn found(name: &str, records: &[Record], route: &[usize]) -> RouteCase {
+/// The buffers with a list of so many entries.
+fn with_list(lent: Lent, entries: usize) -> Lent {
+    Lent { list: vec![BEFORE; entries], ..lent }
+}
+
+fn found(name: &str, records: &[Record], route: &[usize]) -> Case {
     case(name, records, [route[0], route[route.len() - 1]], route)
 }
 
-fn none(name: &str, records: &[Record], start: usize, end: usize) -> RouteCase {
+fn none(name: &str, records: &[Record], start: usize, end: usize) -> Case {
     case(name, records, [start, end], &[])
 }
 
 /// A case refused instead.
-fn refused(case: RouteCase, number: usize) -> RouteCase {
-    let answer = Routed::Refused { number, place: 0 };
-    RouteCase { answer, route: vec![], zeroed: 0, ..case }
+fn refused(case: Case, number: usize) -> Case {
+    let answer = Answer::Refused { number, place: 0 };
+    Case { answer, listed: vec![], zeroed: 0, ..case }
 }
 
 /// State 2 reaches 20, 10 and 28 only; header 1 gets through as soon as a rule lets it, and the
 /// network is violated then.
-fn on_k() -> Vec<RouteCase> {
+fn on_k() -> Vec<Case> {
     let route = [2, 20, 10, 28];
     let mut cases = vec![none("K", &k(), 28, 2), none("K", &k(), 3, 29)];
     for end in 0..32 {
@@ -90,7 +90,7 @@ fn turning(rules: &[Record]) -> Vec<Record> {
 }
 
 /// From a state to itself: a step turns arriving into departing or back, so two steps at least.
-fn loops() -> Vec<RouteCase> {
+fn loops() -> Vec<Case> {
     let from_1 = |header, actions: &[Action]| rule(0, 1, [1, 3], header, actions);
     let same = turning(&[rule(0, 1, ANY, ANY, &[output(2, 3)])]);
     let changing = turning(&[
@@ -111,7 +111,7 @@ fn loops() -> Vec<RouteCase> {
 }
 
 /// OUTPUT never leads back over the link of arrival, IN_PORT always.
-fn returns() -> Vec<RouteCase> {
+fn returns() -> Vec<Case> {
     let turning_by = |actions: &[Action]| turning(&[rule(0, 1, ANY, ANY, actions)]);
     let back = turning_by(&[IN_PORT]);
     let to_2 = turning_by(&[output(2, 3)]);
@@ -132,7 +132,7 @@ fn returns() -> Vec<RouteCase> {
 
 /// K whose rule A runs group 1: it sends header 1 to drop, and on to group 0, which sends to port 2. A
 /// way through groups is one step.
-fn through_groups() -> Vec<RouteCase> {
+fn through_groups() -> Vec<Case> {
     let mut records = k();
     records[4] = rule(0, 10, [1, 3], [0, 1], &[run(1)]);
     records.push(group(0, 0, &[to_port(ANY, 2)]));
@@ -148,7 +148,7 @@ fn through_groups() -> Vec<RouteCase> {
 
 /// K with a second rule of A's or B's priority, behind the others or before them: it adds routes and
 /// takes none away. One of higher priority takes A's away.
-fn by_equals() -> Vec<RouteCase> {
+fn by_equals() -> Vec<Case> {
     let setting = [set(1, 1), output(2, 3)];
     let set_at_0 = rule(0, 10, [1, 3], ANY, &setting);
     let set_at_1 = rule(1, 10, ANY, [0, 1], &setting);
@@ -199,7 +199,7 @@ fn forked_by_equals(rules: [Record; 2]) -> Vec<Record> {
 }
 
 /// Fewest steps first; among as many, the smaller state at the first difference.
-fn choices() -> Vec<RouteCase> {
+fn choices() -> Vec<Case> {
     let as_many = forked(&[output(6, 7)]);
     let longer = forked(&[output(2, 7)]);
     let later_header = forked(&[set(1, 1), output(6, 7)]);
@@ -222,7 +222,7 @@ fn choices() -> Vec<RouteCase> {
 }
 
 /// The longest routes and loops of every width: 897 and 896 steps at N = 10 with port width 4.
-fn longest() -> Vec<RouteCase> {
+fn longest() -> Vec<Case> {
     let case = |of: Widths| {
         let name = format!("longest, widths {} {} {}", of.h, of.p, of.w);
         let (long, round) = (winding(of), looping(of));
@@ -237,7 +237,7 @@ fn longest() -> Vec<RouteCase> {
 }
 
 /// Row 14: 2^N − 1 is a state, and nothing from 2^N on, whatever its low bits are.
-fn states() -> Vec<RouteCase> {
+fn states() -> Vec<Case> {
     let mut cases = vec![none("last state", &k(), 31, 2), none("last state", &k(), 2, 31)];
     for state in [32, 34, 1 << 16, 2 + (1 << 16), 2 + (1 << 32), 2 + (1 << 63), usize::MAX] {
         for ends in [[state, 28], [2, state], [state, state]] {
@@ -262,32 +262,31 @@ fn one_switch(bits: u8) -> Vec<Record> {
 }
 
 /// Row 15: a list of 2^N + 1 entries, and of fewer.
-fn lists() -> Vec<RouteCase> {
-    let with_list = |case: RouteCase, entries: usize| RouteCase {
+fn lists() -> Vec<Case> {
+    let listing = |case: Case, entries: usize| Case {
         name: format!("{}, list of {entries}", case.name),
-        list: vec![BEFORE; entries],
+        lent: with_list(case.lent, entries),
         ..case
     };
     let route = || found("K", &k(), &[2, 20, 10, 28]);
-    let mut cases = vec![with_list(route(), 33), with_list(route(), 5_000)];
+    let mut cases = vec![listing(route(), 33), listing(route(), 5_000)];
     for entries in [0, 1, 4, 31, 32] {
-        cases.push(with_list(refused(route(), 15), entries));
-        cases.push(with_list(refused(none("K", &k(), 28, 2), 15), entries));
+        cases.push(listing(refused(route(), 15), entries));
+        cases.push(listing(refused(none("K", &k(), 28, 2), 15), entries));
     }
     for bits in 4..=10 {
         let missed = none("one switch", &one_switch(bits), 0, 0);
-        cases.push(with_list(missed.clone(), (1 << bits) + 1));
-        cases.push(with_list(refused(missed, 15), 1 << bits));
+        cases.push(listing(missed.clone(), (1 << bits) + 1));
+        cases.push(listing(refused(missed, 15), 1 << bits));
     }
     cases
 }
 
 /// Row 11 comes before row 14, and that before row 15.
-fn order() -> Vec<RouteCase> {
-    let lent_so = |work: usize, start: usize, entries: usize, number: usize| RouteCase {
+fn order() -> Vec<Case> {
+    let lent_so = |work: usize, start: usize, entries: usize, number: usize| Case {
         name: format!("K, work of {work}, start {start}, list of {entries}"),
-        lent: lend(&k(), work),
-        list: vec![BEFORE; entries],
+        lent: with_list(lend(&k(), work), entries),
         ..refused(none("K", &k(), start, 28), number)
     };
     vec![

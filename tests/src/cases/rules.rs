@@ -1,9 +1,9 @@
 //! Row 8, the same rule twice, and row 10 for rules.
 
-use super::{bare, holds, refused, CheckCase, BARE_WORK};
+use super::{bare, holds, refused, Case, BARE_WORK};
 use crate::records::{output, rule, set, with, Pattern, Record, ANY};
 
-pub fn cases() -> Vec<CheckCase> {
+pub fn cases() -> Vec<Case> {
     [same_rules(), other_rules(), counts()].concat()
 }
 
@@ -12,7 +12,7 @@ fn with_rules(rules: &[Record]) -> Vec<Record> {
     [&bare(), rules].concat()
 }
 
-fn same_rules() -> Vec<CheckCase> {
+fn same_rules() -> Vec<Case> {
     let (a, b) = (bare()[4], bare()[5]);
     let other_actions = rule(0, 10, [1, 3], [0, 1], &[set(1, 1), output(0, 0)]);
     let new = rule(0, 11, ANY, ANY, &[output(0, 0)]);
@@ -28,7 +28,7 @@ fn same_rules() -> Vec<CheckCase> {
 }
 
 /// Rules that differ from A in one part only.
-fn other_rules() -> Vec<CheckCase> {
+fn other_rules() -> Vec<Case> {
     let case = |name: &str, switch: u8, priority: u16, port: Pattern, header: Pattern| {
         let other = rule(switch, priority, port, header, &[output(2, 3)]);
         holds(name, &with_rules(&[other]), BARE_WORK)
@@ -45,7 +45,7 @@ fn other_rules() -> Vec<CheckCase> {
 }
 
 /// The first rule is record 4, so the 257th is record 260.
-fn counts() -> Vec<CheckCase> {
+fn counts() -> Vec<Case> {
     let many = |count: u16| {
         let further = (2..count).map(|number| rule(0, number + 100, ANY, ANY, &[output(0, 0)]));
         with_rules(&further.collect::<Vec<Record>>())

@@ -1,7 +1,7 @@
 //! The starred cases and the edges, each on network K.
 
 use super::commands::{blocked, forwarded, refused};
-use super::{bare, holds, violated, CheckCase, CommandCase};
+use super::{bare, holds, violated, Case};
 use crate::formulas::{leads, policy, r, some, tc, X, Y};
 use crate::k::{delete_d, dropping_add, first_add, k, k_with_d, second_add, setting_add};
 use crate::networks::planes;
@@ -10,7 +10,7 @@ use crate::records::{delete, output, rule, with, Record, ANY};
 /// The work that K needs: 14 nodes and two more planes of 128 bytes.
 pub const K_WORK: usize = 2_048;
 
-pub fn checks() -> Vec<CheckCase> {
+pub fn checks() -> Vec<Case> {
     let mut cases = vec![
         holds("K", &k(), K_WORK),
         holds("K with the first add's rule and D", &k_with_d(), K_WORK),
@@ -21,7 +21,7 @@ pub fn checks() -> Vec<CheckCase> {
     cases
 }
 
-pub fn commands() -> Vec<CommandCase> {
+pub fn commands() -> Vec<Case> {
     let mut dropped = k();
     dropped[4] = with(dropping_add(), 0, 4);
     let second = k_with_rule(with(second_add(), 0, 4));
@@ -55,7 +55,7 @@ pub fn k_with_rules(count: usize) -> Vec<Record> {
     records
 }
 
-fn replacing_add_to_full_table() -> CommandCase {
+fn replacing_add_to_full_table() -> Case {
     let full = k_with_rules(256);
     let mut dropped = full.clone();
     dropped[4] = with(dropping_add(), 0, 4);
@@ -64,7 +64,7 @@ fn replacing_add_to_full_table() -> CommandCase {
 }
 
 /// State 2 reaches 20, 10 and 28 only.
-fn reached_from_2() -> Vec<CheckCase> {
+fn reached_from_2() -> Vec<Case> {
     let case = |state: usize| {
         let formula = leads(2, state, &[r(X, Y), tc(0, X, Y)], 5);
         let records = [bare(), policy(0, &formula)].concat();
@@ -78,7 +78,7 @@ fn reached_from_2() -> Vec<CheckCase> {
 }
 
 /// No state of K lies on a loop.
-fn closure_nowhere(name: &str, variable: u8) -> CheckCase {
+fn closure_nowhere(name: &str, variable: u8) -> Case {
     let formula = [r(X, Y), tc(0, variable, variable), some(1, variable)];
     holds(name, &[bare(), policy(0, &formula)].concat(), 640)
 }

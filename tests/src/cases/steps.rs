@@ -1,6 +1,6 @@
 //! One step: whole tables of steps, written by hand.
 
-use super::{bare, holds, violated, CheckCase};
+use super::{bare, holds, violated, Case};
 use crate::formulas::{leads, policy, r, X, Y};
 use crate::networks::planes;
 use crate::records::{link, miss, output, rule, set, widths, Action, Record, ANY, IN_PORT};
@@ -8,12 +8,12 @@ use crate::records::{link, miss, output, rule, set, widths, Action, Record, ANY,
 /// A state and the states it steps to.
 pub type Steps = (usize, &'static [usize]);
 
-pub fn cases() -> Vec<CheckCase> {
+pub fn cases() -> Vec<Case> {
     [outputs(), returns(), headers(), priorities(), links()].concat()
 }
 
 /// One case for each two states: a policy that forbids just the step from one to the other.
-pub fn table(name: &str, records: &[Record], bits: u8, steps: &[Steps]) -> Vec<CheckCase> {
+pub fn table(name: &str, records: &[Record], bits: u8, steps: &[Steps]) -> Vec<Case> {
     let groups = records.iter().position(|record| record[0] == 9).unwrap_or(records.len());
     let mut cases = vec![];
     for from in 0..1 << bits {
@@ -38,7 +38,7 @@ pub fn one_switch(links: &[Record], missed: &[Action], rules: &[Record]) -> Vec<
 }
 
 /// A table for one switch whose miss record alone acts.
-fn missed(name: &str, actions: &[Action], steps: &[Steps]) -> Vec<CheckCase> {
+fn missed(name: &str, actions: &[Action], steps: &[Steps]) -> Vec<Case> {
     table(name, &one_switch(&[], actions, &[]), 4, steps)
 }
 
@@ -62,7 +62,7 @@ pub const TO_1_AND_2: ByHeader = [&[10, 12], &[11, 13]];
 pub const TO_CONTROLLER: ByHeader = [&[14], &[15]];
 
 /// Where OUTPUT goes: never to the arrival port, even if that is the only one.
-fn outputs() -> Vec<CheckCase> {
+fn outputs() -> Vec<Case> {
     let drop = from_ports([TO_DROP; 3]);
     let port_1 = from_ports([NOWHERE, TO_1, TO_1]);
     let port_2 = from_ports([TO_2, NOWHERE, TO_2]);
@@ -84,7 +84,7 @@ fn outputs() -> Vec<CheckCase> {
 }
 
 /// IN_PORT goes to the arrival port, the controller too, and takes nothing from other actions.
-fn returns() -> Vec<CheckCase> {
+fn returns() -> Vec<Case> {
     let back = from_ports([TO_1, TO_2, TO_CONTROLLER]);
     let with_ordinary = from_ports([TO_1_AND_2, TO_1_AND_2, [&[10, 12, 14], &[11, 13, 15]]]);
     let with_port_1 = from_ports([TO_1, TO_1_AND_2, [&[10, 14], &[11, 15]]]);
@@ -102,7 +102,7 @@ fn returns() -> Vec<CheckCase> {
 }
 
 /// Copies keep the header of their moment.
-fn headers() -> Vec<CheckCase> {
+fn headers() -> Vec<Case> {
     let later_set = [output(1, 3), set(1, 1), output(2, 3)];
     let twice_set = [set(0, 1), output(1, 3), set(1, 1), output(1, 3)];
     let starred_set = [set(0, 0), output(1, 3)];
@@ -130,7 +130,7 @@ fn headers() -> Vec<CheckCase> {
 
 /// The highest priority decides, and the miss record only where no rule matches, even if what decides
 /// sends nothing. Equal priorities have cases of their own.
-fn priorities() -> Vec<CheckCase> {
+fn priorities() -> Vec<Case> {
     let drop = [output(0, 3)];
     let by_number = [
         rule(0, 1, ANY, ANY, &[output(1, 3)]),
@@ -156,7 +156,7 @@ fn priorities() -> Vec<CheckCase> {
 }
 
 /// A departing state at a linked point arrives at the other end.
-fn links() -> Vec<CheckCase> {
+fn links() -> Vec<Case> {
     let turning = [link(0, 1, 0, 2)];
     let over: [Steps; 4] = [(10, &[4]), (11, &[5]), (12, &[2]), (13, &[3])];
     let dropped = [from_ports([TO_DROP; 3]), over.to_vec()].concat();

@@ -1,13 +1,13 @@
 //! What policy nodes mean, on small networks with answers worked out by hand.
 
-use super::{holds, violated, CheckCase};
+use super::{holds, violated, Case};
 use crate::formulas::{
     all, and, bit, external, leads, not, or, policy, push, r, some, tc, Node, X, Y,
 };
 use crate::networks::planes;
 use crate::records::{link, miss, output, rule, set, widths, Record, ANY, IN_PORT};
 
-pub fn cases() -> Vec<CheckCase> {
+pub fn cases() -> Vec<Case> {
     [leaves(), quantifiers(), closures(), closure_tables(), long_paths(), lowest_policies()]
         .concat()
 }
@@ -31,7 +31,7 @@ fn to_port_1(links: &[Record]) -> Vec<Record> {
 }
 
 /// The lowest state that breaks a policy, if any does.
-fn lowest(network: &[Record], nodes: &[Node], state: Option<usize>) -> CheckCase {
+fn lowest(network: &[Record], nodes: &[Node], state: Option<usize>) -> Case {
     let records = [network, &policy(0, nodes)].concat();
     let zeroed = planes(nodes.len() + 2, 4);
     let name = format!("{} records, nodes {nodes:?}", network.len());
@@ -41,7 +41,7 @@ fn lowest(network: &[Record], nodes: &[Node], state: Option<usize>) -> CheckCase
     }
 }
 
-fn leaves() -> Vec<CheckCase> {
+fn leaves() -> Vec<Case> {
     let case = |nodes: &[Node], state| lowest(&unlinked(), nodes, state);
     vec![
         case(&[bit(X, 0)], Some(1)),
@@ -61,7 +61,7 @@ fn leaves() -> Vec<CheckCase> {
     ]
 }
 
-fn quantifiers() -> Vec<CheckCase> {
+fn quantifiers() -> Vec<Case> {
     let case = |nodes: &[Node], state| lowest(&unlinked(), nodes, state);
     let is_last_state =
         [bit(Y, 0), bit(Y, 1), bit(Y, 2), bit(Y, 3), and(0, 1), and(2, 3), and(4, 5)];
@@ -91,7 +91,7 @@ fn quantifiers() -> Vec<CheckCase> {
     ]
 }
 
-fn closures() -> Vec<CheckCase> {
+fn closures() -> Vec<Case> {
     let open = |nodes: &[Node], state| lowest(&unlinked(), nodes, state);
     let loops = |nodes: &[Node], state| lowest(&looping(), nodes, state);
     vec![
@@ -117,7 +117,7 @@ fn closures() -> Vec<CheckCase> {
 }
 
 /// Which state reaches which on the looping network, by several closures.
-fn closure_tables() -> Vec<CheckCase> {
+fn closure_tables() -> Vec<Case> {
     let reached: [(usize, &[usize]); 10] = [
         (2, &[10, 4]),
         (3, &[11, 5]),
@@ -155,7 +155,7 @@ fn closure_tables() -> Vec<CheckCase> {
 /// One switch, ports 1 and 2 linked: what arrives at port 2 is sent to port 1 and so arrives at port
 /// 2 again. Each passage adds 1 to the header, up to the highest. The path from header 0 is far
 /// longer than the number of switches.
-fn long_paths() -> Vec<CheckCase> {
+fn long_paths() -> Vec<Case> {
     let mut cases = vec![];
     for h in [3, 6] {
         let bits = 1 + h + 2;
@@ -200,7 +200,7 @@ fn from_no_bit_to_every_bit(h: u8) -> Vec<Node> {
 }
 
 /// The lowest broken policy comes before the lowest state.
-fn lowest_policies() -> Vec<CheckCase> {
+fn lowest_policies() -> Vec<Case> {
     let records = |policies: &[Node]| {
         let mut records = unlinked();
         for (number, node) in policies.iter().enumerate() {

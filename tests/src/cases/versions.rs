@@ -7,21 +7,19 @@ use super::commands::{
     setting_a,
 };
 use super::starred::{k_with_rule, k_with_rules, K_WORK};
-use super::{
-    all_commands, bare, checks_of_rows, holds, refused, violated, CheckCase, CommandCase, BARE_WORK,
-};
-use crate::gate::{Commanded, Lent, RECORD, STORE};
+use super::{all_commands, bare, checks_of_rows, holds, refused, violated, Case, BARE_WORK};
+use crate::gate::{Call, Lent, STORE};
 use crate::k::{dropping_add, first_add, k, k_set, k_with_d, rule_d, second_add, setting_add};
 use crate::records::{
     add, delete, group, in_version, modify, output, rule, run, set, to_port, with, Record, ANY,
     IN_PORT, VERSIONS,
 };
 
-pub fn cases() -> Vec<CheckCase> {
+pub fn cases() -> Vec<Case> {
     [bytes(), rows_before(), rows_after(), verdicts()].concat()
 }
 
-pub fn commands() -> Vec<CommandCase> {
+pub fn commands() -> Vec<Case> {
     [
         faulty_versions(),
         absent_rules(),
@@ -52,7 +50,7 @@ fn second() -> Record {
 }
 
 /// Every value of byte 4.
-fn bytes() -> Vec<CheckCase> {
+fn bytes() -> Vec<Case> {
     let case = |version: u8| {
         let name = format!("version {version}");
         match VERSIONS.contains(&version) {
@@ -64,7 +62,7 @@ fn bytes() -> Vec<CheckCase> {
 }
 
 /// Rows 1 to 4 come before the row of the version.
-fn rows_before() -> Vec<CheckCase> {
+fn rows_before() -> Vec<Case> {
     let mut cases = vec![];
     for version in [1, 2, 255] {
         let mut case = |what: &str, changes: &[(usize, usize, u8)], number: usize| {
@@ -89,7 +87,7 @@ fn rows_before() -> Vec<CheckCase> {
 }
 
 /// The bytes behind the version are unnamed, and later records come later.
-fn rows_after() -> Vec<CheckCase> {
+fn rows_after() -> Vec<Case> {
     let later = k_set(&[(3, 0, 0)]);
     let mut cases = vec![
         refused("version 2, a later fault", &in_version(&later, 2), 5, 0),
@@ -106,7 +104,7 @@ fn rows_after() -> Vec<CheckCase> {
 }
 
 /// Policies, IN_PORT and groups are the same in every version.
-fn verdicts() -> Vec<CheckCase> {
+fn verdicts() -> Vec<Case> {
     let case = |version: u8| {
         let name = |what: &str| format!("version {version}, {what}");
         let back = rule(1, 5, [2, 3], ANY, &[IN_PORT]);
@@ -127,7 +125,7 @@ fn verdicts() -> Vec<CheckCase> {
 }
 
 /// Row 5 for the network, before any row of the command.
-fn faulty_versions() -> Vec<CommandCase> {
+fn faulty_versions() -> Vec<Case> {
     let mut cases = vec![];
     for version in [2, 3, 5, 255] {
         let commands = [second_add(), modify(second()), delete(second()), with(second_add(), 0, 9)];
@@ -140,7 +138,7 @@ fn faulty_versions() -> Vec<CommandCase> {
 }
 
 /// Modifies of rules that K has not.
-fn absent_rules() -> Vec<CommandCase> {
+fn absent_rules() -> Vec<Case> {
     let mut cases = vec![
         forwarded(
             "version 1, the second add as a modify",
@@ -162,7 +160,7 @@ fn absent_rules() -> Vec<CommandCase> {
 }
 
 /// Of a rule that is there, a modify replaces bytes 8 to 20 in every version.
-fn present_rules() -> Vec<CommandCase> {
+fn present_rules() -> Vec<Case> {
     let case = |version: u8| {
         let name = |what: &str| format!("version {version}, modify of {what}");
         let [a, b] = [k()[4], k()[5]];
@@ -184,7 +182,7 @@ fn present_rules() -> Vec<CommandCase> {
 }
 
 /// What follows on a modify that added, in version 1: the rule is there.
-fn again() -> Vec<CommandCase> {
+fn again() -> Vec<Case> {
     let before = in_version(&k_with_rule(second()), 1);
     let dropping = with(second(), 10, 0);
     let changed = replaced(&before, 6, dropping);
@@ -202,7 +200,7 @@ fn again() -> Vec<CommandCase> {
 }
 
 /// A delete without its rule changes nothing in any version.
-fn deletes() -> Vec<CommandCase> {
+fn deletes() -> Vec<Case> {
     let case = |version: u8| {
         let name = format!("version {version}, delete of ");
         let without_a = removed(&k_in(version), 4);
@@ -219,7 +217,7 @@ fn deletes() -> Vec<CommandCase> {
 }
 
 /// Behind the last rule, or behind the last miss if there is none; before policies and groups.
-fn places() -> Vec<CommandCase> {
+fn places() -> Vec<Case> {
     let d = rule_d();
     let groups = [group(0, 3, &[to_port(ANY, 1)]), group(1, 4, &[to_port(ANY, 0)])];
     let case = |name: &str, before: &[Record], place: usize, zeroed: usize| {
@@ -250,7 +248,7 @@ fn places() -> Vec<CommandCase> {
 }
 
 /// K with the first add's rule, and D, which mends it.
-fn broken_networks() -> Vec<CommandCase> {
+fn broken_networks() -> Vec<Case> {
     let broken = |version: u8| in_version(&k_with_rule(first()), version);
     let absent = rule(1, 1, ANY, ANY, &[output(0, 3)]);
     let mut cases = vec![
@@ -276,7 +274,7 @@ fn full() -> Vec<Record> {
 }
 
 /// Rows 12 and 16 come before row 13, which a modify meets only where it would add.
-fn full_tables_of_old() -> Vec<CommandCase> {
+fn full_tables_of_old() -> Vec<Case> {
     let full = in_version(&full(), 1);
     let last = full[259];
     let fewer = removed(&full, 259);
@@ -318,7 +316,7 @@ fn full_tables_of_old() -> Vec<CommandCase> {
 }
 
 /// Versions 0 and 4: no modify meets row 13.
-fn full_tables_of_new() -> Vec<CommandCase> {
+fn full_tables_of_new() -> Vec<Case> {
     let case = |version: u8| {
         let full = in_version(&full(), version);
         let name = |what: &str| format!("version {version}, 256 rules, {what}");
@@ -339,7 +337,7 @@ fn full_tables_of_new() -> Vec<CommandCase> {
 }
 
 /// The largest network in version 1. Its rules are records 129 to 384.
-fn largest() -> Vec<CommandCase> {
+fn largest() -> Vec<Case> {
     let records = in_version(&largest_holding(), 1);
     let first = records[129];
     let fewer = removed(&records, 129);
@@ -359,32 +357,16 @@ fn largest() -> Vec<CommandCase> {
     ]
 }
 
-/// The check cases of the rows without a version, in versions 1 and 4: the answer is the same.
-pub fn checks_in_each() -> Vec<CheckCase> {
-    let unnamed = checks_of_rows().into_iter().filter(|case| is_unnamed(&case.lent));
-    let in_each = |case: CheckCase| {
-        [1, 4].map(|version| CheckCase {
-            name: format!("{}, in version {version}", case.name),
-            lent: lent_in(&case.lent, version),
-            ..case.clone()
-        })
-    };
-    unnamed.flat_map(in_each).collect()
-}
-
-/// Every command case without a version, in versions 4 and 1: the answer is the same, but for a
-/// modify without its rule in version 1. There each add is given as a modify too, which must do
-/// what the add does, whether or not its rule is there.
-pub fn commands_in_each() -> Vec<CommandCase> {
+/// The cases of the rows and of the commands without a version, in versions 4 and 1: the answer is the
+/// same, but for a modify without its rule in version 1. There each add is given as a modify too,
+/// which must do what the add does, whether or not its rule is there.
+pub fn in_each() -> Vec<Case> {
     let mut cases = vec![];
-    for case in all_commands().iter().filter(|case| is_unnamed(&case.lent)) {
-        cases.push(command_in(case, 4));
-        let old = command_in(case, 1);
-        if case.given.first() == Some(&6) {
-            let name = format!("{}, as a modify", old.name);
-            let given = [&[7], &old.given[1..]].concat();
-            cases.push(CommandCase { name, given, ..old.clone() });
-        }
+    let all = [checks_of_rows(), all_commands()].concat();
+    for case in all.iter().filter(|case| is_unnamed(&case.lent)) {
+        let old = in_one(case, 1);
+        cases.push(in_one(case, 4));
+        cases.extend(add_as_modify(&old));
         if !is_judged_without_its_rule(case) {
             cases.push(old);
         }
@@ -392,15 +374,21 @@ pub fn commands_in_each() -> Vec<CommandCase> {
     cases
 }
 
-fn command_in(case: &CommandCase, version: u8) -> CommandCase {
-    let mut store_after = case.store_after.clone();
-    store_after[4] = version;
-    CommandCase {
+fn in_one(case: &Case, version: u8) -> Case {
+    Case {
         name: format!("{}, in version {version}", case.name),
         lent: lent_in(&case.lent, version),
-        store_after,
+        installed: case.installed.as_ref().map(|records| in_version(records, version)),
         ..case.clone()
     }
+}
+
+/// The case of an add as one of the modify.
+fn add_as_modify(case: &Case) -> Option<Case> {
+    let Call::Command(given) = &case.call else { return None };
+    let [6, rest @ ..] = &given[..] else { return None };
+    let call = Call::Command([&[7], rest].concat());
+    Some(Case { name: format!("{}, as a modify", case.name), call, ..case.clone() })
 }
 
 fn lent_in(lent: &Lent, version: u8) -> Lent {
@@ -414,11 +402,10 @@ fn is_unnamed(lent: &Lent) -> bool {
 }
 
 /// Whether a case is a modify that no row refuses and whose rule is not in the network.
-fn is_judged_without_its_rule(case: &CommandCase) -> bool {
-    let mut records = case.lent.store.chunks(RECORD).take(case.lent.n);
-    let is_refused = matches!(case.answer, Commanded::Refused { .. });
-    let is_modify = case.given.first() == Some(&7);
-    is_modify
-        && !is_refused
-        && !records.any(|record| record[0] == 4 && record[1..8] == case.given[1..8])
+fn is_judged_without_its_rule(case: &Case) -> bool {
+    let Call::Command(given) = &case.call else { return false };
+    let is_its = |record: &Record| record[0] == 4 && record[1..8] == given[1..8];
+    given.first() == Some(&7)
+        && !case.answer.is_refused()
+        && !case.lent.records().iter().any(is_its)
 }

@@ -1,10 +1,10 @@
 //! Row 4: the widths.
 
-use super::{holds, refused, CheckCase};
+use super::{holds, refused, Case};
 use crate::networks::planes;
 use crate::records::{miss, output, widths, with, Record};
 
-pub fn cases() -> Vec<CheckCase> {
+pub fn cases() -> Vec<Case> {
     let mut cases = vec![
         refused("every width 255", &network(255, 255, 255), 4, 0),
         refused("H of 255", &network(255, 2, 0), 4, 0),
@@ -24,13 +24,13 @@ pub fn cases() -> Vec<CheckCase> {
 }
 
 /// Row 4 is the lower number.
-fn stray_byte(name: &str, h: u8, number: usize) -> CheckCase {
+fn stray_byte(name: &str, h: u8, number: usize) -> Case {
     let mut records = network(h, 2, 0);
     records[0] = with(records[0], 5, 1);
     refused(name, &records, number, 0)
 }
 
-fn grid_case(h: u8, p: u8, w: u8) -> CheckCase {
+fn grid_case(h: u8, p: u8, w: u8) -> Case {
     let name = format!("H {h}, P {p}, W {w}");
     let bits = 1 + h + p + w;
     let each = (1..=6).contains(&h) && (2..=4).contains(&p) && w <= 4;

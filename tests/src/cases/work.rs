@@ -2,13 +2,13 @@
 
 use super::arguments::{largest_holding, LARGEST_WORK};
 use super::starred::K_WORK;
-use super::{bare, holds, lend, CheckCase};
+use super::{bare, holds, lend, Case};
 use crate::formulas::{policy, r, Node, X};
-use crate::gate::Checked;
+use crate::gate::Answer;
 use crate::k::k;
 use crate::records::{miss, output, widths, Record};
 
-pub fn cases() -> Vec<CheckCase> {
+pub fn cases() -> Vec<Case> {
     let mut cases = vec![];
     cases.extend(edge("K", &k(), K_WORK));
     cases.extend(edge("N of 4, no policy", &one_switch(1, 2), 64));
@@ -28,12 +28,12 @@ pub fn cases() -> Vec<CheckCase> {
 }
 
 /// Just enough work and one byte less, for a network that holds.
-fn edge(name: &str, records: &[Record], needed: usize) -> [CheckCase; 2] {
+fn edge(name: &str, records: &[Record], needed: usize) -> [Case; 2] {
     let mut just = holds(&format!("{name}, just enough work"), records, needed);
     just.lent = lend(records, needed);
     let mut short = holds(&format!("{name}, one byte of work less"), records, 0);
     short.lent = lend(records, needed - 1);
-    short.answer = Checked::Refused { number: 11, place: 0 };
+    short.answer = Answer::Refused { number: 11, place: 0 };
     [just, short]
 }
 

@@ -1,11 +1,14 @@
 //! Two gates run on the same buffers; a difference is told in words.
 
 pub mod routes;
+mod tally;
+
+pub use tally::{Tally, ADDED_BY_MODIFY, FULL_TO_MODIFY};
 
 use crate::commands::{filling_command, random_command};
 use crate::damage::damage;
 use crate::formulas::{policy, random_formula};
-use crate::gate::{Checked, Commanded, Gate, Lent, Program, Routed, MOST_RECORDS, RECORD, STORE};
+use crate::gate::{Answer, Call, Gate, Lent, Outcome, Program, STORE};
 use crate::inputs::random_input;
 use crate::networks::{
     all_widths, crowded, full_network, guarded_network, largest, random_group, random_network,
@@ -15,114 +18,54 @@ use crate::random::Random;
 use crate::records::Record;
 use crate::reordered::Reordered;
 
-/// How often each answer came.
-#[derive(Clone, Debug, Default)]
-pub struct Tally {
-    pub holds: usize,
-    pub violated: usize,
-    pub forwarded: usize,
-    pub blocked: usize,
-    pub found: usize,
-    pub no_route: usize,
-    /// States of the longest route.
-    pub longest: usize,
-    /// By number, from 1.
-    pub refused: [usize; 17],
-    /// Of the forwarded, modifies that added a rule.
-    pub added_by_modify: usize,
-    /// Of the refused, modifies that found the table full.
-    pub full_to_modify: usize,
-}
-
-impl Tally {
-    fn checked(&mut self, answer: Checked) {
-        match answer {
-            Checked::Holds => self.holds += 1,
-            Checked::Violated { .. } => self.violated += 1,
-            Checked::Refused { number, .. } => self.refused[number] += 1,
-        }
-    }
-
-    /// The answer to a command on n records.
-    fn commanded(&mut self, n: usize, given: &[u8], answer: Commanded) {
-        let is_modify = given.first() == Some(&7);
-        match answer {
-            Commanded::Forwarded { count } => {
-                self.forwarded += 1;
-                self.added_by_modify += usize::from(is_modify && count > n);
-            }
-            Commanded::Blocked { .. } => self.blocked += 1,
-            Commanded::Refused { number, .. } => {
-                self.refused[number] += 1;
-                self.full_to_modify += usize::from(is_modify && number == 13);
-            }
-        }
-    }
-
-    fn routed(&mut self, answer: Routed) {
-        match answer {
-            Routed::Found { count } => {
-                self.found += 1;
-                self.longest = self.longest.max(count);
-            }
-            Routed::NoRoute => self.no_route += 1,
-            Routed::Refused { number, .. } => self.refused[number] += 1,
-        }
-    }
-}
-
 /// Records lent in a store of random length, with random bytes behind them and in the work.
 pub fn lend(random: &mut Random, records: &[Record], work: usize) -> Lent {
     let mut store = records.concat();
     let behind = STORE.saturating_sub(store.len()) + random.below(64);
     store.extend(random.bytes(behind));
-    Lent { store, n: records.len(), work: random.bytes(work) }
+    Lent { store, n: records.len(), work: random.bytes(work), ..Lent::default() }
 }
 
-/// The check call on both gates: the answer, if answers and buffers agree.
-pub fn same_check(one: &dyn Gate, other: &dyn Gate, lent: &Lent) -> Result<Checked, String> {
-    let (mut first, mut second) = (lent.clone(), lent.clone());
-    let answer = one.check(&first.store, first.n, &mut first.work);
-    let its = other.check(&second.store, second.n, &mut second.work);
-    agree(lent, &[], (&answer, &first), (&its, &second))?;
-    Ok(answer)
+/// The outcome of a call on two gates, if it is the same.
+pub fn same(one: &dyn Gate, other: &dyn Gate, call: &Call, lent: &Lent) -> Result<Outcome, String> {
+    let must = one.outcome(call, lent);
+    let told = |difference: String| {
+        let Lent { store, n, work, list } = lent;
+        let lengths = [store.len(), work.len(), list.len()];
+        let records = lent.records();
+        format!("{difference}: {call:?}, n {n}, lengths {lengths:?}, records {records:02X?}")
+    };
+    other.outcome(call, lent).expect(&must).map_err(told)?;
+    Ok(must)
 }
 
-/// The command call on both gates: the answer and the buffers left, if they agree.
-pub fn same_command(
-    one: &dyn Gate,
-    other: &dyn Gate,
-    lent: &Lent,
-    given: &[u8],
-) -> Result<(Commanded, Lent), String> {
-    let (mut first, mut second) = (lent.clone(), lent.clone());
-    let answer = one.command(&mut first.store, first.n, &mut first.work, given);
-    let its = other.command(&mut second.store, second.n, &mut second.work, given);
-    agree(lent, given, (&answer, &first), (&its, &second))?;
-    Ok((answer, first))
+/// Two gates that are compared call by call, and what they answered.
+struct Comparison<'a> {
+    gates: [&'a dyn Gate; 2],
+    tally: Tally,
 }
 
-/// An error that shows the call, unless answers and buffers are the same.
-fn agree<A: PartialEq + std::fmt::Debug>(
-    lent: &Lent,
-    given: &[u8],
-    (answer, first): (&A, &Lent),
-    (its, second): (&A, &Lent),
-) -> Result<(), String> {
-    if answer == its && first == second {
-        return Ok(());
+impl<'a> Comparison<'a> {
+    fn of(one: &'a dyn Gate, other: &'a dyn Gate) -> Comparison<'a> {
+        Comparison { gates: [one, other], tally: Tally::default() }
     }
-    let n = lent.n.min(MOST_RECORDS).min(lent.store.len() / RECORD);
-    Err(format!(
-        "{answer:?} against {its:?}, store same: {}, work same: {}, n {}, store {}, work {}, \
-         command {given:02X?}, records {:02X?}",
-        first.store == second.store,
-        first.work == second.work,
-        lent.n,
-        lent.store.len(),
-        lent.work.len(),
-        lent.store[..n * RECORD].chunks(RECORD).collect::<Vec<_>>(),
-    ))
+
+    /// The outcome of a call, if the gates agree.
+    fn outcome(&mut self, call: &Call, lent: &Lent) -> Result<Outcome, String> {
+        let [one, other] = self.gates;
+        let outcome = same(one, other, call, lent)?;
+        self.tally.add(call, lent.n, outcome.answer);
+        Ok(outcome)
+    }
+
+    /// The next call of a series: the buffers become those of the call behind it.
+    fn go_on(&mut self, random: &mut Random, call: &Call, lent: &mut Lent) -> Result<(), String> {
+        let Outcome { answer, left } = self.outcome(call, lent)?;
+        let work = random.bytes(left.work.len());
+        *lent = Lent { work, ..left };
+        lent.go_on(answer);
+        Ok(())
+    }
 }
 
 /// Checks of sound networks, so many of each width.
@@ -134,16 +77,16 @@ pub fn sound_networks(
     most: Sizes,
 ) -> Result<Tally, String> {
     let mut random = Random::new(seed);
-    let mut tally = Tally::default();
+    let mut compared = Comparison::of(one, other);
     for of in all_widths() {
         for _ in 0..rounds {
             let records = random_network(&mut random, of, most);
             let work = random_work(&mut random, work_needed(&records));
             let lent = lend(&mut random, &records, work);
-            tally.checked(same_check(one, other, &lent)?);
+            compared.outcome(&Call::Check, &lent)?;
         }
     }
-    Ok(tally)
+    Ok(compared.tally)
 }
 
 /// A length that suffices, mostly with some to spare, or now and then just does not.
@@ -163,13 +106,13 @@ pub fn largest_networks(
     rounds: usize,
 ) -> Result<Tally, String> {
     let mut random = Random::new(seed);
-    let mut tally = Tally::default();
+    let mut compared = Comparison::of(one, other);
     for _ in 0..rounds {
         let records = largest(&mut random);
         let lent = lend(&mut random, &records, work_needed(&records));
-        tally.checked(same_check(one, other, &lent)?);
+        compared.outcome(&Call::Check, &lent)?;
     }
-    Ok(tally)
+    Ok(compared.tally)
 }
 
 /// Checks, commands and routes on damaged networks of widths up to so many bits.
@@ -181,23 +124,23 @@ pub fn damaged_networks(
     bits: u8,
 ) -> Result<Tally, String> {
     let mut random = Random::new(seed);
-    let mut tally = Tally::default();
+    let mut compared = Comparison::of(one, other);
     let widths = widths_up_to(bits);
     for _ in 0..rounds {
         let of = random.pick(&widths);
         let sound = random_network(&mut random, of, MODEST);
         let mut records = sound.clone();
         damage(&mut random, &mut records);
-        let lent = lend(&mut random, &records, 4 * work_needed(&sound));
-        tally.checked(same_check(one, other, &lent)?);
+        let mut lent = lend(&mut random, &records, 4 * work_needed(&sound));
+        compared.outcome(&Call::Check, &lent)?;
         let given = random_command(&mut random, &sound);
-        tally.commanded(lent.n, &given, same_command(one, other, &lent, &given)?.0);
-        let ends = routes::random_ends(&mut random, &sound, 1)[0];
+        compared.outcome(&Call::Command(given), &lent)?;
+        let [start, end] = routes::random_ends(&mut random, &sound, 1)[0];
         let entries = routes::random_entries(&mut random, 1 << of.bits());
-        let list = routes::random_list(&mut random, entries);
-        tally.routed(routes::same_route(one, other, &lent, ends, &list)?);
+        lent.list = routes::random_list(&mut random, entries);
+        compared.outcome(&Call::Route { start, end }, &lent)?;
     }
-    Ok(tally)
+    Ok(compared.tally)
 }
 
 /// Commands on networks with the most rules, policies, nodes and groups, and checks with one record
@@ -210,7 +153,7 @@ pub fn crowded_networks(
     bits: u8,
 ) -> Result<Tally, String> {
     let mut random = Random::new(seed);
-    let mut tally = Tally::default();
+    let mut compared = Comparison::of(one, other);
     let widths = widths_up_to(bits);
     for _ in 0..rounds {
         let of = random.pick(&widths);
@@ -218,12 +161,12 @@ pub fn crowded_networks(
         let work = work_needed(&records);
         let lent = lend(&mut random, &records, work);
         let given = random_command(&mut random, &records);
-        tally.commanded(lent.n, &given, same_command(one, other, &lent, &given)?.0);
+        compared.outcome(&Call::Command(given), &lent)?;
         insert_one_more(&mut random, of, &mut records);
         let lent = lend(&mut random, &records, work);
-        tally.checked(same_check(one, other, &lent)?);
+        compared.outcome(&Call::Check, &lent)?;
     }
-    Ok(tally)
+    Ok(compared.tally)
 }
 
 /// Checks of networks with the most rules, of which one has the key of an earlier one: row 8 at its place,
@@ -281,8 +224,8 @@ fn expect_refusal(
 ) -> Result<(), String> {
     let work = random.below(64);
     let lent = lend(random, records, work);
-    let answer = same_check(one, other, &lent)?;
-    if answer == (Checked::Refused { number, place }) {
+    let answer = same(one, other, &Call::Check, &lent)?.answer;
+    if answer == (Answer::Refused { number, place }) {
         return Ok(());
     }
     Err(format!("{answer:?}, not row {number} at {place}"))
@@ -320,17 +263,17 @@ pub fn series(
     length: usize,
 ) -> Result<Tally, String> {
     let mut random = Random::new(seed);
-    let mut tally = Tally::default();
+    let mut compared = Comparison::of(one, other);
     let widths = widths_up_to(bits);
     for _ in 0..rounds {
         let of = random.pick(&widths);
         let mut lent = holding_network(&mut random, one, of);
         for _ in 0..length {
-            let given = random_command(&mut random, &records_of(&lent));
-            one_more(one, other, &mut random, &mut lent, &given, &mut tally)?;
+            let given = random_command(&mut random, lent.records());
+            compared.go_on(&mut random, &Call::Command(given), &mut lent)?;
         }
     }
-    Ok(tally)
+    Ok(compared.tally)
 }
 
 /// Series on networks whose table is full or almost.
@@ -343,36 +286,17 @@ pub fn full_tables(
     length: usize,
 ) -> Result<Tally, String> {
     let mut random = Random::new(seed);
-    let mut tally = Tally::default();
+    let mut compared = Comparison::of(one, other);
     let widths = widths_up_to(bits);
     for _ in 0..rounds {
         let of = random.pick(&widths);
         let mut lent = holding(&mut random, one, |random| full_network(random, of));
         for _ in 0..length {
-            let given = filling_command(&mut random, &records_of(&lent));
-            one_more(one, other, &mut random, &mut lent, &given, &mut tally)?;
+            let given = filling_command(&mut random, lent.records());
+            compared.go_on(&mut random, &Call::Command(given), &mut lent)?;
         }
     }
-    Ok(tally)
-}
-
-/// The next command of a series.
-fn one_more(
-    one: &dyn Gate,
-    other: &dyn Gate,
-    random: &mut Random,
-    lent: &mut Lent,
-    given: &[u8],
-    tally: &mut Tally,
-) -> Result<(), String> {
-    let (answer, left) = same_command(one, other, lent, given)?;
-    tally.commanded(lent.n, given, answer);
-    lent.store = left.store;
-    if let Commanded::Forwarded { count } = answer {
-        lent.n = count;
-    }
-    lent.work = random.bytes(lent.work.len());
-    Ok(())
+    Ok(compared.tally)
 }
 
 /// A gate on networks and on the same with their rules in any order: checks, commands and routes.
@@ -423,16 +347,9 @@ fn holding(
     for _ in 0..1_000 {
         let records = network(random);
         let lent = lend(random, &records, work_needed(&records));
-        let answer = gate.check(&lent.store, lent.n, &mut lent.work.clone());
-        if answer == Checked::Holds {
+        if gate.answer(&Call::Check, &mut lent.clone()) == Answer::Holds {
             return lent;
         }
     }
     panic!("the gate lets none of 1,000 networks hold");
-}
-
-/// The records that the store holds up to the count.
-pub fn records_of(lent: &Lent) -> Vec<Record> {
-    let (records, _) = lent.store[..lent.n * RECORD].as_chunks::<RECORD>();
-    records.to_vec()
 }

@@ -1,7 +1,7 @@
 //! The route call of two gates on the same buffers.
 
-use super::{agree, lend, random_work, Tally};
-use crate::gate::{Gate, Lent, Routed};
+use super::{lend, random_work, Comparison, Tally};
+use crate::gate::{Call, Gate};
 use crate::networks::{
     all_widths, largest, random_network, random_new_rule, work_needed, Sizes, Widths,
 };
@@ -15,25 +15,6 @@ use crate::winding::winding;
 /// Entries of a list, or bytes of a work buffer, that are not needed.
 const SPARE: usize = 100;
 
-/// The route call on both gates: the answer, if answers, buffers and lists agree.
-pub fn same_route(
-    one: &dyn Gate,
-    other: &dyn Gate,
-    lent: &Lent,
-    [start, end]: [usize; 2],
-    list: &[u16],
-) -> Result<Routed, String> {
-    let route = |gate: &dyn Gate| {
-        let (mut left, mut list) = (lent.clone(), list.to_vec());
-        let answer = gate.route(&left.store, left.n, &mut left.work, start, end, &mut list);
-        ((answer, list), left)
-    };
-    let ((answer, left), (its, its_left)) = (route(one), route(other));
-    agree(lent, &[], (&answer, &left), (&its, &its_left))
-        .map_err(|error| format!("route from {start} to {end}: {error}"))?;
-    Ok(answer.0)
-}
-
 /// Routes in sound networks, so many of each width: between all states up to N of 6, above between
 /// so many pairs.
 pub fn of_every_width(
@@ -45,7 +26,7 @@ pub fn of_every_width(
     most: Sizes,
 ) -> Result<Tally, String> {
     let mut random = Random::new(seed);
-    let mut tally = Tally::default();
+    let mut compared = Comparison::of(one, other);
     for of in all_widths() {
         for _ in 0..rounds {
             let records = random_network(&mut random, of, most);
@@ -53,10 +34,10 @@ pub fn of_every_width(
                 true => all_pairs(1 << of.bits()),
                 false => random_ends(&mut random, &records, pairs),
             };
-            routes_between(one, other, &mut random, &records, &ends, &mut tally)?;
+            routes_between(&mut compared, &mut random, &records, &ends)?;
         }
     }
-    Ok(tally)
+    Ok(compared.tally)
 }
 
 /// Routes between so many pairs of states of largest networks.
@@ -67,11 +48,11 @@ pub fn of_largest(
     pairs: usize,
 ) -> Result<Tally, String> {
     let mut random = Random::new(seed);
-    let mut tally = Tally::default();
+    let mut compared = Comparison::of(one, other);
     let records = largest(&mut random);
     let ends = random_ends(&mut random, &records, pairs);
-    routes_between(one, other, &mut random, &records, &ends, &mut tally)?;
-    Ok(tally)
+    routes_between(&mut compared, &mut random, &records, &ends)?;
+    Ok(compared.tally)
 }
 
 /// Long routes of every width: in networks whose one route winds through all links, but for a few
@@ -84,7 +65,7 @@ pub fn of_winding(
     pairs: usize,
 ) -> Result<Tally, String> {
     let mut random = Random::new(seed);
-    let mut tally = Tally::default();
+    let mut compared = Comparison::of(one, other);
     for of in all_widths() {
         for _ in 0..rounds {
             let mut records = winding(of).records;
@@ -93,30 +74,28 @@ pub fn of_winding(
                 records.push(straying);
             }
             let ends = random_ends(&mut random, &records, pairs);
-            routes_between(one, other, &mut random, &records, &ends, &mut tally)?;
+            routes_between(&mut compared, &mut random, &records, &ends)?;
         }
     }
-    Ok(tally)
+    Ok(compared.tally)
 }
 
 /// Routes between these pairs of states, with work and lists of lengths that vary.
 fn routes_between(
-    one: &dyn Gate,
-    other: &dyn Gate,
+    compared: &mut Comparison,
     random: &mut Random,
     records: &[Record],
     ends: &[[usize; 2]],
-    tally: &mut Tally,
 ) -> Result<(), String> {
     let needed = work_needed(records);
     let states = 1 << Widths::of(&records[0]).bits();
     let mut lent = lend(random, records, 0);
     let work = random.bytes(needed + SPARE);
     let list = random_list(random, states + 1 + SPARE);
-    for pair in ends {
+    for [start, end] in ends.iter().copied() {
         lent.work = work[..random_work(random, needed)].to_vec();
-        let entries = random_entries(random, states);
-        tally.routed(same_route(one, other, &lent, *pair, &list[..entries])?);
+        lent.list = list[..random_entries(random, states)].to_vec();
+        compared.outcome(&Call::Route { start, end }, &lent)?;
     }
     Ok(())
 }

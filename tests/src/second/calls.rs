@@ -1,103 +1,86 @@
-//! The check call, the command call and the route call.
+//! Every call, from the buffers to its answer.
 
 use super::commands;
 use super::file::{self, Refusal};
-use super::judge::judge;
-use super::network::{Network, Record};
+use super::judge::{judge_by, Breach};
+use super::network::Network;
 use super::routes;
-use super::steps::all_steps;
-use crate::gate::{Checked, Commanded, Routed, MOST_RECORDS, RECORD, STORE};
+use super::states::StateSet;
+use crate::gate::{Answer, Call, Lent, MOST_RECORDS, STORE};
 
-/// Judges the first n records of the store.
-pub fn check(store: &[u8], n: usize, work: &mut [u8]) -> Checked {
-    let network = match admit(store, n, work) {
-        Ok(network) => network,
-        Err(Refusal { number, place }) => return Checked::Refused { number, place },
+/// The steps of a network's states.
+pub type Steps<'a> = &'a dyn Fn(&Network) -> Vec<StateSet>;
+
+/// Answers a call by such steps.
+pub fn answer_by(steps: Steps, call: &Call, lent: &mut Lent) -> Answer {
+    let answered = match call {
+        Call::Check => check(steps, lent),
+        Call::Command(given) => command(steps, lent, given),
+        Call::Route { start, end } => route(steps, lent, *start, *end),
     };
-    work[..network.work_needed()].fill(0);
-    match judge(&network) {
-        None => Checked::Holds,
-        Some(breach) => Checked::Violated { policy: breach.policy, state: breach.state },
-    }
+    answered.unwrap_or_else(|Refusal { number, place }| Answer::Refused { number, place })
+}
+
+/// Judges the network in the store.
+fn check(steps: Steps, lent: &mut Lent) -> Result<Answer, Refusal> {
+    let network = admit(lent)?;
+    Ok(match verdict(steps, &network, &mut lent.work) {
+        None => Answer::Holds,
+        Some(Breach { policy, state }) => Answer::Violated { policy, state },
+    })
 }
 
 /// Judges the network that a command would leave, and installs it if it holds.
-pub fn command(store: &mut [u8], n: usize, work: &mut [u8], given: &[u8]) -> Commanded {
-    let left = match result(store, n, work, given) {
-        Ok(left) => left,
-        Err(Refusal { number, place }) => return Commanded::Refused { number, place },
-    };
-    work[..left.work_needed()].fill(0);
-    match judge(&left) {
-        None => Commanded::Forwarded { count: install(&left, store) },
-        Some(breach) => Commanded::Blocked { policy: breach.policy, state: breach.state },
-    }
+fn command(steps: Steps, lent: &mut Lent, given: &[u8]) -> Result<Answer, Refusal> {
+    let left = result(&admit(lent)?, given)?;
+    Ok(match verdict(steps, &left, &mut lent.work) {
+        None => Answer::Forwarded { count: install(&left, &mut lent.store) },
+        Some(Breach { policy, state }) => Answer::Blocked { policy, state },
+    })
 }
 
-/// Writes the route from the start to the end, if there is one.
-pub fn route(
-    store: &[u8],
-    n: usize,
-    work: &mut [u8],
-    start: usize,
-    end: usize,
-    list: &mut [u16],
-) -> Routed {
-    let network = match routed(store, n, work, [start, end], list) {
-        Ok(network) => network,
-        Err(Refusal { number, place }) => return Routed::Refused { number, place },
-    };
-    work[..network.work_needed()].fill(0);
-    match routes::find(&all_steps(&network), start, end) {
-        None => Routed::NoRoute,
-        Some(states) => {
-            for (entry, state) in list.iter_mut().zip(&states) {
-                *entry = *state as u16;
-            }
-            Routed::Found { count: states.len() }
-        }
-    }
-}
-
-/// The network in which a route is sought: rows 1 to 11 and 16, then 14 and 15.
-fn routed(
-    store: &[u8],
-    n: usize,
-    work: &[u8],
-    ends: [usize; 2],
-    list: &[u16],
-) -> Result<Network, Refusal> {
-    let network = admit(store, n, work)?;
+/// Writes the route from the start to the end into the list, if there is one.
+fn route(steps: Steps, lent: &mut Lent, start: usize, end: usize) -> Result<Answer, Refusal> {
+    let network = admit(lent)?;
     let states = network.widths.states();
-    if ends.iter().any(|state| *state >= states) {
+    if start >= states || end >= states {
         return Err(refusal(14));
     }
-    match list.len() > states {
-        true => Ok(network),
-        false => Err(refusal(15)),
+    if lent.list.len() <= states {
+        return Err(refusal(15));
     }
+    lent.work[..network.work_needed()].fill(0);
+    Ok(match routes::find(&steps(&network), start, end) {
+        None => Answer::NoRoute,
+        Some(route) => routes::write(&mut lent.list, &route),
+    })
 }
 
-/// The network that a command would leave: rows 1 to 12, 16 and 13.
-fn result(store: &[u8], n: usize, work: &[u8], given: &[u8]) -> Result<Network, Refusal> {
-    let network = admit(store, n, work)?;
+/// The verdict on a network, and the work that it needs cleared.
+fn verdict(steps: Steps, network: &Network, work: &mut [u8]) -> Option<Breach> {
+    work[..network.work_needed()].fill(0);
+    judge_by(network, &steps(network))
+}
+
+/// The network that a command would leave: rows 12, 16 and 13.
+fn result(network: &Network, given: &[u8]) -> Result<Network, Refusal> {
     let command = commands::read(network.widths, given).ok_or(refusal(12))?;
-    if !commands::has_groups(&network, &command) {
+    if !commands::has_groups(network, &command) {
         return Err(refusal(16));
     }
-    commands::apply(&network, command).ok_or(refusal(13))
+    commands::apply(network, command).ok_or(refusal(13))
 }
 
 /// The network in the store: rows 1 to 11, and 16 in a record.
-fn admit(store: &[u8], n: usize, work: &[u8]) -> Result<Network, Refusal> {
-    if n == 0 || n > MOST_RECORDS {
+fn admit(lent: &Lent) -> Result<Network, Refusal> {
+    if lent.n == 0 || lent.n > MOST_RECORDS {
         return Err(refusal(1));
     }
-    if store.len() < STORE {
+    if lent.store.len() < STORE {
         return Err(refusal(2));
     }
-    let network = file::read(&records(&store[..n * RECORD]))?;
-    match work.len() >= network.work_needed() {
+    let network = file::read(lent.records())?;
+    match lent.work.len() >= network.work_needed() {
         true => Ok(network),
         false => Err(refusal(11)),
     }
@@ -106,11 +89,6 @@ fn admit(store: &[u8], n: usize, work: &[u8]) -> Result<Network, Refusal> {
 /// A refusal that names no record.
 fn refusal(number: usize) -> Refusal {
     Refusal { number, place: 0 }
-}
-
-fn records(bytes: &[u8]) -> Vec<Record> {
-    let (records, _) = bytes.as_chunks::<RECORD>();
-    records.to_vec()
 }
 
 /// Writes the records, zeros behind them up to the least store length, and tells their count.

@@ -2,7 +2,6 @@
 
 use super::network::{Network, Policy};
 use super::states::StateSet;
-use super::steps::all_steps;
 use super::truth::Truth;
 
 /// A policy and a state that breaks it.
@@ -12,12 +11,7 @@ pub struct Breach {
     pub state: usize,
 }
 
-/// The lowest broken policy and the lowest state breaking it.
-pub fn judge(network: &Network) -> Option<Breach> {
-    judge_by(network, &all_steps(network))
-}
-
-/// The same over steps that are given.
+/// The lowest broken policy and the lowest state breaking it, over steps that are given.
 pub fn judge_by(network: &Network, steps: &[StateSet]) -> Option<Breach> {
     network.policies.iter().enumerate().find_map(|(policy, formula)| {
         let state = Truth::new(network, steps, formula).lowest_breaking()?;

@@ -17,33 +17,17 @@ pub mod states;
 pub mod steps;
 mod truth;
 
-pub use crate::gate::{Checked, Commanded, Routed};
-pub use calls::{check, command, route};
+pub use calls::{answer_by, Steps};
 pub use program::program;
 
-use crate::gate::Gate;
+use crate::gate::{Answer, Call, Gate, Lent};
+use steps::all_steps;
 
 /// The second implementation as a gate.
 pub struct Second;
 
 impl Gate for Second {
-    fn check(&self, store: &[u8], n: usize, work: &mut [u8]) -> Checked {
-        check(store, n, work)
-    }
-
-    fn command(&self, store: &mut [u8], n: usize, work: &mut [u8], given: &[u8]) -> Commanded {
-        command(store, n, work, given)
-    }
-
-    fn route(
-        &self,
-        store: &[u8],
-        n: usize,
-        work: &mut [u8],
-        start: usize,
-        end: usize,
-        list: &mut [u16],
-    ) -> Routed {
-        route(store, n, work, start, end, list)
+    fn answer(&self, call: &Call, lent: &mut Lent) -> Answer {
+        answer_by(&all_steps, call, lent)
     }
 }

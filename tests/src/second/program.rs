@@ -1,7 +1,7 @@
 //! The program: network records, then commands, from whole input to whole output.
 
-use super::calls::{check, command};
-use crate::gate::{Checked, Commanded, MOST_RECORDS, RECORD, STORE};
+use super::Second;
+use crate::gate::{Answer, Call, Gate, Lent, MOST_RECORDS, RECORD, STORE};
 
 const WORK: usize = 65_536;
 const END_SHORT: &str = "end short\n";
@@ -12,7 +12,7 @@ pub fn program(input: &[u8]) -> Vec<u8> {
     let whole = network.len() / RECORD;
     let cut = network.len() % RECORD != 0;
     let text = if whole > MOST_RECORDS {
-        start_line(Checked::Refused { number: 1, place: 0 })
+        format!("start {}\n", words(Answer::Refused { number: 1, place: 0 }))
     } else if cut {
         END_SHORT.to_string()
     } else {
@@ -31,41 +31,35 @@ fn split(input: &[u8]) -> (&[u8], &[u8]) {
 
 /// The lines for at most 657 whole network records and the commands behind them.
 fn run(network: &[u8], commands: &[u8]) -> String {
-    let mut store = [0; STORE];
-    store[..network.len()].copy_from_slice(network);
-    let mut work = vec![0; WORK];
-    let mut count = network.len() / RECORD;
-    let start = check(&store, count, &mut work);
-    let mut text = start_line(start);
-    if start != Checked::Holds {
+    let mut store = network.to_vec();
+    store.resize(STORE, 0);
+    let n = network.len() / RECORD;
+    let mut lent = Lent { store, n, work: vec![0; WORK], ..Lent::default() };
+    let start = Second.answer(&Call::Check, &mut lent);
+    let mut text = format!("start {}\n", words(start));
+    if start != Answer::Holds {
         return text;
     }
-    for (place, given) in commands.chunks(RECORD).enumerate() {
+    for (number, given) in (1..).zip(commands.chunks(RECORD)) {
         if given.len() < RECORD {
             text += END_SHORT;
         } else {
-            let answer = command(&mut store, count, &mut work, given);
-            if let Commanded::Forwarded { count: answered } = answer {
-                count = answered;
-            }
-            text += &command_line(place + 1, answer);
+            let answer = Second.answer(&Call::Command(given.to_vec()), &mut lent);
+            lent.go_on(answer);
+            text += &format!("{number} {}\n", words(answer));
         }
     }
     text
 }
 
-fn start_line(answer: Checked) -> String {
+/// The words for an answer to a check or a command.
+fn words(answer: Answer) -> String {
     match answer {
-        Checked::Holds => "start holds\n".to_string(),
-        Checked::Violated { policy, state } => format!("start violated {policy} {state}\n"),
-        Checked::Refused { number, place } => format!("start refused {number} {place}\n"),
-    }
-}
-
-fn command_line(number: usize, answer: Commanded) -> String {
-    match answer {
-        Commanded::Forwarded { count } => format!("{number} forwarded {count}\n"),
-        Commanded::Blocked { policy, state } => format!("{number} blocked {policy} {state}\n"),
-        Commanded::Refused { number: row, place } => format!("{number} refused {row} {place}\n"),
+        Answer::Holds => "holds".to_string(),
+        Answer::Violated { policy, state } => format!("violated {policy} {state}"),
+        Answer::Forwarded { count } => format!("forwarded {count}"),
+        Answer::Blocked { policy, state } => format!("blocked {policy} {state}"),
+        Answer::Refused { number, place } => format!("refused {number} {place}"),
+        other => unreachable!("no answer to a check or a command: {other:?}"),
     }
 }

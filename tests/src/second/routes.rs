@@ -1,6 +1,7 @@
 //! A route, found forwards, level by level of exactly so many steps.
 
 use super::states::StateSet;
+use crate::gate::Answer;
 
 /// A state at the end of so many steps, and the place in the level before of the state it comes from.
 struct Reached {
@@ -46,4 +47,12 @@ fn back_from(levels: &[Vec<Reached>], place: usize) -> Vec<usize> {
     }
     states.reverse();
     states
+}
+
+/// Writes the states of a route into the list.
+pub fn write(list: &mut [u16], route: &[usize]) -> Answer {
+    for (entry, state) in list.iter_mut().zip(route) {
+        *entry = *state as u16;
+    }
+    Answer::Found { count: route.len() }
 }

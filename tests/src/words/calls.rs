@@ -4,29 +4,29 @@ use super::commands;
 use super::file;
 use super::judge::judge;
 use super::network::Network;
-use crate::gate::{Checked, Commanded, MOST_RECORDS, RECORD, STORE};
+use crate::gate::{Answer, MOST_RECORDS, RECORD, STORE};
 use crate::records::Record;
 use crate::second::file::Refusal;
 use crate::second::judge::Breach;
 
 /// Judges the first n records of the store.
-pub fn check(store: &[u8], n: usize, work: &mut [u8]) -> Checked {
+pub fn check(store: &[u8], n: usize, work: &mut [u8]) -> Answer {
     match admit(store, n, work) {
-        Err(Refusal { number, place }) => Checked::Refused { number, place },
+        Err(Refusal { number, place }) => Answer::Refused { number, place },
         Ok((_, network)) => match verdict(&network, work) {
-            None => Checked::Holds,
-            Some(Breach { policy, state }) => Checked::Violated { policy, state },
+            None => Answer::Holds,
+            Some(Breach { policy, state }) => Answer::Violated { policy, state },
         },
     }
 }
 
 /// Judges the network that a command would leave, and installs it if it holds.
-pub fn command(store: &mut [u8], n: usize, work: &mut [u8], given: &[u8]) -> Commanded {
+pub fn command(store: &mut [u8], n: usize, work: &mut [u8], given: &[u8]) -> Answer {
     match result(store, n, work, given) {
-        Err(Refusal { number, place }) => Commanded::Refused { number, place },
+        Err(Refusal { number, place }) => Answer::Refused { number, place },
         Ok(left) => match verdict(&Network::of(&left), work) {
-            None => Commanded::Forwarded { count: install(&left, store) },
-            Some(Breach { policy, state }) => Commanded::Blocked { policy, state },
+            None => Answer::Forwarded { count: install(&left, store) },
+            Some(Breach { policy, state }) => Answer::Blocked { policy, state },
         },
     }
 }

@@ -21,32 +21,18 @@ mod network;
 mod planes;
 mod steps;
 
-pub use calls::{check, command};
+use crate::gate::{Answer, Call, Gate, Lent};
+use crate::second::Second;
 
-use crate::gate::{Checked, Commanded, Gate, Routed};
-use crate::second;
-
-/// The two calls as a gate; its routes are the second implementation's.
+/// The two calls as a gate; the others are the second implementation's.
 pub struct Words;
 
 impl Gate for Words {
-    fn check(&self, store: &[u8], n: usize, work: &mut [u8]) -> Checked {
-        check(store, n, work)
-    }
-
-    fn command(&self, store: &mut [u8], n: usize, work: &mut [u8], given: &[u8]) -> Commanded {
-        command(store, n, work, given)
-    }
-
-    fn route(
-        &self,
-        store: &[u8],
-        n: usize,
-        work: &mut [u8],
-        start: usize,
-        end: usize,
-        list: &mut [u16],
-    ) -> Routed {
-        second::route(store, n, work, start, end, list)
+    fn answer(&self, call: &Call, lent: &mut Lent) -> Answer {
+        match call {
+            Call::Check => calls::check(&lent.store, lent.n, &mut lent.work),
+            Call::Command(given) => calls::command(&mut lent.store, lent.n, &mut lent.work, given),
+            _ => Second.answer(call, lent),
+        }
     }
 }

@@ -2,12 +2,11 @@
 //! one, and not by tables as in the second implementation.
 
 use std::collections::BTreeSet;
-use wegbaro_tests::gate::{Checked, Commanded, Gate, Routed, RECORD};
-use wegbaro_tests::second::judge::judge_by;
+use wegbaro_tests::gate::{Answer, Call, Gate, Lent};
+use wegbaro_tests::second::answer_by;
 use wegbaro_tests::second::network::{Action, Bucket, Group, Network, Pattern, Target};
 use wegbaro_tests::second::states::{Direction, Point, State, StateSet, DROP};
 use wegbaro_tests::second::steps::{acting, all_steps, ports_reached};
-use wegbaro_tests::second::{file, routes, Second};
 
 #[derive(Clone, Copy, Debug, PartialEq, Eq)]
 pub enum BucketVice {
@@ -44,52 +43,14 @@ pub const BUCKET_VICES: [BucketVice; 14] = [
     BucketVice::RunsAGroupForOneStateOnly,
 ];
 
-/// A gate with a vice, if any, in the groups of its check and route calls, else as the second
+/// A gate with a vice, if any, in the steps through groups by which it answers, else as the second
 /// implementation.
 pub struct Spilling(pub Option<BucketVice>);
 
 impl Gate for Spilling {
-    fn check(&self, store: &[u8], n: usize, work: &mut [u8]) -> Checked {
-        let answer = Second.check(store, n, work);
-        if let Checked::Refused { .. } = answer {
-            return answer;
-        }
-        let network = network_of(store, n);
-        match judge_by(&network, &self.steps(&network)) {
-            None => Checked::Holds,
-            Some(breach) => Checked::Violated { policy: breach.policy, state: breach.state },
-        }
+    fn answer(&self, call: &Call, lent: &mut Lent) -> Answer {
+        answer_by(&|network| self.steps(network), call, lent)
     }
-
-    fn command(&self, store: &mut [u8], n: usize, work: &mut [u8], given: &[u8]) -> Commanded {
-        Second.command(store, n, work, given)
-    }
-
-    fn route(
-        &self,
-        store: &[u8],
-        n: usize,
-        work: &mut [u8],
-        start: usize,
-        end: usize,
-        list: &mut [u16],
-    ) -> Routed {
-        let before = list.to_vec();
-        let answer = Second.route(store, n, work, start, end, list);
-        if let Routed::Refused { .. } = answer {
-            return answer;
-        }
-        list.copy_from_slice(&before);
-        match routes::find(&self.steps(&network_of(store, n)), start, end) {
-            None => Routed::NoRoute,
-            Some(route) => super::routes::write(list, &route),
-        }
-    }
-}
-
-fn network_of(store: &[u8], n: usize) -> Network {
-    let (records, _) = store[..n * RECORD].as_chunks::<RECORD>();
-    file::read(records).unwrap()
 }
 
 impl Spilling {

@@ -1,15 +1,11 @@
 //! Gates that choose among the rules of a state wrong in one way each.
 
-use super::records_of;
-use crate::plain;
-use wegbaro_tests::gate::{Checked, Commanded, Gate, Routed, RECORD, STORE};
-use wegbaro_tests::records::Record;
+use wegbaro_tests::gate::{Answer, Call, Gate, Lent};
+use wegbaro_tests::second::answer_by;
 use wegbaro_tests::second::groups::Tables;
-use wegbaro_tests::second::judge::{judge_by, Breach};
 use wegbaro_tests::second::network::{Action, Network, Rule};
 use wegbaro_tests::second::states::{Direction, Point, State, StateSet, DROP};
 use wegbaro_tests::second::steps::{all_steps, copies, matches};
-use wegbaro_tests::second::{file, routes, Second};
 
 #[derive(Clone, Copy, Debug, PartialEq, Eq)]
 pub enum ChoiceVice {
@@ -48,69 +44,17 @@ pub const CHOICE_VICES: [ChoiceVice; 15] = [
     ChoiceVice::HandsTheHeaderOn,
 ];
 
-/// A gate with a vice, if any, in the choice of rules in all its calls, else as the second
+/// A gate with a vice, if any, in the choice of rules by which it answers, else as the second
 /// implementation.
 pub struct Choosing(pub Option<ChoiceVice>);
 
 impl Gate for Choosing {
-    fn check(&self, store: &[u8], n: usize, work: &mut [u8]) -> Checked {
-        let answer = Second.check(store, n, work);
-        if let Checked::Refused { .. } = answer {
-            return answer;
-        }
-        match self.judge(&records_of(store, n)) {
-            None => Checked::Holds,
-            Some(Breach { policy, state }) => Checked::Violated { policy, state },
-        }
-    }
-
-    fn command(&self, store: &mut [u8], n: usize, work: &mut [u8], given: &[u8]) -> Commanded {
-        let before = store.to_vec();
-        let answer = Second.command(store, n, work, given);
-        if let Commanded::Refused { .. } = answer {
-            return answer;
-        }
-        store.copy_from_slice(&before);
-        let left = plain::apply(&records_of(&before, n), given.try_into().unwrap());
-        match self.judge(&left) {
-            None => {
-                store[..STORE].fill(0);
-                store[..left.len() * RECORD].copy_from_slice(left.as_flattened());
-                Commanded::Forwarded { count: left.len() }
-            }
-            Some(Breach { policy, state }) => Commanded::Blocked { policy, state },
-        }
-    }
-
-    fn route(
-        &self,
-        store: &[u8],
-        n: usize,
-        work: &mut [u8],
-        start: usize,
-        end: usize,
-        list: &mut [u16],
-    ) -> Routed {
-        let before = list.to_vec();
-        let answer = Second.route(store, n, work, start, end, list);
-        if let Routed::Refused { .. } = answer {
-            return answer;
-        }
-        list.copy_from_slice(&before);
-        let network = file::read(&records_of(store, n)).unwrap();
-        match routes::find(&self.steps(&network), start, end) {
-            None => Routed::NoRoute,
-            Some(route) => super::routes::write(list, &route),
-        }
+    fn answer(&self, call: &Call, lent: &mut Lent) -> Answer {
+        answer_by(&|network| self.steps(network), call, lent)
     }
 }
 
 impl Choosing {
-    fn judge(&self, records: &[Record]) -> Option<Breach> {
-        let network = file::read(records).unwrap();
-        judge_by(&network, &self.steps(&network))
-    }
-
     /// The steps, those of arriving states by what is chosen.
     fn steps(&self, network: &Network) -> Vec<StateSet> {
         let groups = Tables::of(network);

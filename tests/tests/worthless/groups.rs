@@ -1,7 +1,7 @@
 //! Gates that read groups wrong in one way each.
 
-use super::records_of;
-use wegbaro_tests::gate::{Checked, Commanded, Gate, Routed, RECORD};
+use super::answer_as_read;
+use wegbaro_tests::gate::{Answer, Call, Gate, Lent, RECORD};
 use wegbaro_tests::records::{groups_at, same_rule, Record, IN_PORT};
 use wegbaro_tests::second::Second;
 
@@ -38,77 +38,82 @@ pub const GROUP_VICES: [GroupVice; 11] = [
 pub struct Lax(pub GroupVice);
 
 impl Gate for Lax {
-    fn check(&self, store: &[u8], n: usize, work: &mut [u8]) -> Checked {
-        let answer = Second.check(&self.read(store, n), n, work);
-        let Checked::Refused { number: 16, place } = answer else {
-            return answer;
-        };
-        let records = records_of(store, n);
-        match self.0 {
-            GroupVice::TakesSeventeen if is_seventeenth(&records, place) => {
-                let (before, behind) = store.split_at(place * RECORD);
-                let fewer = [before, &behind[RECORD..], &[0; RECORD]].concat();
-                self.check(&fewer, n - 1, work)
+    fn answer(&self, call: &Call, lent: &mut Lent) -> Answer {
+        if self.refuses(call) {
+            return Answer::Refused { number: 12, place: 0 };
+        }
+        let answer = answer_as_read(call, lent, self.read(lent));
+        match (answer, call) {
+            (Answer::Refused { number: 16, place: 0 }, Call::Command(given)) => {
+                self.commanded(given, lent)
             }
-            GroupVice::OverlooksFaultyOnes => {
-                let place = first_to_run(&records, place).unwrap_or(place);
-                Checked::Refused { number: 16, place }
-            }
-            GroupVice::CallsTheirFaultsFields if records[place][0] == 9 => {
-                Checked::Refused { number: 5, place }
-            }
+            (Answer::Refused { number: 16, place }, _) => self.refused(call, lent, place),
             _ => answer,
         }
-    }
-
-    fn command(&self, store: &mut [u8], n: usize, work: &mut [u8], given: &[u8]) -> Commanded {
-        if self.0 == GroupVice::RefusesThemAtTheEnd && ends_in_group(given) {
-            return Commanded::Refused { number: 12, place: 0 };
-        }
-        let answer = Second.command(store, n, work, given);
-        if answer != (Commanded::Refused { number: 16, place: 0 }) {
-            return answer;
-        }
-        let rules: Vec<Record> =
-            records_of(store, n).into_iter().filter(|record| record[0] == 4).collect();
-        let mut command: Record = given.try_into().unwrap();
-        if rules.iter().any(|rule| same_rule(rule, &command)) {
-            return answer;
-        }
-        match (self.0, command[0]) {
-            (GroupVice::LooksForRoomFirst, 6) if rules.len() == 256 => {
-                Commanded::Refused { number: 13, place: 0 }
-            }
-            (GroupVice::TakesAbsentOnesInModifies, 7) => {
-                return_in_place_of_groups(&mut command, |_| true);
-                Second.command(store, n, work, &command)
-            }
-            _ => answer,
-        }
-    }
-
-    fn route(
-        &self,
-        store: &[u8],
-        n: usize,
-        work: &mut [u8],
-        start: usize,
-        end: usize,
-        list: &mut [u16],
-    ) -> Routed {
-        Second.route(store, n, work, start, end, list)
     }
 }
 
 impl Lax {
-    /// The store with its records as they are read.
-    fn read(&self, store: &[u8], n: usize) -> Vec<u8> {
-        let records = records_of(store, n);
-        let mut read = records.clone();
-        for record in &mut read {
-            self.read_record(&records, record);
+    /// Whether a call is refused at once.
+    fn refuses(&self, call: &Call) -> bool {
+        let ends = matches!(call, Call::Command(given) if ends_in_group(given));
+        self.0 == GroupVice::RefusesThemAtTheEnd && ends
+    }
+
+    /// What is answered if row 16 refuses a record.
+    fn refused(&self, call: &Call, lent: &mut Lent, place: usize) -> Answer {
+        let records = lent.records();
+        let number = match self.0 {
+            GroupVice::CallsTheirFaultsFields if records[place][0] == 9 => 5,
+            _ => 16,
+        };
+        match self.0 {
+            GroupVice::TakesSeventeen if is_seventeenth(records, place) => {
+                self.answer_without(call, lent, place)
+            }
+            GroupVice::OverlooksFaultyOnes => {
+                Answer::Refused { number, place: first_to_run(records, place).unwrap_or(place) }
+            }
+            _ => Answer::Refused { number, place },
         }
-        [read.as_flattened(), &store[read.len() * RECORD..]].concat()
+    }
+
+    /// The answer on a store without a record.
+    fn answer_without(&self, call: &Call, lent: &mut Lent, place: usize) -> Answer {
+        let mut fewer = Lent { n: lent.n - 1, ..lent.clone() };
+        fewer.store.drain(place * RECORD..(place + 1) * RECORD);
+        fewer.store.extend([0; RECORD]);
+        let answer = self.answer(call, &mut fewer);
+        *lent = Lent { store: lent.store.clone(), n: lent.n, ..fewer };
+        answer
+    }
+
+    /// What is answered if row 16 refuses a command.
+    fn commanded(&self, given: &[u8], lent: &mut Lent) -> Answer {
+        let mut command: Record = given.try_into().unwrap();
+        let mut rules = lent.records().to_vec();
+        rules.retain(|record| record[0] == 4);
+        let is_present = rules.iter().any(|rule| same_rule(rule, &command));
+        match (self.0, command[0]) {
+            (GroupVice::LooksForRoomFirst, 6) if !is_present && rules.len() == 256 => {
+                Answer::Refused { number: 13, place: 0 }
+            }
+            (GroupVice::TakesAbsentOnesInModifies, 7) if !is_present => {
+                return_in_place_of_groups(&mut command, |_| true);
+                Second.answer(&Call::Command(command.to_vec()), lent)
+            }
+            _ => Answer::Refused { number: 16, place: 0 },
+        }
+    }
+
+    /// The store with its records as they are read.
+    fn read(&self, lent: &Lent) -> Vec<u8> {
+        let records = lent.records();
+        let mut read = records.to_vec();
+        for record in &mut read {
+            self.read_record(records, record);
+        }
+        [read.as_flattened(), &lent.store[read.len() * RECORD..]].concat()
     }
 
     fn read_record(&self, records: &[Record], record: &mut Record) {

@@ -1,6 +1,6 @@
 //! Gates whose routes are wrong in one way each.
 
-use wegbaro_tests::gate::{Checked, Commanded, Gate, Routed, RECORD};
+use wegbaro_tests::gate::{Answer, Call, Gate, Lent};
 use wegbaro_tests::networks::Widths;
 use wegbaro_tests::second::states::StateSet;
 use wegbaro_tests::second::{file, routes, steps, Second};
@@ -17,17 +17,14 @@ pub enum RouteVice {
     CountsSteps,
     WritesBehind,
     WritesWithoutARoute,
-    LeavesTheWork,
-    ZeroesTheWholeWork,
     TakesShortLists,
     CutsStates,
     ListsBeforeStates,
     StatesBeforeWork,
     JudgesFirst,
-    MovesThePlace,
 }
 
-pub const ROUTE_VICES: [RouteVice; 18] = [
+pub const ROUTE_VICES: [RouteVice; 15] = [
     RouteVice::TakesTheLongWay,
     RouteVice::TakesTheLargest,
     RouteVice::ComparesFromTheEnd,
@@ -38,102 +35,70 @@ pub const ROUTE_VICES: [RouteVice; 18] = [
     RouteVice::CountsSteps,
     RouteVice::WritesBehind,
     RouteVice::WritesWithoutARoute,
-    RouteVice::LeavesTheWork,
-    RouteVice::ZeroesTheWholeWork,
     RouteVice::TakesShortLists,
     RouteVice::CutsStates,
     RouteVice::ListsBeforeStates,
     RouteVice::StatesBeforeWork,
     RouteVice::JudgesFirst,
-    RouteVice::MovesThePlace,
 ];
 
 /// A gate with a vice in its route call, else as the second implementation.
 pub struct Astray(pub RouteVice);
 
 impl Gate for Astray {
-    fn check(&self, store: &[u8], n: usize, work: &mut [u8]) -> Checked {
-        Second.check(store, n, work)
-    }
-
-    fn command(&self, store: &mut [u8], n: usize, work: &mut [u8], given: &[u8]) -> Commanded {
-        Second.command(store, n, work, given)
-    }
-
-    fn route(
-        &self,
-        store: &[u8],
-        n: usize,
-        work: &mut [u8],
-        start: usize,
-        end: usize,
-        list: &mut [u16],
-    ) -> Routed {
-        let cut = |state: usize| match self.0 {
-            RouteVice::CutsStates => state & 0xFFFF,
-            _ => state,
-        };
-        let (work_before, list_before) = (work.to_vec(), list.to_vec());
-        let answer = Second.route(store, n, work, cut(start), cut(end), list);
-        if let Routed::Refused { number, place } = answer {
-            return self.refused(store, n, work, [start, end], list, [number, place]);
+    fn answer(&self, call: &Call, lent: &mut Lent) -> Answer {
+        let Call::Route { start, end } = *call else { return Second.answer(call, lent) };
+        let before = lent.clone();
+        let answer = Second.answer(&self.read(call), lent);
+        if answer.is_refused() {
+            return self.refused(lent, [start, end], answer);
         }
-        match self.0 {
-            RouteVice::LeavesTheWork => work.copy_from_slice(&work_before),
-            RouteVice::ZeroesTheWholeWork => work.fill(0),
-            _ => {}
+        if self.0 == RouteVice::JudgesFirst && !holds(&before) {
+            lent.list = before.list;
+            return Answer::NoRoute;
         }
-        if self.0 == RouteVice::JudgesFirst && !holds(store, n) {
-            list.copy_from_slice(&list_before);
-            return Routed::NoRoute;
-        }
-        match self.another_route(store, n, [start, end]) {
+        match self.another_route(lent, start, end) {
             Some(route) => {
-                list.copy_from_slice(&list_before);
-                write(list, &route)
+                lent.list = before.list;
+                routes::write(&mut lent.list, &route)
             }
-            None => self.spoiled(answer, [start, end], list, &list_before),
+            None => self.spoiled(answer, [start, end], &mut lent.list, &before.list),
         }
     }
 }
 
 impl Astray {
+    /// The call as it is read.
+    fn read(&self, call: &Call) -> Call {
+        match *call {
+            Call::Route { start, end } if self.0 == RouteVice::CutsStates => {
+                Call::Route { start: start & 0xFFFF, end: end & 0xFFFF }
+            }
+            _ => call.clone(),
+        }
+    }
+
     /// What is answered in place of a refusal.
-    fn refused(
-        &self,
-        store: &[u8],
-        n: usize,
-        work: &mut [u8],
-        ends: [usize; 2],
-        list: &mut [u16],
-        [number, place]: [usize; 2],
-    ) -> Routed {
-        let states = 1 << Widths::of(&store[..RECORD].try_into().unwrap()).bits();
-        let unknown = ends.iter().any(|state| *state >= states);
-        match (self.0, number) {
-            (RouteVice::TakesShortLists, 15) if list.len() == states => {
-                let mut longer = [&*list, &[0]].concat();
-                let answer = Second.route(store, n, work, ends[0], ends[1], &mut longer);
-                list.copy_from_slice(&longer[..states]);
+    fn refused(&self, lent: &mut Lent, [start, end]: [usize; 2], answer: Answer) -> Answer {
+        let by = |number: usize| Answer::Refused { number, place: 0 };
+        let states = 1 << Widths::of(&lent.records()[0]).bits();
+        let [is_short, is_unknown] = [lent.list.len() <= states, start.max(end) >= states];
+        match self.0 {
+            RouteVice::TakesShortLists if answer == by(15) && lent.list.len() == states => {
+                lent.list.push(0);
+                let answer = Second.answer(&Call::Route { start, end }, lent);
+                lent.list.pop();
                 answer
             }
-            (RouteVice::ListsBeforeStates, 14) if list.len() <= states => {
-                Routed::Refused { number: 15, place }
-            }
-            (RouteVice::StatesBeforeWork, 11) if unknown => Routed::Refused { number: 14, place },
-            (RouteVice::MovesThePlace, _) => Routed::Refused { number, place: place + 1 },
-            _ => Routed::Refused { number, place },
+            RouteVice::ListsBeforeStates if answer == by(14) && is_short => by(15),
+            RouteVice::StatesBeforeWork if answer == by(11) && is_unknown => by(14),
+            _ => answer,
         }
     }
 
     /// A route found in another way, if the vice is to do so.
-    fn another_route(
-        &self,
-        store: &[u8],
-        n: usize,
-        [start, end]: [usize; 2],
-    ) -> Option<Vec<usize>> {
-        let steps = steps_of(store, n);
+    fn another_route(&self, lent: &Lent, start: usize, end: usize) -> Option<Vec<usize>> {
+        let steps = steps::all_steps(&file::read(lent.records()).unwrap());
         match self.0 {
             RouteVice::TakesTheLongWay => depth_first(&steps, start, end),
             RouteVice::TakesTheLargest => largest(&steps, start, end),
@@ -146,26 +111,26 @@ impl Astray {
     /// What becomes of an answer and its list.
     fn spoiled(
         &self,
-        answer: Routed,
+        answer: Answer,
         [start, end]: [usize; 2],
         list: &mut [u16],
         list_before: &[u16],
-    ) -> Routed {
+    ) -> Answer {
         match (self.0, answer) {
-            (RouteVice::GivesUpHalfway, Routed::Found { count }) if count <= list.len() / 2 => {
+            (RouteVice::GivesUpHalfway, Answer::Found { count }) if count <= list.len() / 2 => {
                 answer
             }
-            (RouteVice::GivesUpHalfway | RouteVice::FindsNothing, Routed::Found { .. }) => {
+            (RouteVice::GivesUpHalfway | RouteVice::FindsNothing, Answer::Found { .. }) => {
                 list.copy_from_slice(list_before);
-                Routed::NoRoute
+                Answer::NoRoute
             }
-            (RouteVice::MakesUpARoute, Routed::NoRoute) => write(list, &[start, end]),
-            (RouteVice::CountsSteps, Routed::Found { count }) => Routed::Found { count: count - 1 },
-            (RouteVice::WritesBehind, Routed::Found { count }) => {
+            (RouteVice::MakesUpARoute, Answer::NoRoute) => routes::write(list, &[start, end]),
+            (RouteVice::CountsSteps, Answer::Found { count }) => Answer::Found { count: count - 1 },
+            (RouteVice::WritesBehind, Answer::Found { count }) => {
                 list[count] = !list[count];
                 answer
             }
-            (RouteVice::WritesWithoutARoute, Routed::NoRoute) => {
+            (RouteVice::WritesWithoutARoute, Answer::NoRoute) => {
                 list[0] = !list[0];
                 answer
             }
@@ -174,21 +139,8 @@ impl Astray {
     }
 }
 
-pub fn write(list: &mut [u16], route: &[usize]) -> Routed {
-    for (entry, state) in list.iter_mut().zip(route) {
-        *entry = *state as u16;
-    }
-    Routed::Found { count: route.len() }
-}
-
-fn holds(store: &[u8], n: usize) -> bool {
-    let mut work = vec![0; 34 << 17];
-    Second.check(store, n, &mut work) == Checked::Holds
-}
-
-fn steps_of(store: &[u8], n: usize) -> Vec<StateSet> {
-    let (records, _) = store[..n * RECORD].as_chunks::<RECORD>();
-    steps::all_steps(&file::read(records).unwrap())
+fn holds(lent: &Lent) -> bool {
+    Second.answer(&Call::Check, &mut lent.clone()) == Answer::Holds
 }
 
 /// The first path that a search in depth meets.

@@ -1,11 +1,11 @@
 //! Gates whose steps are wrong in one way each: frames go back where they must not, or not where
 //! they must, or patterns are misread.
 
-use wegbaro_tests::gate::{Checked, Commanded, Gate, Routed, RECORD};
-use wegbaro_tests::second::judge::judge;
+use wegbaro_tests::gate::{Answer, Call, Gate, Lent};
+use wegbaro_tests::second::answer_by;
 use wegbaro_tests::second::network::{Action, Match, Network, Pattern, Rule};
 use wegbaro_tests::second::states::{Point, Widths};
-use wegbaro_tests::second::{file, routes, steps, Second};
+use wegbaro_tests::second::steps::{all_steps, matches};
 
 #[derive(Clone, Copy, Debug, PartialEq, Eq)]
 pub enum StepVice {
@@ -40,45 +40,12 @@ pub const STEP_VICES: [StepVice; 13] = [
     StepVice::SetsStarsToZero,
 ];
 
-/// A gate with a vice, if any, in the steps of its check and route calls, else as the second
-/// implementation.
+/// A gate with a vice, if any, in the steps by which it answers, else as the second implementation.
 pub struct Misled(pub Option<StepVice>);
 
 impl Gate for Misled {
-    fn check(&self, store: &[u8], n: usize, work: &mut [u8]) -> Checked {
-        let answer = Second.check(store, n, work);
-        if let Checked::Refused { .. } = answer {
-            return answer;
-        }
-        match judge(&self.network(store, n)) {
-            None => Checked::Holds,
-            Some(breach) => Checked::Violated { policy: breach.policy, state: breach.state },
-        }
-    }
-
-    fn command(&self, store: &mut [u8], n: usize, work: &mut [u8], given: &[u8]) -> Commanded {
-        Second.command(store, n, work, given)
-    }
-
-    fn route(
-        &self,
-        store: &[u8],
-        n: usize,
-        work: &mut [u8],
-        start: usize,
-        end: usize,
-        list: &mut [u16],
-    ) -> Routed {
-        let before = list.to_vec();
-        let answer = Second.route(store, n, work, start, end, list);
-        if let Routed::Refused { .. } = answer {
-            return answer;
-        }
-        list.copy_from_slice(&before);
-        match routes::find(&steps::all_steps(&self.network(store, n)), start, end) {
-            None => Routed::NoRoute,
-            Some(route) => super::routes::write(list, &route),
-        }
+    fn answer(&self, call: &Call, lent: &mut Lent) -> Answer {
+        answer_by(&|network| all_steps(&self.read_network(network)), call, lent)
     }
 }
 
@@ -86,9 +53,8 @@ impl Misled {
     /// The network with patterns as they are read, and with a rule for each port in place of every
     /// rule, so that what is done can depend on the port of arrival. What no rule matches has a rule
     /// of its own in place of the miss record.
-    fn network(&self, store: &[u8], n: usize) -> Network {
-        let (records, _) = store[..n * RECORD].as_chunks::<RECORD>();
-        let mut network = file::read(records).unwrap();
+    fn read_network(&self, network: &Network) -> Network {
+        let mut network = network.clone();
         let widths = network.widths;
         network.rules = network.rules.iter().map(|rule| self.read_rule(rule, widths)).collect();
         network.rules.extend(missed(&network));
@@ -199,7 +165,7 @@ fn missed(network: &Network) -> Vec<Rule> {
             for with in 0..1 << header {
                 let point = Point { switch, port: at };
                 let (port, header) = (fixed(at, port), fixed(with, header));
-                if !network.rules.iter().any(|rule| steps::matches(rule, point, with)) {
+                if !network.rules.iter().any(|rule| matches(rule, point, with)) {
                     let matching = Match { switch, priority: 0, port, header };
                     missed.push(Rule { matching, actions: actions.clone() });
                 }

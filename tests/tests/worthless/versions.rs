@@ -1,7 +1,7 @@
 //! Gates that are wrong about the wire version in one way each.
 
-use super::records_of;
-use wegbaro_tests::gate::{Checked, Commanded, Gate, Routed, RECORD};
+use super::answer_as_read;
+use wegbaro_tests::gate::{Answer, Call, Gate, Lent, RECORD};
 use wegbaro_tests::networks::MOST_RULES;
 use wegbaro_tests::records::{same_rule, with, Record, VERSIONS};
 use wegbaro_tests::second::Second;
@@ -54,44 +54,17 @@ pub const VERSION_VICES: [VersionVice; 18] = [
 pub struct Outdated(pub Option<VersionVice>);
 
 impl Gate for Outdated {
-    fn check(&self, store: &[u8], n: usize, work: &mut [u8]) -> Checked {
-        let answer = Second.check(&self.read(store), n, work);
-        let is_faulty = store.get(4).is_some_and(|version| !VERSIONS.contains(version));
-        let Checked::Refused { number, place: 0 } = answer else {
-            return answer;
-        };
-        let number = match (self.0, number) {
-            (Some(VersionVice::CallsItAWidth), 5) if is_faulty => 4,
-            (Some(VersionVice::LooksAtItBeforeTheWidths), 4) if is_faulty => 5,
-            _ => number,
-        };
-        Checked::Refused { number, place: 0 }
-    }
-
-    fn command(&self, store: &mut [u8], n: usize, work: &mut [u8], given: &[u8]) -> Commanded {
-        let modify = Modify::of(store, n, given);
-        let mut read = self.read(store);
-        let answer = Second.command(&mut read, n, work, given);
-        if let Commanded::Forwarded { .. } = answer {
-            read[4] = self.left(store[4]);
-            store.copy_from_slice(&read);
+    fn answer(&self, call: &Call, lent: &mut Lent) -> Answer {
+        let version = lent.store.get(4).copied().unwrap_or_default();
+        let modify = Modify::of(call, lent);
+        let answer = answer_as_read(call, lent, self.read(&lent.store));
+        if let Answer::Forwarded { .. } = answer {
+            lent.store[4] = self.left(version);
         }
         match modify {
-            Some(modify) => self.spoil(store, n, work, &modify, answer),
-            None => answer,
+            Some(modify) => self.spoil(lent, &modify, answer),
+            None => self.refused(version, answer),
         }
-    }
-
-    fn route(
-        &self,
-        store: &[u8],
-        n: usize,
-        work: &mut [u8],
-        start: usize,
-        end: usize,
-        list: &mut [u16],
-    ) -> Routed {
-        Second.route(&self.read(store), n, work, start, end, list)
     }
 }
 
@@ -104,13 +77,14 @@ struct Modify {
 }
 
 impl Modify {
-    fn of(store: &[u8], n: usize, given: &[u8]) -> Option<Modify> {
-        let given: Record = given.try_into().ok()?;
-        let mut rules = records_of(store, n);
+    fn of(call: &Call, lent: &Lent) -> Option<Modify> {
+        let Call::Command(given) = call else { return None };
+        let given: Record = given[..].try_into().ok()?;
+        let mut rules = lent.records().to_vec();
         rules.retain(|record| record[0] == 4);
         (given[0] == 7).then(|| Modify {
             given,
-            is_old: store.get(4) == Some(&1),
+            is_old: lent.store.get(4) == Some(&1),
             is_present: rules.iter().any(|rule| same_rule(rule, &given)),
             is_full: rules.len() == MOST_RULES,
         })
@@ -142,40 +116,46 @@ impl Outdated {
         }
     }
 
+    /// What is answered in place of a refusal of the widths record.
+    fn refused(&self, version: u8, answer: Answer) -> Answer {
+        let by = |number: usize| Answer::Refused { number, place: 0 };
+        match self.0 {
+            _ if VERSIONS.contains(&version) => answer,
+            Some(VersionVice::CallsItAWidth) if answer == by(5) => by(4),
+            Some(VersionVice::LooksAtItBeforeTheWidths) if answer == by(4) => by(5),
+            _ => answer,
+        }
+    }
+
     /// What becomes of the answer to a modify, and of its store.
-    fn spoil(
-        &self,
-        store: &mut [u8],
-        n: usize,
-        work: &mut [u8],
-        modify: &Modify,
-        answer: Commanded,
-    ) -> Commanded {
-        use Commanded::{Blocked, Forwarded, Refused};
+    fn spoil(&self, lent: &mut Lent, modify: &Modify, answer: Answer) -> Answer {
+        use Answer::{Blocked, Forwarded, Refused};
         let Modify { given, is_old, is_present, is_full } = *modify;
+        let Lent { store, n, .. } = lent;
         let full = Refused { number: 13, place: 0 };
         match (self.0, answer) {
             (Some(VersionVice::AddsASecondRule), Forwarded { .. }) if is_old && is_present => {
-                insert(store, n, with(given, 0, 4))
+                insert(store, *n, with(given, 0, 4))
             }
-            (Some(VersionVice::AddsAModify), Forwarded { count }) if count > n => {
-                store[last_rule(store, count)] = 7;
+            (Some(VersionVice::AddsAModify), Forwarded { count }) if count > *n => {
+                let last = last_rule(store, count);
+                store[last] = 7;
                 answer
             }
-            (Some(VersionVice::AddsBeforeTheRules), Forwarded { count }) if count > n => {
+            (Some(VersionVice::AddsBeforeTheRules), Forwarded { count }) if count > *n => {
                 let end = last_rule(store, count) + RECORD;
                 let misses = records_of(store, count).iter().filter(|record| record[0] < 4).count();
                 store[misses * RECORD..end].rotate_right(RECORD);
                 answer
             }
-            (Some(VersionVice::AddsUncounted), Forwarded { .. }) => Forwarded { count: n },
+            (Some(VersionVice::AddsUncounted), Forwarded { .. }) => Forwarded { count: *n },
             (Some(VersionVice::AddsUnjudged), Blocked { .. }) if is_old && !is_present => {
-                insert(store, n, with(given, 0, 4))
+                insert(store, *n, with(given, 0, 4))
             }
             (Some(VersionVice::OverlooksAFullTable), Refused { number: 13, .. }) => {
-                store[4] = 4;
-                let answer = Second.command(store, n, work, &given);
-                store[4] = 1;
+                lent.store[4] = 4;
+                let answer = Second.answer(&Call::Command(given.to_vec()), lent);
+                lent.store[4] = 1;
                 answer
             }
             (Some(VersionVice::SaysFullOfPresentRules), Forwarded { .. } | Blocked { .. })
@@ -198,16 +178,20 @@ impl Outdated {
     }
 }
 
+fn records_of(store: &[u8], count: usize) -> &[Record] {
+    &store.as_chunks::<RECORD>().0[..count]
+}
+
 /// The first byte of the last rule, or of the last miss if there is none.
-fn last_rule(store: &[u8], n: usize) -> usize {
-    let last = records_of(store, n).iter().rposition(|record| record[0] <= 4);
+fn last_rule(store: &[u8], count: usize) -> usize {
+    let last = records_of(store, count).iter().rposition(|record| record[0] <= 4);
     RECORD * last.expect("a miss")
 }
 
 /// Puts a rule behind the last one.
-fn insert(store: &mut [u8], n: usize, rule: Record) -> Commanded {
+fn insert(store: &mut [u8], n: usize, rule: Record) -> Answer {
     let place = last_rule(store, n) + RECORD;
     store.copy_within(place..n * RECORD, place + RECORD);
     store[place..place + RECORD].copy_from_slice(&rule);
-    Commanded::Forwarded { count: n + 1 }
+    Answer::Forwarded { count: n + 1 }
 }
