@@ -5,7 +5,7 @@ mod worthless;
 
 use std::collections::BTreeSet;
 use wegbaro_tests::cases::patterns::{self, Pair, StepCase};
-use wegbaro_tests::cases::{self, expect_all, Case};
+use wegbaro_tests::cases::{self, expect_all};
 use wegbaro_tests::commands::{command, Wish, FAULTS, SOUND};
 use wegbaro_tests::compare::{self, routes, ADDED_BY_MODIFY, FULL_TO_MODIFY};
 use wegbaro_tests::damage::damage;
@@ -132,7 +132,7 @@ fn patterns_match_as_often_as_they_must() {
 #[test]
 fn every_row_has_cases() {
     let mut met = BTreeSet::new();
-    for case in cases::written() {
+    for case in cases::of_calls() {
         if let Answer::Refused { number, .. } = case.answer {
             met.insert(number);
         }
@@ -506,91 +506,63 @@ fn damage_meets_every_version() {
     assert!([0, 1, 2, 3, 4, 5, 255].iter().all(|version| met.contains(version)), "{met:?}");
 }
 
-/// Whether some case goes wrong.
-fn is_noticed(cases: &[Case], gate: &dyn Gate) -> bool {
-    cases.iter().any(|case| case.run(gate).is_err())
-}
-
 /// By cases of the call that has it.
 #[test]
 fn cases_notice_every_vice() {
-    let small = |case: &Case| case.lent.n < MOST_RECORDS;
-    let cases: Vec<Case> = cases::written().filter(small).collect();
-    for (vice, call) in VICES {
-        let gate = Worthless::new((vice, call));
-        let mut of_call = cases.iter().filter(|case| case.call.name() == call);
-        assert!(of_call.any(|case| case.run(&gate).is_err()), "{vice:?} in {call}");
-    }
+    let mut cases = cases::of_calls();
+    cases.retain(|case| case.lent.n < MOST_RECORDS);
+    Suspects::of(VICES, Worthless::new).expect_noticed_by(cases, &Second);
 }
 
 #[test]
 fn cases_notice_every_vice_of_routes() {
-    let cases = cases::routes::cases();
-    for vice in ROUTE_VICES {
-        assert!(is_noticed(&cases, &Astray(vice)), "{vice:?}");
-    }
-}
-
-/// A gate without such a vice passes, so that it is the vice that is noticed.
-#[test]
-fn cases_notice_every_vice_of_steps() {
-    let cases = cases::steps::cases();
-    assert!(!is_noticed(&cases, &Misled(None)));
-    for vice in STEP_VICES {
-        assert!(is_noticed(&cases, &Misled(Some(vice))), "{vice:?}");
-    }
+    Suspects::of(ROUTE_VICES, Astray).expect_noticed_by(cases::routes::cases(), &Second);
 }
 
 #[test]
 fn cases_notice_every_vice_of_groups() {
     let cases = [cases::groups::cases(), cases::groups::commands()].concat();
-    for vice in GROUP_VICES {
-        assert!(is_noticed(&cases, &Lax(vice)), "{vice:?}");
-    }
+    Suspects::of(GROUP_VICES, Lax).expect_noticed_by(cases, &Second);
 }
 
 #[test]
 fn cases_notice_every_vice_of_versions() {
     let cases = [cases::versions::cases(), cases::versions::commands()].concat();
-    assert!(!is_noticed(&cases, &Outdated(None)));
-    for vice in VERSION_VICES {
-        assert!(is_noticed(&cases, &Outdated(Some(vice))), "{vice:?}");
-    }
+    let suspects = Suspects::of(VERSION_VICES, |vice| Outdated(Some(vice)));
+    suspects.expect_noticed_by(cases, &Outdated(None));
 }
 
-/// A gate that runs groups bucket by bucket, and has no vice, passes.
+#[test]
+fn cases_notice_every_vice_of_steps() {
+    let suspects = Suspects::of(STEP_VICES, |vice| Misled(Some(vice)));
+    suspects.expect_noticed_by(cases::steps::cases(), &Misled(None));
+}
+
 #[test]
 fn cases_notice_every_vice_of_buckets() {
-    let cases = cases::group_steps::cases();
-    assert!(!is_noticed(&cases, &Spilling(None)));
-    for vice in BUCKET_VICES {
-        assert!(is_noticed(&cases, &Spilling(Some(vice))), "{vice:?}");
-    }
+    let suspects = Suspects::of(BUCKET_VICES, |vice| Spilling(Some(vice)));
+    suspects.expect_noticed_by(cases::group_steps::cases(), &Spilling(None));
 }
 
 #[test]
 fn cases_notice_every_vice_of_choices() {
-    let cases = cases::equals::cases();
-    assert!(!is_noticed(&cases, &Choosing(None)));
-    for vice in CHOICE_VICES {
-        assert!(is_noticed(&cases, &Choosing(Some(vice))), "{vice:?}");
-    }
+    let suspects = Suspects::of(CHOICE_VICES, |vice| Choosing(Some(vice)));
+    suspects.expect_noticed_by(cases::equals::cases(), &Choosing(None));
 }
 
 /// The cases of routes, and those of commands too, notice that not all equals act, or that more do.
 #[test]
 fn calls_notice_the_vices_of_equals() {
-    let (routes, commands) = (cases::routes::cases(), cases::commands::cases());
-    for vice in [
-        ChoiceVice::TakesTheFirst,
-        ChoiceVice::TakesTheLast,
-        ChoiceVice::TakesTheFirstThatSends,
-        ChoiceVice::TakesWhatAllSend,
-        ChoiceVice::TakesLowerOnes,
-    ] {
-        let gate = Choosing(Some(vice));
-        assert!(is_noticed(&routes, &gate), "{vice:?}");
-        assert!(is_noticed(&commands, &gate), "{vice:?}");
+    for cases in [cases::routes::cases(), cases::commands::cases()] {
+        let vices = [
+            ChoiceVice::TakesTheFirst,
+            ChoiceVice::TakesTheLast,
+            ChoiceVice::TakesTheFirstThatSends,
+            ChoiceVice::TakesWhatAllSend,
+            ChoiceVice::TakesLowerOnes,
+        ];
+        let suspects = Suspects::of(vices, |vice| Choosing(Some(vice)));
+        suspects.expect_noticed_by(cases, &Choosing(None));
     }
 }
 
@@ -652,8 +624,8 @@ fn comparisons_notice_every_vice() {
 #[test]
 fn comparisons_notice_every_vice_of_routes() {
     Suspects::of(ROUTE_VICES, Astray).expect_noticed(|suspects| {
-        routes::of_every_width(&Second, suspects, 32, 1, 2, SMALL)?;
         routes::of_winding(&Second, suspects, 31, 1, 12)?;
+        routes::of_every_width(&Second, suspects, 32, 1, 2, SMALL)?;
         Ok(())
     });
 }

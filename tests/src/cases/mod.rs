@@ -131,32 +131,22 @@ pub fn expect_all(results: impl IntoIterator<Item = Result<(), String>>) {
     assert!(wrong.is_empty(), "{}", wrong.join("\n"));
 }
 
-/// Every case of every call, as it is written.
-pub fn written() -> impl Iterator<Item = Case> {
-    all_checks().into_iter().chain(all_commands()).chain(routes::cases())
-}
-
-/// Every case of every call, those of the check call through the others too.
+/// Every case of every call, the check cases of the rows through the other calls too.
 pub fn all() -> impl Iterator<Item = Case> {
-    through_each_call(written())
+    // These are many, and made only when they are run.
+    let of_meaning = [steps::cases, equals::cases, group_steps::cases, truths::cases];
+    of_rows().chain(of_meaning.into_iter().flat_map(|cases| cases()))
 }
 
-/// The same, of the check cases only those of the rows: few enough for a gate that is slow.
+/// The same without the many check cases about meaning: few enough for a gate that is slow.
 pub fn of_rows() -> impl Iterator<Item = Case> {
-    through_each_call(checks_of_rows().into_iter().chain(all_commands()).chain(routes::cases()))
+    let checks = checks_of_rows().into_iter().flat_map(Case::with_other_calls);
+    checks.chain(all_commands()).chain(routes::cases())
 }
 
-fn through_each_call(cases: impl Iterator<Item = Case>) -> impl Iterator<Item = Case> {
-    cases.flat_map(|case| match case.call {
-        Call::Check => case.with_other_calls(),
-        _ => vec![case],
-    })
-}
-
-/// Every check case.
-pub fn all_checks() -> Vec<Case> {
-    [checks_of_rows(), steps::cases(), equals::cases(), group_steps::cases(), truths::cases()]
-        .concat()
+/// The cases of every call that are about its rows, its answers and what it leaves.
+pub fn of_calls() -> Vec<Case> {
+    [checks_of_rows(), all_commands(), routes::cases()].concat()
 }
 
 /// The starred check cases and those of the rows.

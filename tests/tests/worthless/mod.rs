@@ -9,7 +9,9 @@ pub mod versions;
 
 use std::cell::{Cell, RefCell};
 use std::fmt::Debug;
+use wegbaro_tests::cases::Case;
 use wegbaro_tests::gate::{Answer, Call, Gate, Lent, RECORD, STORE};
+use wegbaro_tests::random::Random;
 use wegbaro_tests::records::IN_PORT;
 use wegbaro_tests::second::Second;
 
@@ -32,9 +34,26 @@ impl Suspects {
     /// Fails unless a comparison with these gates ends because all of them were noticed.
     pub fn expect_noticed(self, comparison: impl Fn(&dyn Gate) -> Result<(), String>) {
         let ended = comparison(&self);
-        let unnoticed = self.unnoticed.into_inner();
-        let names: Vec<String> = unnoticed.into_iter().map(|(name, _)| name).collect();
-        assert!(names.is_empty(), "unnoticed: {names:?}, the comparison ended with {ended:?}");
+        assert!(self.are_noticed(), "{:?} unnoticed, ended with {ended:?}", self.names());
+    }
+
+    /// Fails unless cases notice all of these gates, in any order, and a sound gate passes those that are
+    /// run until then: so it is the vice that is noticed.
+    pub fn expect_noticed_by(self, mut cases: Vec<Case>, sound: &dyn Gate) {
+        Random::new(1).shuffle(&mut cases);
+        for case in cases.iter().take_while(|_| !self.are_noticed()) {
+            case.run(sound).unwrap();
+            self.unnoticed.borrow_mut().retain(|(_, gate)| case.run(gate.as_ref()).is_ok());
+        }
+        assert!(self.are_noticed(), "{:?} unnoticed", self.names());
+    }
+
+    fn are_noticed(&self) -> bool {
+        self.unnoticed.borrow().is_empty()
+    }
+
+    fn names(&self) -> Vec<String> {
+        self.unnoticed.borrow().iter().map(|(name, _)| name.clone()).collect()
     }
 }
 
