@@ -2,8 +2,9 @@
 //!
 //! The gate keeps the network; this keeps beside it what the words about a record need.
 
+use crate::kind;
 use crate::version::modify_adds;
-use crate::Record;
+use crate::{is_same_rule, Record};
 
 /// Records and where each comes from, in words.
 #[derive(Clone, Debug, Default, PartialEq, Eq)]
@@ -25,23 +26,24 @@ impl Book {
     /// The records that a command leaves.
     pub fn after(&self, command: &Record, origin: &str) -> Book {
         let mut left = self.clone();
-        let is_same = |rule: &Record| rule[0] == 4 && rule[1..8] == command[1..8];
-        let adds = command[0] == 6 || command[0] == 7 && modify_adds(&self.records);
-        match (command[0], self.records.iter().position(is_same)) {
-            (6 | 7, Some(place)) => {
+        let same = self.records.iter().position(|rule| is_same_rule(rule, command));
+        let adds =
+            command[0] == kind::ADD || command[0] == kind::MODIFY && modify_adds(&self.records);
+        match (command[0], same) {
+            (kind::ADD | kind::MODIFY, Some(place)) => {
                 left.records[place][8..21].copy_from_slice(&command[8..21]);
                 left.origins[place] = origin.to_string();
             }
             (_, None) if adds => {
-                let is_behind = |record: &Record| record[0] > 4;
+                let is_behind = |record: &Record| record[0] > kind::RULE;
                 let end = self.records.len();
                 let place = self.records.iter().position(is_behind).unwrap_or(end);
                 let mut rule = *command;
-                rule[0] = 4;
+                rule[0] = kind::RULE;
                 left.records.insert(place, rule);
                 left.origins.insert(place, origin.to_string());
             }
-            (8, Some(place)) => {
+            (kind::DELETE, Some(place)) => {
                 left.records.remove(place);
                 left.origins.remove(place);
             }

@@ -2,8 +2,9 @@
 
 use crate::book::Book;
 use crate::fault::quoted;
-use crate::formula::Node;
+use crate::formula::{node_of, Node};
 use crate::json::Object;
+use crate::kind;
 use crate::names::Names;
 use crate::priorities::{also_words, beside_words};
 use crate::steps::{Network, State, Taken};
@@ -189,6 +190,6 @@ fn reasons(network: Network, policy: usize, state: usize) -> Vec<Reason> {
 
 /// The nodes of a policy.
 pub(crate) fn nodes_of(records: &[Record], policy: usize) -> Vec<Node> {
-    let is_node = |record: &&Record| record[0] == 5 && usize::from(record[1]) == policy;
-    records.iter().filter(is_node).map(|node| [node[2], node[3], node[4]]).collect()
+    let is_node = |record: &&Record| record[0] == kind::POLICY && usize::from(record[1]) == policy;
+    records.iter().filter(is_node).map(node_of).collect()
 }

@@ -1,6 +1,7 @@
 //! Texts with their policies in the raw forms.
 
 use crate::fault::Fault;
+use crate::kind;
 use crate::names::Names;
 use crate::parse::{parse, Reader};
 use crate::print::{print_policy, whole_records};
@@ -14,12 +15,12 @@ pub fn expand(text: &str) -> Result<String, Vec<Fault>> {
     let (records, _) = whole_records(&parsed.bytes);
     let Some(widths) = parsed.names.widths else { return Ok(text.to_string()) };
     let raw = |number: u8, name: Option<&str>| {
-        let is_its = |record: &&Record| record[0] == 5 && record[1] == number;
+        let is_its = |record: &&Record| record[..2] == [kind::POLICY, number];
         let nodes: Vec<Record> = records.iter().filter(is_its).copied().collect();
         let name = name.map_or_else(String::new, |name| format!(" \"{name}\""));
         let mut reader = Reader::with(widths, Names::default());
         if let Some(before) = number.checked_sub(1) {
-            reader.note_record(&record(&[5, before]), 0);
+            reader.note_record(&record(&[kind::POLICY, before]), 0);
         }
         print_policy(&mut reader, &format!("policy {number}{name}"), &nodes)
     };

@@ -1,6 +1,8 @@
 //! Networks of three kinds, with shortest routes for random flows, as texts.
 
 use crate::groups::MOST_GROUPS;
+use crate::names::Point;
+use crate::templates::MOST_HOPS;
 use crate::widths::Widths;
 use std::fmt::Write;
 
@@ -39,8 +41,6 @@ const MOST_LINKS: usize = 5;
 const HOST: u8 = 1;
 /// How often a flow is drawn again whose header another flow has on its way.
 const TRIES: usize = 100;
-/// The most hops that a policy can hold a route to.
-const MOST_HOPS: usize = 7;
 
 /// How large a network is.
 #[derive(Clone, Copy, Debug, PartialEq, Eq)]
@@ -110,9 +110,6 @@ impl Random {
         from[self.below(from.len())]
     }
 }
-
-/// A switch and a port of it.
-type Point = [usize; 2];
 
 /// Switches, which of them have hosts, and links between two switches.
 struct Graph {
@@ -273,7 +270,7 @@ impl Graph {
         line("policy 0: no loop over states".to_string());
         line("policy 1: no frame comes back to a switch it left".to_string());
         let longest = flows.iter().map(|flow| flow.route.len()).max().unwrap_or(1);
-        if longest <= MOST_HOPS {
+        if longest <= MOST_HOPS.into() {
             let hops = if longest == 1 { "hop" } else { "hops" };
             line(format!("policy 2: no route of more than {longest} {hops}"));
         }
@@ -319,8 +316,8 @@ impl Flow {
     /// The switches of the route, each with the port to which it sends.
     fn sent(&self, graph: &Graph) -> Vec<Point> {
         let point = |switch: &usize| match self.next(*switch) {
-            Some(Some(next)) => [*switch, graph.port(*switch, next).into()],
-            _ => [*switch, HOST.into()],
+            Some(Some(next)) => [*switch as u8, graph.port(*switch, next)],
+            _ => [*switch as u8, HOST],
         };
         self.route.iter().map(point).collect()
     }

@@ -14,6 +14,7 @@ pub mod generate;
 pub mod groups;
 pub mod json;
 pub mod judging;
+pub mod kind;
 pub mod names;
 mod naming;
 pub mod parse;
@@ -45,6 +46,11 @@ pub type Record = [u8; RECORD];
 pub fn actions(record: &Record) -> impl Iterator<Item = [u8; 3]> + '_ {
     let used = record[9..21].chunks(3).take(record[8].into());
     used.map(|action| [action[0], action[1], action[2]])
+}
+
+/// Whether a record is the rule that another record, a rule or a command, is about.
+pub fn is_same_rule(rule: &Record, other: &Record) -> bool {
+    rule[0] == kind::RULE && rule[1..8] == other[1..8]
 }
 
 /// A record from its first bytes; the others are zero.

@@ -71,7 +71,7 @@ impl Names {
 
     /// A header by name or number.
     pub fn header(&self, header: u8) -> String {
-        let full = self.widths.map_or(u8::MAX, |of| of.headers());
+        let full = self.widths.map_or(u8::MAX, |of| of.last_header());
         let name = self.find(|named| *named == Named::Header([header, full]));
         name.map_or_else(|| header.to_string(), String::from)
     }

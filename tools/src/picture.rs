@@ -1,6 +1,7 @@
 //! A network as a graph for Graphviz.
 
 use crate::fault::quoted;
+use crate::kind;
 use crate::route::steps;
 use crate::source::Source;
 use crate::steps::{Network, State};
@@ -14,7 +15,8 @@ type Line = (u8, String);
 /// its rules and its groups.
 pub fn picture(source: &Source, rules: bool) -> Option<String> {
     let network = Network::new(&source.network)?;
-    let is_shown = |record: &&Record| rules && matches!(record[0], 3 | 4 | 9);
+    let is_shown =
+        |record: &&Record| rules && matches!(record[0], kind::MISS | kind::RULE | kind::GROUP);
     let shown = network.records.iter().filter(is_shown);
     let lines: Vec<Line> = shown
         .map(|record| (record[1], inside(source, record[1], &record_words(source, record))))
@@ -62,11 +64,11 @@ fn end_edge(source: &Source, network: Network, end: &str, state: usize) -> Strin
 /// The switches with lines inside them, the links, and other edges.
 fn graph(source: &Source, network: Network, lines: &[Line], edges: &str) -> String {
     let mut graph = String::from("graph network {\n    node [shape=box];\n");
-    for switch in 0..=network.widths.switches() {
+    for switch in 0..=network.widths.last_switch() {
         let label = switch_label(source, switch, lines);
         graph += &format!("    s{switch} [label=\"{label}\"];\n");
     }
-    for link in network.records.iter().filter(|record| record[0] == 2) {
+    for link in network.records.iter().filter(|record| record[0] == kind::LINK) {
         graph += &link_edge(source, link);
     }
     graph + edges + "}\n"

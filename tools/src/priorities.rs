@@ -8,6 +8,7 @@
 use crate::book::Book;
 use crate::breaking::{field_names, nodes_of};
 use crate::formula::Node;
+use crate::kind::node;
 use crate::steps::{priority_of, Network, State, Taken};
 use crate::words::{policies, Teller};
 use crate::Record;
@@ -66,16 +67,16 @@ fn has_all<T: Ord>(list: &[T], entries: &[T]) -> bool {
 pub fn is_even(nodes: &[Node]) -> bool {
     // For each node whether an R lies below it, over an even and over an odd number of NOTs.
     let mut below: Vec<[bool; 2]> = vec![];
-    for [kind, one, other] in nodes {
-        let operand = |number: &u8| below[usize::from(*number)];
+    for &[kind, one, other] in nodes {
+        let operand = |number: u8| below[usize::from(number)];
         below.push(match kind {
-            0 | 2 => [false, false],
-            1 => [true, false],
-            3 => {
+            node::BIT | node::E => [false, false],
+            node::R => [true, false],
+            node::NOT => {
                 let [even, odd] = operand(one);
                 [odd, even]
             }
-            4 | 5 => {
+            node::AND | node::OR => {
                 let [one, other] = [operand(one), operand(other)];
                 [one[0] || other[0], one[1] || other[1]]
             }

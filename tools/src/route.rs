@@ -2,6 +2,7 @@
 
 use crate::book::Book;
 use crate::json::Object;
+use crate::kind;
 use crate::parse::parse_states;
 use crate::picture::route_picture;
 use crate::priorities::beside_words;
@@ -102,7 +103,7 @@ impl Carrier {
     pub fn words(&self, source: &Source) -> String {
         let record = &source.network[self.place];
         let words = record_words(source, record);
-        let part = if record[0] == 9 { "bucket" } else { "action" };
+        let part = if record[0] == kind::GROUP { "bucket" } else { "action" };
         match self.part {
             Some(number) => format!("{words} ({part} {number})"),
             None => words,

@@ -2,6 +2,7 @@
 
 use crate::fault::{whole, Fault};
 use crate::json::Object;
+use crate::kind;
 use crate::names::Names;
 use crate::parse::{parse, Parsed, PolicyText, MOST_FAULTS};
 use crate::print::whole_records;
@@ -180,7 +181,7 @@ impl Source {
     /// The records up to the first command, and the commands.
     fn split(bytes: &[u8], lines: &[usize]) -> Source {
         let (records, rest) = whole_records(bytes);
-        let is_command = |record: &Record| (6..=8).contains(&record[0]);
+        let is_command = |record: &Record| kind::is_command(record[0]);
         let first = records.iter().position(is_command).unwrap_or(records.len());
         let (network, commands) = records.split_at(first);
         let given = |(place, record): (usize, &Record)| Given {
@@ -202,7 +203,7 @@ impl Source {
 
     /// Whether the network's last record is cut, so that no network is there to be judged.
     pub fn is_network_cut(&self) -> bool {
-        let starts_command = self.rest.first().is_some_and(|kind| (6..=8).contains(kind));
+        let starts_command = self.rest.first().is_some_and(|kind| kind::is_command(*kind));
         let may_go_on = self.commands.is_empty() && self.network.len() <= MOST_RECORDS;
         !self.rest.is_empty() && may_go_on && !starts_command
     }

@@ -164,13 +164,13 @@ impl<'a> Statement<'a> {
     }
 
     /// The words and symbols, read or not.
-    pub fn words(&self) -> impl Iterator<Item = &'a str> + '_ {
+    pub fn texts(&self) -> impl Iterator<Item = &'a str> + '_ {
         self.tokens.iter().map(|token| token.text)
     }
 
     /// The first word; an empty one if there is none.
     pub fn first(&self) -> &'a str {
-        self.words().next().unwrap_or_default()
+        self.texts().next().unwrap_or_default()
     }
 
     /// The word or symbol at a place.
@@ -237,10 +237,10 @@ impl<'a> Statement<'a> {
     }
 
     /// Reads the words and symbols if they are the next tokens.
-    pub fn accept_all(&mut self, words: &[&str]) -> bool {
-        let are_next = words.iter().enumerate().all(|(by, word)| self.ahead(by).text == *word);
+    pub fn accept_all(&mut self, texts: &[&str]) -> bool {
+        let are_next = texts.iter().enumerate().all(|(by, text)| self.ahead(by).text == *text);
         if are_next {
-            self.read += words.len();
+            self.read += texts.len();
         }
         are_next
     }
@@ -251,6 +251,11 @@ impl<'a> Statement<'a> {
             true => Ok(()),
             false => Err(self.expected(&format!("`{text}`"))),
         }
+    }
+
+    /// Reads the words and symbols.
+    pub fn expect_all(&mut self, texts: &[&str]) -> Result<(), Fault> {
+        texts.iter().try_for_each(|text| self.expect(text))
     }
 
     /// Reads a decimal number from 0 to the most, which has no leading zero.

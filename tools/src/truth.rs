@@ -1,6 +1,7 @@
 //! The truth of a policy's nodes for every pair of states, and the Y that goes with a state.
 
 use crate::formula::Node;
+use crate::kind::node;
 use crate::route;
 use crate::steps::{Network, State};
 
@@ -84,13 +85,17 @@ impl<'a> Truth<'a> {
         let of = |variable: u8, x: usize, y: usize| if variable == 0 { x } else { y };
         let operand = |number: u8| &self.planes[usize::from(number)];
         match kind {
-            0 => Plane::of(states, |x, y| of(one, x, y) >> other & 1 == 1),
-            1 => Plane::of(states, |x, y| steps.has(of(one, x, y), of(other, x, y))),
-            2 => Plane::of(states, |x, y| external[of(one, x, y)]),
-            3 => Plane::of(states, |x, y| !operand(one).has(x, y)),
-            4 => Plane::of(states, |x, y| operand(one).has(x, y) && operand(other).has(x, y)),
-            5 => Plane::of(states, |x, y| operand(one).has(x, y) || operand(other).has(x, y)),
-            6 | 7 => {
+            node::BIT => Plane::of(states, |x, y| of(one, x, y) >> other & 1 == 1),
+            node::R => Plane::of(states, |x, y| steps.has(of(one, x, y), of(other, x, y))),
+            node::E => Plane::of(states, |x, y| external[of(one, x, y)]),
+            node::NOT => Plane::of(states, |x, y| !operand(one).has(x, y)),
+            node::AND => {
+                Plane::of(states, |x, y| operand(one).has(x, y) && operand(other).has(x, y))
+            }
+            node::OR => {
+                Plane::of(states, |x, y| operand(one).has(x, y) || operand(other).has(x, y))
+            }
+            node::SOME | node::ALL => {
                 let plane = operand(one);
                 let truth = |free: usize| {
                     let has = |bound: usize| match other {
@@ -98,7 +103,7 @@ impl<'a> Truth<'a> {
                         _ => plane.has(free, bound),
                     };
                     match kind {
-                        6 => (0..states).any(has),
+                        node::SOME => (0..states).any(has),
                         _ => (0..states).all(has),
                     }
                 };
@@ -131,7 +136,7 @@ impl<'a> Truth<'a> {
     /// node is a step from X to Y, it is the route that the library finds.
     fn walk(&self, node: usize, from: usize, to: usize) -> Option<Vec<usize>> {
         match self.nodes[node] {
-            [1, 0, 1] => route::find(self.network.records, [from, to]).ok()?,
+            [node::R, 0, 1] => route::find(self.network.records, [from, to]).ok()?,
             _ => self.walk_in_plane(node, from, to),
         }
     }
@@ -211,21 +216,23 @@ impl Search<'_> {
         let [kind, one, other] = self.truth.nodes[node];
         let operands = [one, other].map(usize::from);
         match (kind, truth) {
-            (1, true) => self.add(reason, operands.map(|variable| at[variable]).to_vec()),
-            (3, _) => self.explore(Sight { node: operands[0], at, truth: !truth }, reason),
-            (4, true) | (5, false) => {
+            (node::R, true) => self.add(reason, operands.map(|variable| at[variable]).to_vec()),
+            (node::NOT, _) => self.explore(Sight { node: operands[0], at, truth: !truth }, reason),
+            (node::AND, true) | (node::OR, false) => {
                 for node in operands {
                     self.explore(Sight { node, at, truth }, reason);
                 }
             }
-            (4, false) | (5, true) => {
+            (node::AND, false) | (node::OR, true) => {
                 let agrees = |node: &usize| self.truth.planes[*node].has(at[0], at[1]) == truth;
                 if let Some(node) = operands.into_iter().find(agrees) {
                     self.explore(Sight { node, at, truth }, reason);
                 }
             }
-            (6, true) | (7, false) => self.choose(sight, operands[0], operands[1], reason),
-            (8, true) => {
+            (node::SOME, true) | (node::ALL, false) => {
+                self.choose(sight, operands[0], operands[1], reason)
+            }
+            (node::TC, true) => {
                 let [from, to] = [at[operands[1] / 2], at[operands[1] % 2]];
                 if let Some(walk) = self.truth.walk(operands[0], from, to) {
                     self.add(reason, walk);

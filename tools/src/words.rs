@@ -1,9 +1,10 @@
 //! Answers in words, as JSON objects, and as the program `gate` prints them.
 
 use crate::book::Book;
-use crate::causes::{command_cause, kind_words, network_cause, Cause};
+use crate::causes::{command_cause, network_cause, Cause};
 use crate::fault::quoted;
 use crate::json::Object;
+use crate::kind;
 use crate::names::Names;
 use crate::print::print_record;
 use crate::source::{Given, Source};
@@ -204,11 +205,11 @@ impl Teller<'_> {
             before.take_while(|other| other[..same] == record[..same]).count()
         };
         let name = match record[0] {
-            2 | 4 => format!("{} {}", kind_words(record[0]), earlier(1)),
-            3 => format!("miss of switch {}", record[1]),
-            5 => format!("policy {}, node {}", record[1], earlier(2)),
-            9 => format!("group {} of switch {}", record[2], record[1]),
-            kind => kind_words(kind),
+            kind @ (kind::LINK | kind::RULE) => format!("{} {}", kind::words(kind), earlier(1)),
+            kind::MISS => format!("miss of switch {}", record[1]),
+            kind::POLICY => format!("policy {}, node {}", record[1], earlier(2)),
+            kind::GROUP => format!("group {} of switch {}", record[2], record[1]),
+            kind => kind::words(kind),
         };
         match self.source.lines.get(place) {
             Some(line) => format!(", at record {place} ({name}), line {line}"),
@@ -235,7 +236,7 @@ impl Teller<'_> {
 
 /// How many policies there are; they are numbered from 0 without gaps.
 pub(crate) fn policies(records: &[Record]) -> usize {
-    let last = records.iter().rfind(|record| record[0] == 5);
+    let last = records.iter().rfind(|record| record[0] == kind::POLICY);
     last.map_or(0, |record| usize::from(record[1]) + 1)
 }
 
