@@ -1,8 +1,13 @@
 //! Networks of three kinds, with shortest routes for random flows, as texts.
 
+use crate::arguments::{fault, Arguments};
+use crate::fault::quoted;
 use crate::groups::MOST_GROUPS;
 use crate::names::Point;
+use crate::standard;
+use crate::subcommands::{ProgramOption, FLOWS, GROUPS, SEED, SWITCHES};
 use crate::templates::MOST_HOPS;
+use crate::trouble::{Status, Trouble};
 use crate::widths::Widths;
 use std::fmt::Write;
 
@@ -71,6 +76,24 @@ impl Options {
         let w = bits(self.switches);
         Widths { h: bits(self.flows).min(9 - PORTS - w), p: PORTS, w }
     }
+}
+
+/// `wegbaro generate`: the text of a network.
+pub fn run(arguments: &Arguments) -> Result<Status, Trouble> {
+    let word = arguments.joined(0);
+    let Some(kind) = Kind::of(&word) else {
+        let kinds = Kind::ALL.map(Kind::word).join(", ");
+        return Err(fault(format!("`{}` is no KIND ({kinds})", quoted(&word))));
+    };
+    let size = |option: ProgramOption, otherwise: u64| {
+        let number = arguments.number(option.name, otherwise)?;
+        Ok(usize::try_from(number).unwrap_or(usize::MAX))
+    };
+    let [switches, flows, groups] = [size(SWITCHES, 4)?, size(FLOWS, 4)?, size(GROUPS, 0)?];
+    let options = Options::new(switches, flows, groups).map_err(fault)?;
+    let text = generate(kind, options, arguments.number(SEED.name, 0)?);
+    standard::write(text.as_bytes())?;
+    Ok(Status::Good)
 }
 
 /// The text of a network; the same seed gives the same text.

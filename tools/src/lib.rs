@@ -1,12 +1,14 @@
 //! The program `wegbaro`: networks and commands as text, judged by the proved library, with answers
 //! in words. `README.md` describes the text and the program.
 
+pub mod answers;
+pub mod arguments;
 pub mod book;
-pub mod breaking;
-pub mod call;
 pub mod causes;
 pub mod compile;
+pub mod conversions;
 pub mod expand;
+pub mod explain;
 pub mod fault;
 pub mod fields;
 pub mod formula;
@@ -24,16 +26,17 @@ pub mod print;
 pub mod priorities;
 pub mod program;
 pub mod route;
+pub mod session;
 pub mod source;
 pub mod standard;
 pub mod steps;
+pub mod subcommands;
 pub mod templates;
 pub mod tokens;
 pub mod trouble;
 pub mod truth;
 pub mod version;
 pub mod widths;
-pub mod words;
 pub mod written;
 
 /// Bytes of a record.

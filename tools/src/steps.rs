@@ -6,6 +6,7 @@
 use crate::groups::{buckets, place_of, Target};
 use crate::kind::{self, action};
 use crate::names::Point;
+use crate::trouble::Trouble;
 use crate::widths::Widths;
 use crate::{actions, Record};
 
@@ -60,6 +61,14 @@ pub struct Taken {
     /// The places of the rules that act on the frame too, of the same priority, and do not send it
     /// there.
     pub beside: Vec<usize>,
+}
+
+/// A step of a walk, and what takes the frame on.
+#[derive(Clone, Debug, PartialEq, Eq)]
+pub struct Step {
+    pub from: usize,
+    pub to: usize,
+    pub taken: Taken,
 }
 
 /// A copy that a switch sends of a frame, and what sends it.
@@ -225,7 +234,7 @@ impl<'a> Network<'a> {
         if from.departing {
             let place = self.records.iter().position(|record| ends_at(record, from.point))?;
             taken.by.push(vec![Carrier { place, part: None }]);
-            return Some(taken);
+            return Some(taken).filter(|_| self.next(from) == [to]);
         }
         for place in self.acting(from) {
             match self.sent(place, from).into_iter().find(|sent| sent.copy == to) {
@@ -234,6 +243,22 @@ impl<'a> Network<'a> {
             }
         }
         Some(taken).filter(|taken| !taken.by.is_empty())
+    }
+
+    /// The steps of a walk in this network.
+    pub fn walked(&self, walk: &[usize]) -> Result<Vec<Step>, Trouble> {
+        walk.windows(2).map(|pair| self.step(pair[0], pair[1])).collect()
+    }
+
+    fn step(&self, from: usize, to: usize) -> Result<Step, Trouble> {
+        let [one, other] = [from, to].map(|number| State::numbered(number, self.widths));
+        match self.taken(one, other) {
+            Some(taken) => Ok(Step { from, to, taken }),
+            None => {
+                let message = format!("no record takes a frame from state {from} to state {to}");
+                Err(Trouble::internal(message))
+            }
+        }
     }
 
     /// Whether one state steps to another.

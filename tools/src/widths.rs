@@ -61,14 +61,6 @@ pub fn pattern(value: u8, care: u8, width: u8) -> String {
     (0..width).rev().map(character).collect()
 }
 
-/// A pattern: a number if it has no star.
-pub fn pattern_word(value: u8, care: u8, width: u8) -> String {
-    match care == (1 << width) - 1 {
-        true => value.to_string(),
-        false => pattern(value, care, width),
-    }
-}
-
 /// Value and care of a word: as many 0, 1 and star characters as the width, a shorter decimal number
 /// without leading zeros, or one star for stars only. A number within a width above 1 is always
 /// shorter than the width.

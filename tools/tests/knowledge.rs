@@ -15,7 +15,8 @@ use wegbaro_tests::random::Random;
 use wegbaro_tests::records::{delete, miss, modify, output, record, rule, widths, with};
 use wegbaro_tests::records::{ANY, VERSIONS};
 use wegbaro_tests::second::{self, Second};
-use wegbaro_tools::book::Book;
+use wegbaro_tools::answers::Standing;
+use wegbaro_tools::book::{Book, Origin};
 use wegbaro_tools::causes::{command_cause, network_cause};
 use wegbaro_tools::formula::Node;
 use wegbaro_tools::parse::{parse, parse_command};
@@ -24,7 +25,6 @@ use wegbaro_tools::route::find;
 use wegbaro_tools::source::Source;
 use wegbaro_tools::steps::{Network, State};
 use wegbaro_tools::truth::Truth;
-use wegbaro_tools::words::record_words;
 use wegbaro_tools::{actions, Record};
 
 const SMALL: Widths = Widths { h: 1, p: 2, w: 1 };
@@ -221,7 +221,7 @@ fn random_pair(random: &mut Random, bits: u8) -> Vec<Node> {
 
 /// The Y of the first `exists Y.`.
 fn first_y(truth: &Truth, x: usize) -> Option<usize> {
-    truth.reasons(x).iter().find_map(|reason| reason.y)
+    truth.reasons(x).unwrap().iter().find_map(|reason| reason.y)
 }
 
 /// Whether a formula is true for a pair of states, by the second implementation.
@@ -310,7 +310,7 @@ fn walk_to(network: Network, from: usize, to: usize) -> Vec<usize> {
     let is_y = push_is_state(&mut nodes, Y, to, 5);
     let both = push(&mut nodes, and(is_y, 1));
     push(&mut nodes, some(both, Y));
-    let reasons = Truth::of(network, &nodes).reasons(from);
+    let reasons = Truth::of(network, &nodes).reasons(from).unwrap();
     assert_eq!(reasons.len(), 2);
     assert_eq!(reasons[1].y, Some(to));
     reasons[1].walks[0].clone()
@@ -324,7 +324,7 @@ fn reasons_of_shared_nodes() {
     for last in 1..31 {
         push(&mut nodes, and(last, last));
     }
-    let reasons = Truth::of(network(&bare), &nodes).reasons(31);
+    let reasons = Truth::of(network(&bare), &nodes).reasons(31).unwrap();
     assert_eq!(reasons.iter().filter(|reason| reason.y == Some(8)).count(), 1);
 }
 
@@ -344,7 +344,7 @@ fn the_book_goes_with_the_gate() {
             let before = gate.records().to_vec();
             match gate.command(&given) {
                 Ok(wegbaro::Commanded::Forwarded { .. }) => {
-                    book = book.after(&given, &format!("command {number}"));
+                    book = book.after(&given, Origin::Command(number));
                     forwarded += 1;
                 }
                 Ok(_) => blocked += 1,
@@ -370,18 +370,19 @@ fn a_modify_without_its_rule() {
     };
     for version in [0, 4] {
         let book = before(version, &[high]);
-        assert_eq!(book.after(&modify(low), "command 1"), book);
+        assert_eq!(book.after(&modify(low), Origin::Command(1)), book);
     }
-    let left = before(1, &[high]).after(&modify(low), "command 1");
+    let left = before(1, &[high]).after(&modify(low), Origin::Command(1));
     assert_eq!(left.records, before(1, &[high, low]).records);
-    assert_eq!(left.origins, ["record 0", "record 1", "record 2", "command 1", "record 3"]);
-    let first = before(1, &[]).after(&modify(low), "command 1");
+    let origins: Vec<String> = left.origins.iter().map(Origin::to_string).collect();
+    assert_eq!(origins, ["record 0", "record 1", "record 2", "command 1", "record 3"]);
+    let first = before(1, &[]).after(&modify(low), Origin::Command(1));
     assert_eq!(first.records, before(1, &[low]).records);
     // With its rule it replaces the actions, and a delete without its rule changes nothing.
     let dropped = rule(0, 20, ANY, ANY, &[output(0, 3)]);
-    let replaced = left.after(&modify(dropped), "command 2");
+    let replaced = left.after(&modify(dropped), Origin::Command(2));
     assert_eq!(replaced.records, before(1, &[dropped, low]).records);
-    assert_eq!(first.after(&delete(high), "command 2"), first);
+    assert_eq!(first.after(&delete(high), Origin::Command(2)), first);
 }
 
 /// Puts the last node of the last policy there once more.
@@ -450,10 +451,12 @@ fn commands_in_words_are_read_back() {
     ] {
         let source = Source::of_text(parse(text).unwrap());
         let of = source.widths().unwrap();
+        let book = Book::default();
+        let standing = Standing { source: &source, book: &book };
         let mut named = 0;
-        for given in &source.commands {
-            let words = record_words(&source, &given.record);
-            assert_eq!(parse_command(&words, of, &source.names), Ok(given.record), "{words}");
+        for command in &source.commands {
+            let words = standing.record_words(&command.record);
+            assert_eq!(parse_command(&words, of, &source.names), Ok(command.record), "{words}");
             named += usize::from(words.contains(name));
         }
         assert!(named >= least, "{named}");
@@ -466,7 +469,8 @@ fn groups_in_words() {
     let text = include_str!("../../examples/uplinks/network.txt");
     let source = Source::of_text(parse(text).unwrap());
     let groups = source.network.iter().filter(|record| record[0] == 9);
-    let words: Vec<String> = groups.map(|group| record_words(&source, group)).collect();
+    let standing = Standing { source: &source, book: &Book::default() };
+    let words: Vec<String> = groups.map(|group| standing.record_words(group)).collect();
     let expected =
         ["group 0/uplinks: output 4; output 5", "group 0/mirror: output 3; group uplinks"];
     assert_eq!(words, expected);

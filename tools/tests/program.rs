@@ -13,6 +13,7 @@ use wegbaro_tests::library;
 use wegbaro_tests::networks::full_switch;
 use wegbaro_tests::random::Random;
 use wegbaro_tests::records::{add, link, miss, output, rule, widths, with, Record, ANY, IN_PORT};
+use wegbaro_tools::subcommands::{Subcommand, SUBCOMMANDS};
 
 /// The words about K and its two adds, as a text.
 const K_WORDS: &str = "\
@@ -40,10 +41,20 @@ fn wide() -> Vec<Record> {
 fn help_and_version() {
     let help = wegbaro(&["--help"], b"");
     assert_eq!((help.status, help.said.as_str()), (Some(0), ""));
-    for task in ["check", "run", "session", "records", "text", "expand", "explain", "picture"] {
-        assert!(help.text().contains(&format!("  wegbaro {task} FILE ")), "{task}");
+    let column = |text: &str| text.find("judges the network").unwrap();
+    let first = help.text().lines().nth(2).unwrap();
+    assert_eq!(first, "  wegbaro check FILE        judges the network");
+    let readme = include_str!("../README.md");
+    for Subcommand { name, operands, .. } in &SUBCOMMANDS {
+        let call = format!("  wegbaro {name} {}", operands.shown);
+        assert!(help.text().contains(&call), "{name}");
+        assert!(readme.contains(&format!("  {call}")), "{name}");
     }
-    assert!(help.text().contains("  wegbaro route FILE FROM TO\n"));
+    let route = format!("  wegbaro route FILE FROM TO\n{:1$}how", "", column(first));
+    assert!(help.text().contains(&route), "{}", help.text());
+    let json = "  --json          check, run, session, explain, route: answers as JSON, one object";
+    assert!(help.text().contains(json), "{}", help.text());
+    assert!(help.text().contains("  --seed N        generate: the same seed"), "{}", help.text());
     assert!(help.text().lines().all(|line| line.chars().count() < 100));
     assert_eq!(wegbaro(&["check", "--help"], b"").text(), help.text());
     let version = format!("wegbaro {}\n", env!("CARGO_PKG_VERSION"));

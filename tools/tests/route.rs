@@ -8,7 +8,7 @@ use std::os::unix::ffi::OsStrExt;
 use wegbaro_tests::k::k;
 use wegbaro_tests::networks::{all_widths, random_network, MODEST};
 use wegbaro_tests::random::Random;
-use wegbaro_tools::route::{find, steps};
+use wegbaro_tools::route::find;
 use wegbaro_tools::steps::Network;
 
 const K_ROUTE: &str = "\
@@ -394,7 +394,7 @@ fn routes_of_random_networks() {
             let Some(route) = find(&records, ends).unwrap() else { continue };
             assert_eq!([route[0], route[route.len() - 1]], ends);
             assert!(route.windows(2).all(|pair| network.steps(pair[0], pair[1])), "{route:?}");
-            assert_eq!(steps(network, &route).len(), route.len() - 1, "{route:?}");
+            assert_eq!(network.walked(&route).unwrap().len(), route.len() - 1, "{route:?}");
             longest = longest.max(route.len());
         }
     }
