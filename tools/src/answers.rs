@@ -50,11 +50,15 @@ pub trait Answer {
 /// An answer as it is written, ending with a line break.
 pub fn told(answer: &dyn Answer, standing: Standing, format: Format) -> Result<String, Trouble> {
     let told = match (format, answer.line()) {
-        (Format::Gate, Some(line)) => line,
-        (Format::Json, _) => answer.object(standing)?.to_string(),
-        _ => answer.words(standing)?,
+        (Format::Gate, Some(line)) => Ok(line),
+        (Format::Json, _) => answer.object(standing).map(|object| object.to_string()),
+        _ => answer.words(standing),
     };
-    Ok(told + "\n")
+    match (told, answer.line()) {
+        (Ok(told), _) => Ok(told + "\n"),
+        (Err(trouble), Some(line)) => Err(trouble.beside(&line)),
+        (Err(trouble), None) => Err(trouble),
+    }
 }
 
 /// The network that an answer is about, as it stands after the commands so far, and what its text

@@ -46,4 +46,11 @@ impl Trouble {
         let message = format!("internal error: {}; please report this", message.into());
         Trouble::new(Status::Internal, "internal", message)
     }
+
+    /// The trouble with an answer, beside the answer as the program `gate` prints it.
+    pub fn beside(self, line: &str) -> Trouble {
+        let message = format!("{}the library's answer is `{line}`\n", self.message);
+        let objects = self.objects.into_iter().map(|object| object.text("line", line)).collect();
+        Trouble { message, objects, ..self }
+    }
 }

@@ -16,19 +16,26 @@ use wegbaro_tools::route::find;
 use wegbaro_tools::source::{Command, Source};
 use wegbaro_tools::trouble::{Status, Trouble};
 
-/// The trouble is an internal error with this message.
-fn is_internal<T: std::fmt::Debug>(found: Result<T, Trouble>, message: &str) {
+/// The trouble is an internal error with this message, and the line of the answer is beside it.
+fn is_beside<T: std::fmt::Debug>(found: Result<T, Trouble>, message: &str, line: Option<String>) {
     let trouble = found.unwrap_err();
     let message = format!("internal error: {message}; please report this");
-    assert_eq!((trouble.status, trouble.message), (Status::Internal, format!("{message}\n")));
-    let object = format!(r#"{{"answer":"internal","message":"{message}"}}"#);
+    let beside = line.as_ref().map(|line| format!("the library's answer is `{line}`\n"));
+    let words = format!("{message}\n{}", beside.unwrap_or_default());
+    assert_eq!((trouble.status, trouble.message), (Status::Internal, words));
+    let line = line.map_or_else(String::new, |line| format!(r#","line":"{line}""#));
+    let object = format!(r#"{{"answer":"internal","message":"{message}"{line}}}"#);
     assert_eq!(trouble.objects[0].to_string(), object);
+}
+
+fn is_internal<T: std::fmt::Debug>(found: Result<T, Trouble>, message: &str) {
+    is_beside(found, message, None);
 }
 
 /// An answer that is told in no form.
 fn is_unexplained(answer: &dyn Answer, standing: Standing, message: &str) {
     for format in [Format::Words, Format::Json] {
-        is_internal(told(answer, standing, format), message);
+        is_beside(told(answer, standing, format), message, answer.line());
     }
 }
 

@@ -159,7 +159,7 @@ header 1: output 1, output **, set 0, in_port)
     let command =
         r#""command":"add 0 priority 1 port ** header 1: output 1, output **, set 0, in_port""#;
     assert!(ran.text().contains(command), "{}", ran.text());
-    assert!(ran.text().ends_with("\"route\":[3,10]}\n"), "{}", ran.text());
+    assert!(ran.text().contains(r#","route":[3,10],"reasons":[{"y":"#), "{}", ran.text());
 }
 
 /// A note is said on standard error, and is no fault.
@@ -175,10 +175,18 @@ fn an_output_that_sends_nothing() {
 fn answers_as_json() {
     let state = r#"{"number":3,"switch":0,"port":1,"direction":"arriving","header":1,"words":"switch 0, port 1, arriving, header 1"}"#;
     let y = r#"{"number":29,"switch":1,"port":2,"direction":"departing","header":1,"words":"switch 1, port 2, departing, header 1"}"#;
+    let by = |state: &str, by: &str| format!("{},{by}}}", state.strip_suffix('}').unwrap());
+    let states = [
+        by(state, r#""by":"rule 0 priority 5 port ** header *: output 2","by_record":6,"by_command":1"#),
+        r#"{"number":21,"switch":0,"port":2,"direction":"departing","header":1,"words":"switch 0, port 2, departing, header 1","by":"link 0:2 - 1:1","by_record":1}"#.to_string(),
+        r#"{"number":11,"switch":1,"port":1,"direction":"arriving","header":1,"words":"switch 1, port 1, arriving, header 1","by":"rule 1 priority 10 port 1 header *: output 2","by_record":5}"#.to_string(),
+        y.to_string(),
+    ];
     let lines = [
         r#"{"subject":"start","answer":"holds","records":20,"policies":1}"#.to_string(),
         format!(
-            r#"{{"subject":"command","number":1,"command":"add 0 priority 5 port ** header *: output 2","answer":"blocked","policy":0,"state":{state},"y":{y},"route":[3,21,11,29]}}"#
+            r#"{{"subject":"command","number":1,"command":"add 0 priority 5 port ** header *: output 2","answer":"blocked","policy":0,"state":{state},"y":{y},"route":[3,21,11,29],"reasons":[{{"y":{y},"walks":[{{"route":[3,21,11,29],"states":[{}]}}]}}]}}"#,
+            states.join(",")
         ),
         r#"{"subject":"command","number":2,"command":"add 0 priority 5 port ** header 0: output 2","answer":"forwarded","records":21}"#.to_string(),
         r#"{"subject":"command","number":3,"command":"bytes 07 01 00 00 00 00 00 00 00 00 00 00 00 00 00 00 00 00 00 00 00 00 00 00","answer":"refused","row":12,"place":0,"cause":"the action count is 0, and must be 1 to 4"}"#.to_string(),

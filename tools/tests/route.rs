@@ -378,7 +378,7 @@ command 1 (add 0 priority 1 port 1 header *: output 3, output 2), line 9: blocke
     let rule = "0 priority 1 port 1: output 3, output 2\n";
     expect(&["run", "-"], format!("{network}add {rule}").as_bytes(), 1, blocked);
     let ran = wegbaro(&["run", "--json", "-"], format!("{network}add {rule}").as_bytes());
-    assert!(ran.text().ends_with("\"route\":[3,37,21,57]}\n"), "{}", ran.text());
+    assert!(ran.text().contains(r#","route":[3,37,21,57],"reasons":["#), "{}", ran.text());
 }
 
 /// Every step of every route has a rule, a miss or a link that takes the frame on.

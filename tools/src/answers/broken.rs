@@ -91,7 +91,8 @@ impl Standing<'_> {
         Some(format!("switch {switch}: in at port {port}, header {header}"))
     }
 
-    /// The same as fields of an object.
+    /// The same as fields of an object: every reason with its Y and its walks, and those of the first
+    /// one by themselves.
     pub fn broken_object(
         self,
         object: Object,
@@ -104,13 +105,23 @@ impl Standing<'_> {
         let of = network.widths;
         let reasons = reasons(network, policy, state)?;
         let first = reasons.first().cloned().unwrap_or_default();
+        let objects: Result<Vec<Object>, Trouble> =
+            reasons.iter().map(|reason| self.reason_object(network, reason)).collect();
         Ok(object
             .number("policy", policy)
             .maybe(name, |object, name| object.text("policy_name", name))
             .maybe(text, |object, policy| object.number("policy_line", policy.line))
             .object("state", self.state_object(of, state))
             .maybe(first.y, |object, y| object.object("y", self.state_object(of, y)))
-            .maybe(first.walks.first(), |object, walk| object.numbers("route", walk)))
+            .maybe(first.walks.first(), |object, walk| object.numbers("route", walk))
+            .objects("reasons", &objects?))
+    }
+
+    fn reason_object(self, network: Network, reason: &Reason) -> Result<Object, Trouble> {
+        let walk = |walk: &Vec<usize>| self.walk_object(Object::new(), network, walk);
+        let walks: Result<Vec<Object>, Trouble> = reason.walks.iter().map(walk).collect();
+        let y = reason.y.map(|y| self.state_object(network.widths, y));
+        Ok(Object::new().maybe(y, |object, y| object.object("y", y)).objects("walks", &walks?))
     }
 }
 
