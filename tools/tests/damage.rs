@@ -1,5 +1,8 @@
 //! Texts with random damage: whatever they are, they are read or their faults are told.
 
+mod seeded;
+
+use seeded::seeded;
 use std::path::Path;
 use wegbaro_tests::random::Random;
 use wegbaro_tools::parse::{expand, parse, Parsed, MOST_FAULTS};
@@ -86,7 +89,7 @@ fn told(text: &str) -> bool {
 
 #[test]
 fn damaged_examples() {
-    let mut random = Random::new(1);
+    let mut random = seeded(1);
     let folder = Path::new(env!("CARGO_MANIFEST_DIR")).join("../examples");
     let read = |example| std::fs::read_to_string(folder.join(example).join("network.txt")).unwrap();
     let texts = ["chain", "flood", "k", "openflow10", "routes", "templates", "uplinks"].map(read);

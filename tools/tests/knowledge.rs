@@ -2,8 +2,10 @@
 //! implementation.
 
 mod common;
+mod seeded;
 
 use common::with_policies;
+use seeded::seeded;
 use wegbaro::{check, command, work_bytes, Gate, Refusal, STORE_BYTES};
 use wegbaro_tests::commands::random_command;
 use wegbaro_tests::damage::damage;
@@ -126,7 +128,7 @@ fn groups_in_a_row() {
 
 #[test]
 fn steps_are_those_of_the_second_implementation() {
-    let mut random = Random::new(1);
+    let mut random = seeded(1);
     let [mut back, mut through, mut several] = [0, 0, 0];
     for of in all_widths() {
         let records = random_network(&mut random, of, MODEST);
@@ -151,7 +153,7 @@ fn steps_are_those_of_the_second_implementation() {
 /// Two states make a route of the library just where the one steps to the other.
 #[test]
 fn steps_are_those_of_the_library() {
-    let mut random = Random::new(9);
+    let mut random = seeded(9);
     let [mut back, mut through, mut several] = [0, 0, 0];
     for _ in 0..60 {
         let records = random_network(&mut random, SMALL, BARE);
@@ -183,7 +185,7 @@ fn lowest(records: &[Record]) -> Option<usize> {
 
 #[test]
 fn truth_is_that_of_the_second_implementation() {
-    let mut random = Random::new(2);
+    let mut random = seeded(2);
     let [mut held, mut broken] = [0, 0];
     for round in 0..400 {
         let of = if round % 10 == 0 { Widths { h: 2, p: 3, w: 1 } } else { SMALL };
@@ -240,7 +242,7 @@ fn is_true(bare: &[Record], nodes: &[Node], x: usize, y: usize) -> bool {
 /// With `A & exists Y. B` the witness is the lowest Y that makes B true with the state.
 #[test]
 fn the_witness_is_the_lowest() {
-    let mut random = Random::new(3);
+    let mut random = seeded(3);
     let mut found = 0;
     for round in 0..400 {
         let bare = random_network(&mut random, ONE, BARE);
@@ -266,7 +268,7 @@ fn the_witness_is_the_lowest() {
 
 #[test]
 fn no_witness_where_no_y_is_chosen() {
-    let bare = random_network(&mut Random::new(4), SMALL, BARE);
+    let bare = random_network(&mut seeded(4), SMALL, BARE);
     let of = |nodes: &[Node]| first_y(&Truth::of(network(&bare), nodes), 31);
     let [bit, some_y, all_y] = [[0, 1, 3], [6, 0, 1], [7, 0, 1]];
     assert_eq!(of(&[bit, some_y]), Some(8));
@@ -281,7 +283,7 @@ fn no_witness_where_no_y_is_chosen() {
 /// The walk of a policy about what is reached leads by steps from X to Y, and none is shorter.
 #[test]
 fn walks() {
-    let mut random = Random::new(5);
+    let mut random = seeded(5);
     let mut longest = 0;
     for _ in 0..60 {
         let records = random_network(&mut random, SMALL, BARE);
@@ -319,7 +321,7 @@ fn walk_to(network: Network, from: usize, to: usize) -> Vec<usize> {
 /// What many shared nodes are made of is looked at once.
 #[test]
 fn reasons_of_shared_nodes() {
-    let bare = random_network(&mut Random::new(8), SMALL, BARE);
+    let bare = random_network(&mut seeded(8), SMALL, BARE);
     let mut nodes = vec![[0, 1, 3], [6, 0, 1]];
     for last in 1..31 {
         push(&mut nodes, and(last, last));
@@ -331,7 +333,7 @@ fn reasons_of_shared_nodes() {
 /// The book goes with the gate's store through a series of commands.
 #[test]
 fn the_book_goes_with_the_gate() {
-    let mut random = Random::new(6);
+    let mut random = seeded(6);
     let [mut forwarded, mut blocked, mut added] = [0, 0, 0];
     for round in 0..60 {
         let mut records = guarded_network(&mut random, SMALL);
@@ -394,7 +396,7 @@ fn repeat_last_node(records: &mut Vec<Record>) {
 /// Every refusal of a damaged network or command has a cause of its own row.
 #[test]
 fn every_refusal_has_a_cause() {
-    let mut random = Random::new(7);
+    let mut random = seeded(7);
     let mut seen = [0; 17];
     let mut words: Vec<Vec<String>> = vec![vec![]; 17];
     let mut count = |refusal: Refusal, cause: Option<wegbaro_tools::causes::Cause>, of: &str| {

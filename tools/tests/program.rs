@@ -1,8 +1,10 @@
 //! The program's calls: what is written, what is said, and the exit status.
 
 mod running;
+mod seeded;
 
 use running::{complains, expect, file, program, run, wegbaro, K, K_LINES};
+use seeded::seeded;
 use std::fs::{File, OpenOptions};
 use std::os::unix::process::CommandExt;
 use std::process::Stdio;
@@ -78,6 +80,10 @@ fn faulty_calls() {
     complains(&["generate", "ring", "--seed", "x"], b"", 2, "--seed `x` is no number");
     complains(&["generate", "ring", "--switches=99"], b"", 2, "switches");
     complains(&["generate", "ring", "--groups", "17"], b"", 2, "groups is at most 16, not 17");
+    // Of an option given twice the later one counts.
+    let twice = wegbaro(&["generate", "ring", "--seed", "1", "--seed=2"], b"");
+    assert_eq!(twice.text(), wegbaro(&["generate", "ring", "--seed", "2"], b"").text());
+    assert_ne!(twice.text(), wegbaro(&["generate", "ring", "--seed", "1"], b"").text());
     // Behind `--` an option is a file's name.
     complains(&["check", "--", "--json"], b"", 3, "--json: No such file");
 }
@@ -242,7 +248,7 @@ fn commands_that_are_not_judged() {
 /// the tool lends as much as the network needs.
 #[test]
 fn the_lines_of_the_gate() {
-    let mut random = Random::new(11);
+    let mut random = seeded(11);
     let mut compared = 0;
     for _ in 0..150 {
         let input = random_input(&mut random);
@@ -294,7 +300,7 @@ fn words(random: &mut Random) -> String {
 /// Whatever the input is, every call ends with one of the four statuses.
 #[test]
 fn spoiled_inputs() {
-    let mut random = Random::new(12);
+    let mut random = seeded(12);
     let text = std::fs::read(K).unwrap();
     let tasks = ["check", "run", "records", "text", "expand", "picture"];
     let mut seen = [0; 3];
@@ -458,7 +464,56 @@ fn reading_fails() {
         complains(&[task, folder], b"", 3, "Is a directory");
         complains(&[task, "no such file"], b"", 3, "no such file: No such file or directory");
     }
-    complains(&["check", "-"], &vec![b'#'; (64 << 20) + 1], 2, "has more than 64 MiB");
+}
+
+/// An empty file of so many bytes, of which none is on the disk.
+fn sparse(name: &str, bytes: u64) -> String {
+    let path = file(name, b"");
+    OpenOptions::new().write(true).open(&path).unwrap().set_len(bytes).unwrap();
+    path
+}
+
+/// 64 MiB are read, of a file, of standard input and of answers; one byte more is told, not cut.
+#[test]
+fn as_much_as_is_read() {
+    let most = 64 << 20;
+    let [whole, more] = [sparse("most", most), sparse("more", most + 1)];
+    let told = |arguments: &[&str], input: &str| {
+        let mut program = program(arguments);
+        program.stdin(Stdio::from(File::open(input).unwrap()));
+        let ran = run(program, b"");
+        assert_eq!((ran.status, ran.text()), (Some(2), ""), "{arguments:?}: {}", ran.said);
+        ran.said
+    };
+    let text = "has records, and a text is expected (`wegbaro text` gives their text)\n";
+    assert_eq!(told(&["records", &whole], K), format!("{whole} {text}"));
+    assert_eq!(told(&["records", &more], K), format!("{more} has more than 64 MiB\n"));
+    assert_eq!(told(&["records", "-"], &whole), format!("standard input {text}"));
+    assert_eq!(told(&["records", "-"], &more), "standard input has more than 64 MiB\n");
+    let answer = told(&["explain", K], &whole);
+    assert!(answer.starts_with("line 1 of the answers is `\\x00"), "{answer}");
+    let cut = "the answers on standard input have more than 64 MiB\n";
+    assert_eq!(told(&["explain", K], &more), cut);
+    std::fs::remove_file(whole).unwrap();
+    std::fs::remove_file(more).unwrap();
+}
+
+/// Records are told by the kind that they start with, and a cut record is a command's by its kind.
+#[test]
+fn first_bytes_of_records() {
+    let none = "start refused 1 0\n";
+    for kind in 6..=8 {
+        expect(&["check", "--gate", "-"], &[&[kind][..], &[0; 23]].concat(), 1, none);
+        let cut = [&k().concat()[..], &[kind]].concat();
+        expect(&["run", "--gate", "-"], &cut, 2, "start holds\nend short\n");
+    }
+    for kind in [5, 9] {
+        let cut = [&k().concat()[..], &[kind]].concat();
+        expect(&["run", "--gate", "-"], &cut, 2, "end short\n");
+    }
+    let many = |count: usize| [vec![1; 24 * count], vec![1]].concat();
+    expect(&["run", "--gate", "-"], &many(657), 2, "end short\n");
+    expect(&["run", "--gate", "-"], &many(658), 1, none);
 }
 
 /// A program with standard input or output closed from the start.
@@ -569,6 +624,13 @@ fn pictures() {
     let ran = wegbaro(&["picture", "-"], named);
     assert!(ran.text().contains("s1 [label=\"switch 1\\ncore\"]"), "{}", ran.text());
     assert!(ran.text().contains("headlabel=\"1 up\""), "{}", ran.text());
+    // Each end has the name that its own switch gives.
+    let both = b"widths H 1 P 3 W 1\nname port 0:2 down\nname port 1:2 line\n\
+                 name port 0:1 pump\nname port 1:1 up\nlink 0:2 - 1:1\nmiss 0: output drop\n\
+                 miss 1: output drop\n";
+    let ran = wegbaro(&["picture", "-"], both);
+    let labels = "s0 -- s1 [taillabel=\"2 down\", headlabel=\"1 up\"];";
+    assert!(ran.text().contains(labels), "{}", ran.text());
 }
 
 /// `explain` notices answers that are not about this file.

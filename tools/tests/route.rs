@@ -1,13 +1,14 @@
 //! Routes: what is told and drawn of them, and how the states of a call are read.
 
 mod running;
+mod seeded;
 
 use running::{complains, expect, file, program, run, wegbaro, K};
+use seeded::seeded;
 use std::ffi::OsStr;
 use std::os::unix::ffi::OsStrExt;
 use wegbaro_tests::k::k;
 use wegbaro_tests::networks::{all_widths, random_network, MODEST};
-use wegbaro_tests::random::Random;
 use wegbaro_tools::route::find;
 use wegbaro_tools::steps::Network;
 
@@ -384,7 +385,7 @@ command 1 (add 0 priority 1 port 1 header *: output 3, output 2), line 9: blocke
 /// Every step of every route has a rule, a miss or a link that takes the frame on.
 #[test]
 fn routes_of_random_networks() {
-    let mut random = Random::new(14);
+    let mut random = seeded(14);
     let mut longest = 0;
     for of in all_widths().into_iter().filter(|of| of.bits() <= 8) {
         let records = random_network(&mut random, of, MODEST);
