@@ -271,7 +271,7 @@ impl Graph {
         let mut text =
             format!("{title} Port {HOST} of switches 0 to {} is a host's.\n", self.hosts - 1);
         let Widths { h, p, w } = of;
-        let mut line = |words: String| writeln!(text, "{words}").unwrap_or_default();
+        let mut line = |line: String| writeln!(text, "{line}").unwrap_or_default();
         line(format!("widths H {h} P {p} W {w}"));
         for [one, other] in &self.links {
             let ports = [self.port(*one, *other), self.port(*other, *one)];

@@ -125,7 +125,7 @@ pub fn parse_command(line: &str, widths: Widths, names: &Names) -> Result<Record
     }
 }
 
-/// The two states of a call, each by its number or its fields.
+/// The two states of an argument, each by its number or its fields.
 pub fn parse_states(text: &str, widths: Widths, names: &Names) -> Result<[usize; 2], Fault> {
     let reader = Reader::with(widths, names.clone());
     let mut found = statements(text);
@@ -470,9 +470,9 @@ fn in_port(statement: &Statement) -> Result<[u8; 2], Fault> {
 }
 
 /// Words as a list in a sentence.
-fn list(words: &[&str]) -> String {
-    match words {
+fn list(items: &[&str]) -> String {
+    match items {
         [first @ .., last] if !first.is_empty() => format!("{} or {last}", first.join(", ")),
-        _ => words.join(""),
+        _ => items.join(""),
     }
 }

@@ -74,7 +74,7 @@ pub const SEED: ProgramOption =
 pub const OPTIONS: [ProgramOption; 9] =
     [JSON, GATE, RECORDS, RULES, DOT, SWITCHES, FLOWS, GROUPS, SEED];
 
-/// Options of which a call has at most one.
+/// Options of which at most one is given.
 pub const EXCLUSIVE: [ProgramOption; 3] = [JSON, GATE, DOT];
 
 /// All subcommands, in the order of the help.
@@ -190,10 +190,10 @@ step, a policy and a route are, and the rows by which a call is refused.
 
 impl Subcommand {
     fn help_line(&self) -> String {
-        let call = format!("  wegbaro {} {}", self.name, self.operands.shown);
-        match call.len() < HELP_COLUMN {
-            true => format!("{call:HELP_COLUMN$}{}\n", self.help),
-            false => format!("{call}\n{:HELP_COLUMN$}{}\n", "", self.help),
+        let usage = format!("  wegbaro {} {}", self.name, self.operands.shown);
+        match usage.len() < HELP_COLUMN {
+            true => format!("{usage:HELP_COLUMN$}{}\n", self.help),
+            false => format!("{usage}\n{:HELP_COLUMN$}{}\n", "", self.help),
         }
     }
 }

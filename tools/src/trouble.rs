@@ -9,7 +9,7 @@ pub enum Status {
     Good = 0,
     /// Violated, blocked, or refused by a row.
     Bad = 1,
-    /// The text or the call is faulty.
+    /// A text, or an argument, is faulty.
     Faulty = 2,
     /// Reading or writing failed.
     Failed = 3,
@@ -31,7 +31,7 @@ impl Trouble {
         Trouble { status, message: format!("{message}\n"), objects: vec![object] }
     }
 
-    /// The call, or what is in a file, is faulty.
+    /// An argument, or what is in a file, is faulty.
     pub fn faulty(message: impl Into<String>) -> Trouble {
         Trouble::new(Status::Faulty, "faulty", message.into())
     }
