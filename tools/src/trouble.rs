@@ -50,7 +50,8 @@ impl Trouble {
     /// The trouble with an answer, beside the answer as the program `gate` prints it.
     pub fn beside(self, line: &str) -> Trouble {
         let message = format!("{}the library's answer is `{line}`\n", self.message);
-        let objects = self.objects.into_iter().map(|object| object.text("line", line)).collect();
+        let objects =
+            self.objects.into_iter().map(|object| object.text("gate_line", line)).collect();
         Trouble { message, objects, ..self }
     }
 }

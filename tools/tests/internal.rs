@@ -23,7 +23,7 @@ fn is_beside<T: std::fmt::Debug>(found: Result<T, Trouble>, message: &str, line:
     let beside = line.as_ref().map(|line| format!("the library's answer is `{line}`\n"));
     let words = format!("{message}\n{}", beside.unwrap_or_default());
     assert_eq!((trouble.status, trouble.message), (Status::Internal, words));
-    let line = line.map_or_else(String::new, |line| format!(r#","line":"{line}""#));
+    let line = line.map_or_else(String::new, |line| format!(r#","gate_line":"{line}""#));
     let object = format!(r#"{{"answer":"internal","message":"{message}"{line}}}"#);
     assert_eq!(trouble.objects[0].to_string(), object);
 }
