@@ -85,7 +85,7 @@ impl<'a> Judging<'a> {
     /// Judges the network. The gate is kept if the network holds.
     fn start(&mut self, tell: Told) -> Result<(), Trouble> {
         if self.source.is_network_cut() {
-            return self.answer(&ShortAnswer, tell);
+            return self.answer(&ShortAnswer::Record, tell);
         }
         let gate = match self.work {
             Some(bytes) => Gate::with_work(&self.source.network, bytes),
@@ -111,7 +111,7 @@ impl<'a> Judging<'a> {
         }
         match self.source.rest.is_empty() {
             true => Ok(()),
-            false => self.answer(&ShortAnswer, tell),
+            false => self.answer(&ShortAnswer::Record, tell),
         }
     }
 

@@ -101,18 +101,22 @@ impl Parsed {
     }
 }
 
-/// The record of one command line.
-pub fn parse_command(line: &str, widths: Widths, names: &Names) -> Result<Record, Vec<Fault>> {
+/// What starts a command.
+const COMMANDS: [&str; 4] = ["add", "modify", "delete", "bytes"];
+
+/// The record of one command.
+pub fn parse_command(text: &str, widths: Widths, names: &Names) -> Result<Record, Vec<Fault>> {
     let mut reader = Reader::with(widths, names.clone());
-    let mut found = statements(line);
+    let mut found = statements(text);
     let place = Place { line: 1, column: 1 };
     let [statement] = &mut found[..] else {
         return Err(vec![place.fault(1, "expected one command")]);
     };
     statement.sound().map_err(|fault| vec![fault])?;
     let keyword = statement.peek();
-    if !["add", "modify", "delete", "bytes"].contains(&keyword.text) {
-        return Err(vec![statement.expected("a command (add, modify, delete or bytes)")]);
+    if !COMMANDS.contains(&keyword.text) {
+        let fault = statement.expected(&format!("a command ({})", list(&COMMANDS)));
+        return Err(vec![fault.with_nearest(keyword.text, COMMANDS)]);
     }
     match reader.statement(statement) {
         Ok(bytes) if bytes.len() == RECORD => Ok(record(&bytes)),

@@ -76,7 +76,7 @@ pub fn statements(text: &str) -> Vec<Statement<'_>> {
             found.push(Statement { tokens, read: 0, start, end, fault });
         } else if let Some(before) = found.last_mut() {
             if ended {
-                fault = Some(apart(start, before));
+                fault = Some(apart(start).earlier(before.end.line));
             }
             before.tokens.extend(tokens);
             before.end = end;
@@ -87,11 +87,16 @@ pub fn statements(text: &str) -> Vec<Statement<'_>> {
     found
 }
 
-/// The fault of a line that would continue a statement which does not stand directly before it.
-fn apart(start: Place, before: &Statement) -> Fault {
+/// The fault of a line that would continue a statement, where none stands directly before it.
+pub fn fault_apart(line: &str) -> Fault {
+    let column = line.chars().take_while(|c| [' ', '\t'].contains(c)).count() + 1;
+    apart(Place { line: 1, column })
+}
+
+fn apart(start: Place) -> Fault {
     let message = "this line starts with a space, but the line before it is no statement";
     let hint = "a statement is continued on the next line; an indented comment may stand between";
-    start.fault(1, message).hint(hint).earlier(before.end.line)
+    start.fault(1, message).hint(hint)
 }
 
 fn is_word(character: char) -> bool {

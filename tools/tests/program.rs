@@ -451,8 +451,13 @@ fn long_words() {
         let ran = wegbaro(&["check", "-"], text.as_bytes());
         assert!(ran.text().len() + ran.said.len() < 1_000, "{}", ran.said.len());
     }
-    let ran = wegbaro(&["session", "--gate", K], word.as_bytes());
-    assert!(ran.status == Some(2) && ran.said.len() < 1_000);
+    let ran = wegbaro(&["session", "--gate", K], format!("{word}\n").as_bytes());
+    assert!(
+        ran.status == Some(2) && ran.text().ends_with("3 refused 12 0\n"),
+        "{}",
+        ran.said.len()
+    );
+    assert!(ran.said.len() < 1_000);
     let ran = wegbaro(&["explain", K], word.as_bytes());
     assert!(ran.status == Some(2) && ran.said.len() < 1_000);
 }

@@ -30,7 +30,7 @@ pub fn route(arguments: &Arguments) -> Result<Status, Trouble> {
         true => drawn(standing, &states),
         false => {
             let answer: Box<dyn Answer> = match source.is_network_cut() {
-                true => Box::new(ShortAnswer),
+                true => Box::new(ShortAnswer::Record),
                 false => Box::new(RouteAnswer::of(standing, &states)?),
             };
             let told = told(answer.as_ref(), standing, arguments.format())?;
