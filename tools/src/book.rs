@@ -5,6 +5,7 @@
 use crate::kind;
 use crate::version::modify_adds;
 use crate::{is_same_rule, Record};
+use std::cmp::Reverse;
 use std::fmt;
 
 /// Where a record comes from.
@@ -88,6 +89,20 @@ impl Book {
             (kind::MODIFY, None) if modify_adds(&self.records) => Change::Adds(self.end_of_rules()),
             _ => Change::Nothing,
         }
+    }
+
+    /// The rule of a command's switch that agrees with it in the most of priority, port and header,
+    /// the first of several; none that agrees in nothing.
+    pub fn nearest(&self, command: &Record) -> Option<usize> {
+        let agrees = |rule: &Record| {
+            let fields = [2..4, 4..6, 6..8].into_iter();
+            fields.filter(|field| rule[field.clone()] == command[field.clone()]).count()
+        };
+        let of_switch = |rule: &Record| rule[..2] == [kind::RULE, command[1]];
+        let rules = self.records.iter().enumerate().filter(|(_, rule)| of_switch(rule));
+        let agreeing = rules.map(|(place, rule)| (agrees(rule), Reverse(place)));
+        let (agrees, Reverse(place)) = agreeing.max()?;
+        (agrees > 0).then_some(place)
     }
 
     /// The place behind the last rule, or behind the last miss if there is none.

@@ -194,7 +194,7 @@ fn answers_as_json() {
             r#"{{"subject":"command","number":1,"command":"add 0 priority 5 port ** header *: output 2","answer":"blocked","policy":0,"state":{state},"y":{y},"route":[3,21,11,29],"reasons":[{{"y":{y},"walks":[{{"route":[3,21,11,29],"states":[{}]}}]}}]}}"#,
             states.join(",")
         ),
-        r#"{"subject":"command","number":2,"command":"add 0 priority 5 port ** header 0: output 2","answer":"forwarded","records":21}"#.to_string(),
+        r#"{"subject":"command","number":2,"command":"add 0 priority 5 port ** header 0: output 2","answer":"forwarded","records":21,"changed":true}"#.to_string(),
         r#"{"subject":"command","number":3,"command":"bytes 07 01 00 00 00 00 00 00 00 00 00 00 00 00 00 00 00 00 00 00 00 00 00 00","answer":"refused","row":12,"place":0,"cause":"the action count is 0, and must be 1 to 4"}"#.to_string(),
         r#"{"subject":"end","answer":"short"}"#.to_string(),
     ];
@@ -228,6 +228,74 @@ fn answers_as_json() {
     let ran = wegbaro(&["check", "--json", "no file"], b"");
     assert_eq!(ran.status, Some(3));
     assert!(ran.text().starts_with(r#"{"answer":"failed","message":"no file: No such file"#));
+}
+
+/// A ward whose commands do not change what their words say.
+const EFFECTS: &str = "\
+widths H 1 P 2 W 1
+name port 0:1 pump
+miss 0: output drop
+miss 1: output drop
+rule 0 priority 10 port 1 header 0: output 2
+rule 0 priority 20 port 1: output 2
+rule 1 priority 5: output 2
+delete 0 priority 20 port 1 header 0
+modify 0 priority 20 port 2: output drop
+delete 1 priority 6 port 1 header 1
+add 0 priority 10 port 1 header 0: output drop
+add 0 priority 10 port 1 header 0: output drop
+modify 1 priority 5: output 2
+modify 1 priority 5: output 1
+add 1 priority 7: output 1
+delete 1 priority 7
+";
+
+/// A forwarded command that changes nothing says so, and an add that replaces a rule says which.
+#[test]
+fn what_a_command_changes() {
+    let rule = |line: usize| match line {
+        5 => "rule 0 priority 10 port pump header 0: output 2",
+        _ => "rule 0 priority 20 port pump header *: output 2",
+    };
+    let nearest = |line: usize| {
+        let rule = rule(line);
+        format!("nothing changes, as there is no such rule; the nearest is line {line} ({rule}); ")
+    };
+    let effects = [
+        (nearest(5), 6, r#"false,"nearest_record":3,"nearest_line":5"#),
+        (nearest(6), 6, r#"false,"nearest_record":4,"nearest_line":6"#),
+        ("nothing changes, as there is no such rule; ".to_string(), 6, "false"),
+        (
+            "it replaces the rule of line 5; ".to_string(),
+            6,
+            r#"true,"replaced_record":3,"replaced_line":5"#,
+        ),
+        (
+            "nothing changes, as line 11 is this rule; ".to_string(),
+            6,
+            r#"false,"replaced_record":3,"replaced_line":11"#,
+        ),
+        (
+            "nothing changes, as line 7 is this rule; ".to_string(),
+            6,
+            r#"false,"replaced_record":5,"replaced_line":7"#,
+        ),
+        (String::new(), 6, r#"true,"replaced_record":5,"replaced_line":13"#),
+        (String::new(), 7, "true"),
+        (String::new(), 6, "true"),
+    ];
+    let words = wegbaro(&["run", "-"], EFFECTS.as_bytes());
+    let objects = wegbaro(&["run", "--json", "-"], EFFECTS.as_bytes());
+    assert_eq!((words.status, objects.status), (Some(0), Some(0)), "{}", words.said);
+    let told = words.text().lines().skip(1).zip(objects.text().lines().skip(1));
+    let told: Vec<(&str, &str)> = told.collect();
+    assert_eq!(told.len(), effects.len());
+    for ((effect, records, changed), (words, object)) in effects.iter().zip(told) {
+        let end = format!(": forwarded, {effect}the network then has {records} records");
+        assert!(words.ends_with(&end), "{words}");
+        let end = format!(r#""answer":"forwarded","records":{records},"changed":{changed}}}"#);
+        assert!(object.ends_with(&end), "{object}");
+    }
 }
 
 /// Commands are left alone where the network does not hold, and that is said.

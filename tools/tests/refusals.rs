@@ -456,7 +456,7 @@ fn row_13() {
     let there = rule(0, 255, ANY, ANY, &[output(1, 3)]);
     let add_words = ": refused: row 13, 256 rules are there, and this one is new";
     let modify_words = format!("{add_words}: in OpenFlow 1.0 a modify without its rule adds it");
-    let judged = ": forwarded, the network then has 258 records";
+    let judged = "the network then has 258 records";
     for version in VERSIONS {
         let full = full_switch(version);
         let ends = |command: Record, words: &str| {

@@ -113,8 +113,8 @@ fn a_modify_that_adds() {
     assert!(session.line().starts_with("    - switch 1: "));
     let mut count = |command: &[u8], records: usize| {
         let answer = session.ask(command);
-        let words = format!("forwarded, the network then has {records} records");
-        assert!(answer.ends_with(&words), "{answer}");
+        let words = format!("the network then has {records} records");
+        assert!(answer.ends_with(&words) && answer.contains("): forwarded, "), "{answer}");
     };
     count(b"modify 0 priority 5 header 0: output 2\n\n", 21);
     count(b"modify 0 priority 5 header 0: output drop\n\n", 21);

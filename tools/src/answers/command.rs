@@ -2,9 +2,10 @@
 
 use super::refused::{refused_object, refused_words};
 use super::{Answer, Standing};
-use crate::book::{Book, Origin};
+use crate::book::{Book, Change, Origin};
 use crate::causes::command_cause;
 use crate::json::Object;
+use crate::kind;
 use crate::source::Command;
 use crate::trouble::{Status, Trouble};
 use wegbaro::{Commanded, Refusal};
@@ -23,7 +24,9 @@ impl Answer for CommandAnswer {
         let verdict = match self.verdict {
             Ok(Commanded::Forwarded { count }) => {
                 let records = if count == 1 { "record" } else { "records" };
-                format!("forwarded, the network then has {count} {records}")
+                let effect = self.effect_words(standing).map(|effect| format!(" {effect};"));
+                let effect = effect.unwrap_or_default();
+                format!("forwarded,{effect} the network then has {count} {records}")
             }
             Ok(Commanded::Blocked { policy, state }) => {
                 let left = self.left(standing.book);
@@ -46,7 +49,8 @@ impl Answer for CommandAnswer {
             .text("command", &standing.record_words(&self.command.record));
         Ok(match self.verdict {
             Ok(Commanded::Forwarded { count }) => {
-                object.text("answer", "forwarded").number("records", count)
+                let object = object.text("answer", "forwarded").number("records", count);
+                self.effect_object(object, standing)
             }
             Ok(Commanded::Blocked { policy, state }) => {
                 let left = self.left(standing.book);
@@ -87,6 +91,51 @@ impl CommandAnswer {
             None => Origin::Command(self.number),
         };
         book.after(&self.command.record, origin)
+    }
+
+    /// What a forwarded command does, where it is not what its word says alone.
+    fn effect_words(&self, standing: Standing) -> Option<String> {
+        let book = standing.book;
+        let command = &self.command.record;
+        match book.change(command) {
+            Change::Nothing => {
+                let nearest = book.nearest(command).map(|place| {
+                    let rule = standing.record_words(&book.records[place]);
+                    format!("; the nearest is {} ({rule})", book.origins[place])
+                });
+                let nearest = nearest.unwrap_or_default();
+                Some(format!("nothing changes, as there is no such rule{nearest}"))
+            }
+            Change::Replaces(place) if !self.changes(book) => {
+                Some(format!("nothing changes, as {} is this rule", book.origins[place]))
+            }
+            Change::Replaces(place) if command[0] == kind::ADD => {
+                Some(format!("it replaces the rule of {}", book.origins[place]))
+            }
+            _ => None,
+        }
+    }
+
+    /// Whether the command changes a record.
+    fn changes(&self, book: &Book) -> bool {
+        self.left(book).records != book.records
+    }
+
+    /// The same as fields of an object: whether a record changes, and which one was there, or was
+    /// nearest.
+    fn effect_object(&self, object: Object, standing: Standing) -> Object {
+        let book = standing.book;
+        let object = object.truth("changed", self.changes(book));
+        match book.change(&self.command.record) {
+            Change::Replaces(place) => standing.origin_object(object, "replaced", place),
+            Change::Nothing => {
+                let nearest = book.nearest(&self.command.record);
+                object.maybe(nearest, |object, place| {
+                    standing.origin_object(object, "nearest", place)
+                })
+            }
+            Change::Adds(_) | Change::Removes(_) => object,
+        }
     }
 
     fn command_words(&self, standing: Standing) -> String {

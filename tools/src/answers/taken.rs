@@ -100,12 +100,18 @@ impl Standing<'_> {
 
     /// A record that takes a frame on, with where it comes from.
     fn carrier_object(self, carrier: &Carrier) -> Object {
-        let origin = self.book.origins[carrier.place];
-        Object::new()
-            .text("by", &self.carrier_words(carrier))
-            .number("by_record", carrier.place)
-            .maybe(origin.line(), |object, line| object.number("by_line", line))
-            .maybe(origin.command(), |object, number| object.number("by_command", number))
+        let object = Object::new().text("by", &self.carrier_words(carrier));
+        self.origin_object(object, "by", carrier.place)
+    }
+
+    /// The place of a record under a name, and the line or the command that it comes from.
+    pub fn origin_object(self, object: Object, name: &str, place: usize) -> Object {
+        let field = |part: &str| format!("{name}_{part}");
+        let origin = self.book.origins[place];
+        object
+            .number(&field("record"), place)
+            .maybe(origin.line(), |object, line| object.number(&field("line"), line))
+            .maybe(origin.command(), |object, number| object.number(&field("command"), number))
     }
 }
 
