@@ -16,6 +16,7 @@ use crate::fault::quoted;
 use crate::json::Object;
 use crate::print::print_record;
 use crate::source::Source;
+use crate::standard::{self, say};
 use crate::steps::{Network, State};
 use crate::trouble::{Status, Trouble};
 use crate::widths::Widths;
@@ -58,6 +59,18 @@ pub fn told(answer: &dyn Answer, standing: Standing, format: Format) -> Result<S
         (Ok(told), _) => Ok(told + "\n"),
         (Err(trouble), Some(line)) => Err(trouble.beside(&line)),
         (Err(trouble), None) => Err(trouble),
+    }
+}
+
+/// Says something that is no fault on standard error, and as an object where objects are asked for.
+pub fn note(format: Format, message: &str) -> Result<(), Trouble> {
+    say(&format!("note: {message}\n"));
+    match format {
+        Format::Json => {
+            let object = Object::new().text("answer", "note").text("message", message);
+            standard::write(format!("{object}\n").as_bytes())
+        }
+        Format::Words | Format::Gate => Ok(()),
     }
 }
 

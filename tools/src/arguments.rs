@@ -37,6 +37,15 @@ pub fn read(given: impl IntoIterator<Item = OsString>) -> Result<Asked, Trouble>
     Ok(Asked::Done(subcommand, arguments))
 }
 
+/// How the faults of arguments that cannot be read are written.
+pub fn format_of(given: &[OsString]) -> Format {
+    let options = given.iter().take_while(|argument| *argument != "--");
+    match options.into_iter().any(|argument| argument == JSON.name) {
+        true => Format::Json,
+        false => Format::Words,
+    }
+}
+
 /// A fault of the arguments.
 pub fn fault(message: impl std::fmt::Display) -> Trouble {
     Trouble::faulty(format!("{message} (`wegbaro --help` has the calls)"))

@@ -13,7 +13,7 @@ const GATE_WORK: usize = 65_536;
 /// `wegbaro explain`: works out what `gate` answers, and holds the answers on standard input against
 /// it. Answers that are not about this file are a fault.
 pub fn explain(arguments: &Arguments) -> Result<Status, Trouble> {
-    let source = Source::of(arguments.file())?;
+    let source = Source::noted(arguments.file(), arguments.format())?;
     let output = answers()?;
     let mut lines = output.lines();
     let mut number = 0;

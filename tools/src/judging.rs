@@ -3,7 +3,7 @@
 use crate::answers::command::CommandAnswer;
 use crate::answers::short::ShortAnswer;
 use crate::answers::start::StartAnswer;
-use crate::answers::{told, Answer, Format, Standing};
+use crate::answers::{note, told, Answer, Format, Standing};
 use crate::arguments::Arguments;
 use crate::book::Book;
 use crate::priorities::{notes_on_equals, Noted};
@@ -36,21 +36,22 @@ pub fn tell(_: &dyn Answer, told: &str) -> Result<(), Trouble> {
 
 /// `wegbaro check`: judges a network.
 pub fn check(arguments: &Arguments) -> Result<Status, Trouble> {
-    let source = Source::noted(arguments.file())?;
+    let format = arguments.format();
+    let source = Source::noted(arguments.file(), format)?;
     if !source.commands.is_empty() {
-        standard::note("the file's commands are not judged; `wegbaro run` judges them too");
+        note(format, "the file's commands are not judged; `wegbaro run` judges them too")?;
     }
-    let mut judging = Judging::new(&source, arguments.format(), None);
+    let mut judging = Judging::new(&source, format, None);
     judging.start(&mut tell)?;
     Ok(judging.status)
 }
 
 /// `wegbaro run`: judges a network and its commands.
 pub fn run(arguments: &Arguments) -> Result<Status, Trouble> {
-    let source = Source::noted(arguments.file())?;
+    let source = Source::noted(arguments.file(), arguments.format())?;
     let mut judging = Judging::new(&source, arguments.format(), None);
     judging.all(&mut tell)?;
-    judging.note_unjudged();
+    judging.note_unjudged()?;
     Ok(judging.status)
 }
 
@@ -116,9 +117,10 @@ impl<'a> Judging<'a> {
     }
 
     /// Says that commands are left alone, where the network does not hold.
-    pub fn note_unjudged(&self) {
-        if !self.holds() && !self.source.commands.is_empty() {
-            standard::note("the commands are not judged, as the network does not hold");
+    pub fn note_unjudged(&self) -> Result<(), Trouble> {
+        match !self.holds() && !self.source.commands.is_empty() {
+            true => note(self.format, "the commands are not judged, as the network does not hold"),
+            false => Ok(()),
         }
     }
 
@@ -141,9 +143,7 @@ impl<'a> Judging<'a> {
     /// Says which rules act together in the network, unless that is said already.
     fn note_equals(&mut self, holds: bool) -> Result<(), Trouble> {
         let standing = Standing { source: self.source, book: &self.book };
-        for note in notes_on_equals(standing, holds, &mut self.noted)? {
-            standard::note(&note);
-        }
-        Ok(())
+        let notes = notes_on_equals(standing, holds, &mut self.noted)?;
+        notes.iter().try_for_each(|message| note(self.format, message))
     }
 }

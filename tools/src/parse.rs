@@ -4,7 +4,6 @@
 //! statement that would mean something else than it says. What else is wrong between records, such
 //! as a point linked twice, is left to the gate, which refuses it by a row.
 
-pub use crate::expand::expand;
 use crate::fault::{quoted, Fault};
 use crate::formula::Formula;
 use crate::kind::{self, action};
@@ -104,8 +103,16 @@ impl Parsed {
 /// What starts a command.
 const COMMANDS: [&str; 4] = ["add", "modify", "delete", "bytes"];
 
+/// What the text of one command says.
+#[derive(Clone, Debug, PartialEq, Eq)]
+pub struct CommandText {
+    pub record: Record,
+    /// What is to be said of it though it is no fault.
+    pub notes: Vec<String>,
+}
+
 /// The record of one command.
-pub fn parse_command(text: &str, widths: Widths, names: &Names) -> Result<Record, Vec<Fault>> {
+pub fn parse_command(text: &str, widths: Widths, names: &Names) -> Result<CommandText, Vec<Fault>> {
     let mut reader = Reader::with(widths, names.clone());
     let mut found = statements(text);
     let place = Place { line: 1, column: 1 };
@@ -119,7 +126,9 @@ pub fn parse_command(text: &str, widths: Widths, names: &Names) -> Result<Record
         return Err(vec![fault.with_nearest(keyword.text, COMMANDS)]);
     }
     match reader.statement(statement) {
-        Ok(bytes) if bytes.len() == RECORD => Ok(record(&bytes)),
+        Ok(bytes) if bytes.len() == RECORD => {
+            Ok(CommandText { record: record(&bytes), notes: reader.notes })
+        }
         Ok(bytes) => {
             let message = format!("a record has {RECORD} bytes, these are {}", bytes.len());
             Err(vec![keyword.fault(message)])

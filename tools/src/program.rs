@@ -9,7 +9,8 @@ use std::ffi::OsString;
 
 /// Runs the program: what went wrong is said, and the exit status tells the worst.
 pub fn run(given: impl IntoIterator<Item = OsString>) -> Status {
-    let (format, done) = match arguments::read(given) {
+    let given: Vec<OsString> = given.into_iter().collect();
+    let (format, done) = match arguments::read(given.clone()) {
         Ok(Asked::Help) => (Format::Words, written(&help())),
         Ok(Asked::Version) => {
             let version = concat!("wegbaro ", env!("CARGO_PKG_VERSION"), "\n");
@@ -18,7 +19,7 @@ pub fn run(given: impl IntoIterator<Item = OsString>) -> Status {
         Ok(Asked::Done(subcommand, arguments)) => {
             (arguments.format(), (subcommand.run)(&arguments))
         }
-        Err(trouble) => (Format::Words, Err(trouble)),
+        Err(trouble) => (arguments::format_of(&given), Err(trouble)),
     };
     done.unwrap_or_else(|trouble| in_trouble(format, trouble))
 }

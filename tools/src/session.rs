@@ -1,12 +1,12 @@
 //! Sessions: commands that come in on standard input, each answered before the next is read.
 
 use crate::answers::short::ShortAnswer;
-use crate::answers::Format;
+use crate::answers::{note, Format};
 use crate::arguments::Arguments;
 use crate::fault::Fault;
 use crate::json::Object;
 use crate::judging::{tell, Judging};
-use crate::parse::parse_command;
+use crate::parse::{parse_command, CommandText};
 use crate::source::{fault_trouble, Command, Source};
 use crate::standard;
 use crate::subcommands::RECORDS;
@@ -18,11 +18,11 @@ use std::io::{self, BufRead, Read};
 /// `wegbaro session`: judges a network and its commands, then commands as they come in. There is no
 /// session where the network does not hold or the file is cut.
 pub fn session(arguments: &Arguments) -> Result<Status, Trouble> {
-    let source = Source::noted(arguments.file())?;
+    let source = Source::noted(arguments.file(), arguments.format())?;
     let mut judging = Judging::new(&source, arguments.format(), None);
     judging.all(&mut tell)?;
     if !judging.holds() || !source.rest.is_empty() {
-        judging.note_unjudged();
+        judging.note_unjudged()?;
         return Ok(judging.status);
     }
     let mut input = standard::input()?;
@@ -88,7 +88,12 @@ impl Role {
 fn command(judging: &mut Judging, text: &str) -> Result<(), Trouble> {
     let Some(widths) = judging.source.widths().filter(|_| !text.is_empty()) else { return Ok(()) };
     match parse_command(text, widths, &judging.source.names) {
-        Ok(record) => judging.command(Command { record, line: None }, &mut tell),
+        Ok(CommandText { record, notes }) => {
+            let number = judging.answered + 1;
+            let tell_note = |it: &String| note(judging.format, &format!("command {number}, {it}"));
+            notes.iter().try_for_each(tell_note)?;
+            judging.command(Command { record, line: None }, &mut tell)
+        }
         Err(faults) => faulty(judging, text, &faults),
     }
 }

@@ -1,12 +1,13 @@
 //! A network and commands from a file, be it a text or records.
 
+use crate::answers::{note, Format};
 use crate::fault::{whole, Fault};
 use crate::json::Object;
 use crate::kind;
 use crate::names::Names;
 use crate::parse::{parse, Parsed, PolicyText, MOST_FAULTS};
 use crate::print::whole_records;
-use crate::standard::{self, read_input, read_whole, too_much};
+use crate::standard::{read_input, read_whole, too_much};
 use crate::trouble::{Status, Trouble};
 use crate::widths::Widths;
 use crate::Record;
@@ -153,9 +154,9 @@ impl Source {
     }
 
     /// The same, and what is to be said of a text though it is no fault is said.
-    pub fn noted(file: &OsString) -> Result<Source, Trouble> {
+    pub fn noted(file: &OsString, format: Format) -> Result<Source, Trouble> {
         let source = Source::of(file)?;
-        source.notes.iter().for_each(|note| standard::note(note));
+        source.notes.iter().try_for_each(|message| note(format, message))?;
         Ok(source)
     }
 

@@ -69,8 +69,3 @@ pub fn write(bytes: &[u8]) -> Result<(), Trouble> {
 pub fn say(message: &str) {
     let _ = io::stderr().write_all(message.as_bytes());
 }
-
-/// Says something that is no fault.
-pub fn note(message: &str) {
-    say(&format!("note: {message}\n"));
-}

@@ -5,7 +5,8 @@ mod seeded;
 use seeded::seeded;
 use std::path::Path;
 use wegbaro_tests::random::Random;
-use wegbaro_tools::parse::{expand, parse, Parsed, MOST_FAULTS};
+use wegbaro_tools::expand::expand;
+use wegbaro_tools::parse::{parse, Parsed, MOST_FAULTS};
 use wegbaro_tools::print::print;
 
 /// Words put in where they do not belong.
@@ -70,7 +71,8 @@ fn told(text: &str) -> bool {
         Ok(Parsed { bytes, lines, .. }) => {
             assert_eq!(lines.len(), bytes.len().div_ceil(24));
             assert_eq!(parse(&print(&bytes)).unwrap().bytes, bytes, "{text}");
-            assert_eq!(parse(&expand(text).unwrap()).unwrap().bytes, bytes, "{text}");
+            let expanded = expand(text, &parse(text).unwrap());
+            assert_eq!(parse(&expanded).unwrap().bytes, bytes, "{text}");
             false
         }
         Err(faults) => {

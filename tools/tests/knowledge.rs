@@ -458,7 +458,8 @@ fn commands_in_words_are_read_back() {
         let mut named = 0;
         for command in &source.commands {
             let words = standing.record_words(&command.record);
-            assert_eq!(parse_command(&words, of, &source.names), Ok(command.record), "{words}");
+            let read = parse_command(&words, of, &source.names).unwrap();
+            assert_eq!(read.record, command.record, "{words}");
             named += usize::from(words.contains(name));
         }
         assert!(named >= least, "{named}");

@@ -71,7 +71,8 @@ fn faulty_calls() {
     complains(&["check", K, K], b"", 2, "`check` takes one FILE");
     complains(&["check", "--rules", K], b"", 2, "`check` has no option `--rules`");
     complains(&["check", "--json=1", K], b"", 2, "`--json` takes no value");
-    complains(&["check", "--json", "--gate", K], b"", 2, "exclude each other");
+    let both = wegbaro(&["check", "--json", "--gate", K], b"");
+    assert!(both.status == Some(2) && both.said.contains("exclude each other"), "{both:?}");
     complains(&["session", "-"], b"", 2, "`session` reads commands from standard input");
     complains(&["explain", "-"], b"", 2, "`explain` reads answers from standard input");
     complains(&["generate"], b"", 2, "`generate` takes one KIND (plod, tree, ring)");

@@ -12,6 +12,11 @@ use wegbaro_tests::networks::{all_widths, random_network, MODEST};
 use wegbaro_tools::route::find;
 use wegbaro_tools::steps::Network;
 
+/// What is noted of a file with commands, as an object.
+const BEFORE_COMMANDS: &str =
+    "{\"answer\":\"note\",\"message\":\"the route is that of the network \
+                               before the file's commands\"}\n";
+
 const K_ROUTE: &str = "\
 route: found, 3 steps
     state 2 (switch 0, port 1, arriving, header 0)
@@ -79,7 +84,7 @@ fn no_route() {
                  to state 2 (switch 0, port 1, arriving, header 0)\n";
     expect(&["route", K, "28", "2"], b"", 1, words);
     let object = r#"{"subject":"route","answer":"none","from":{"number":28,"switch":1,"port":2,"direction":"departing","header":0,"words":"switch 1, port 2, departing, header 0"},"to":{"number":2,"switch":0,"port":1,"direction":"arriving","header":0,"words":"switch 0, port 1, arriving, header 0"}}"#;
-    expect(&["route", "--json", K, "28", "2"], b"", 1, &format!("{object}\n"));
+    expect(&["route", "--json", K, "28", "2"], b"", 1, &format!("{BEFORE_COMMANDS}{object}\n"));
     complains(&["route", "--dot", K, "28", "2"], b"", 1, "no picture, as there is no route\n");
     // Standing still is no route.
     let words = "route: none, no frame gets from state 2 (switch 0, port 1, arriving, header 0) \
@@ -232,7 +237,7 @@ fn a_route_as_json() {
         r#"{{"subject":"route","answer":"found","route":[2,20,10,28],"states":[{}]}}"#,
         states.join(",")
     );
-    expect(&["route", "--json", K, "2", "28"], b"", 0, &format!("{object}\n"));
+    expect(&["route", "--json", K, "2", "28"], b"", 0, &format!("{BEFORE_COMMANDS}{object}\n"));
 }
 
 #[test]
@@ -318,7 +323,8 @@ fn faulty_states() {
     assert_eq!((ran.status, ran.text()), (Some(2), ""), "{}", ran.said);
     let object = r#"{"answer":"faulty","file":"FROM TO","line":1,"column":3,"message":"expected a state (0 to 31), found `32`""#;
     let ran = wegbaro(&["route", "--json", K, "2", "32"], b"");
-    assert!(ran.status == Some(2) && ran.text().starts_with(object), "{ran:?}");
+    let start = format!("{BEFORE_COMMANDS}{object}");
+    assert!(ran.status == Some(2) && ran.text().starts_with(&start), "{ran:?}");
 }
 
 #[test]
@@ -332,8 +338,9 @@ fn faulty_calls() {
         );
     }
     complains(&["route", "--gate", K, "2", "28"], b"", 2, "`route` has no option `--gate`");
+    let both = wegbaro(&["route", "--json", "--dot", K, "2", "28"], b"");
     let exclude = "--json and --dot exclude each other";
-    complains(&["route", "--json", "--dot", K, "2", "28"], b"", 2, exclude);
+    assert!(both.status == Some(2) && both.said.starts_with(exclude), "{both:?}");
     complains(&["route", "no such file", "2", "28"], b"", 3, "no such file: No such file");
     complains(&["route", "-", "2", "28"], b"widths H 1\n", 2, "standard input:1:");
 }

@@ -2,7 +2,7 @@
 
 use super::short::ShortAnswer;
 use super::taken::part_words;
-use super::{told, Answer, Standing};
+use super::{note, told, Answer, Standing};
 use crate::arguments::Arguments;
 use crate::book::Book;
 use crate::fault::quoted;
@@ -19,9 +19,10 @@ use wegbaro::Refusal;
 
 /// `wegbaro route`: finds a route from state to state, and tells or draws it.
 pub fn route(arguments: &Arguments) -> Result<Status, Trouble> {
-    let source = Source::noted(arguments.file())?;
+    let format = arguments.format();
+    let source = Source::noted(arguments.file(), format)?;
     if !source.commands.is_empty() {
-        standard::note("the route is that of the network before the file's commands");
+        note(format, "the route is that of the network before the file's commands")?;
     }
     let book = Book::new(&source.network, &source.lines);
     let standing = Standing { source: &source, book: &book };
@@ -33,7 +34,7 @@ pub fn route(arguments: &Arguments) -> Result<Status, Trouble> {
                 true => Box::new(ShortAnswer::Record),
                 false => Box::new(RouteAnswer::of(standing, &states)?),
             };
-            let told = told(answer.as_ref(), standing, arguments.format())?;
+            let told = told(answer.as_ref(), standing, format)?;
             standard::write(told.as_bytes())?;
             Ok(answer.status())
         }
