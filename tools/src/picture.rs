@@ -18,7 +18,7 @@ pub type Line = (u8, String);
 
 /// `wegbaro picture`: the picture of a network that no row refuses.
 pub fn picture(arguments: &Arguments) -> Result<Status, Trouble> {
-    let source = Source::of(arguments.file())?;
+    let source = Source::noted(arguments.file(), arguments.format())?;
     if Gate::new(&source.network).is_err() {
         say("no picture, as the network is refused; `wegbaro check` tells why\n");
         return Ok(Status::Bad);

@@ -206,7 +206,8 @@ struct Sight {
 
 struct Search<'t> {
     truth: &'t Truth<'t>,
-    seen: Vec<Sight>,
+    /// What was looked at, for which reason: two reasons may rest on the same walk.
+    seen: Vec<(Sight, Option<usize>)>,
     reasons: Vec<Reason>,
 }
 
@@ -214,10 +215,10 @@ impl Search<'_> {
     /// Goes through the parts by which a node is true or false. Within an `exists Y.` it is known
     /// for which reason.
     fn explore(&mut self, sight: Sight, reason: Option<usize>) -> Result<(), Trouble> {
-        if self.seen.contains(&sight) || self.seen.len() == MOST_SEEN {
+        if self.seen.contains(&(sight, reason)) || self.seen.len() == MOST_SEEN {
             return Ok(());
         }
-        self.seen.push(sight);
+        self.seen.push((sight, reason));
         let Sight { node, at, truth } = sight;
         let [kind, one, other] = self.truth.nodes[node];
         let operands = [one, other].map(usize::from);

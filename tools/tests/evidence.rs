@@ -99,6 +99,23 @@ start: violated: policy 0, line 4, is broken by state 10 (switch 0, port 1, depa
     expect(&["check", "-"], text.as_bytes(), 1, words);
 }
 
+/// Two reasons that rest on the same walk both have it.
+#[test]
+fn one_walk_of_two_reasons() {
+    let there = "exists Y. tc(R(X,Y))(X,Y)";
+    let text = ward(&format!("bit(X,3) & ({there} & bit(Y,2)) & ({there} & !bit(Y,3))"));
+    let words = "\
+start: violated: policy 0, line 4, is broken by state 10 (switch 0, port 1, departing, header 0)
+    with Y = state 4 (switch 0, port 2, arriving, header 0), by this way:
+    - switch 0: in at port 2, header 0
+    with Y = state 4 (switch 0, port 2, arriving, header 0), by this way:
+    - switch 0: in at port 2, header 0
+";
+    expect(&["check", "-"], text.as_bytes(), 1, words);
+    let ran = wegbaro(&["check", "--json", "-"], text.as_bytes());
+    assert_eq!(ran.text().matches(r#""walks":[{"route":[10,4],"#).count(), 2, "{}", ran.text());
+}
+
 /// A closure may be about other pairs than steps. Its walk is no way of a frame, and is not told.
 #[test]
 fn walks_that_are_no_ways() {

@@ -34,7 +34,7 @@ fn a_policy_that_is_split() {
     let file = file("split", text.as_bytes());
     // The program `gate` has too little work for these policies.
     let answers = b"start refused 11 0\n";
-    for subcommand in ["check", "run", "session", "records", "expand", "explain"] {
+    for subcommand in ["check", "run", "session", "records", "expand", "explain", "picture"] {
         let (input, status) = match subcommand {
             "explain" => (&answers[..], 1),
             _ => (&b""[..], 0),
