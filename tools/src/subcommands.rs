@@ -1,4 +1,7 @@
 //! The subcommands and options of the program, a row for each, and the help that is made of them.
+//!
+//! A new call of the library is a file of `answers/`, with its answer and the function that asks for
+//! it, and a row here.
 
 use crate::answers::route::route;
 use crate::arguments::Arguments;
@@ -71,14 +74,14 @@ pub const SEED: ProgramOption =
     number("--seed", "the same seed gives the same network, 0 if not given");
 
 /// All options, in the order of the help.
-pub const OPTIONS: [ProgramOption; 9] =
-    [JSON, GATE, RECORDS, RULES, DOT, SWITCHES, FLOWS, GROUPS, SEED];
+pub const OPTIONS: &[ProgramOption] =
+    &[JSON, GATE, RECORDS, RULES, DOT, SWITCHES, FLOWS, GROUPS, SEED];
 
 /// Options of which at most one is given.
-pub const EXCLUSIVE: [ProgramOption; 3] = [JSON, GATE, DOT];
+pub const EXCLUSIVE: &[ProgramOption] = &[JSON, GATE, DOT];
 
 /// All subcommands, in the order of the help.
-pub static SUBCOMMANDS: [Subcommand; 10] = [
+pub static SUBCOMMANDS: &[Subcommand] = &[
     Subcommand {
         name: "check",
         operands: FILE,

@@ -47,7 +47,7 @@ fn help_and_version() {
     let first = help.text().lines().nth(2).unwrap();
     assert_eq!(first, "  wegbaro check FILE        judges the network");
     let readme = include_str!("../README.md");
-    for Subcommand { name, operands, .. } in &SUBCOMMANDS {
+    for Subcommand { name, operands, .. } in SUBCOMMANDS {
         let call = format!("  wegbaro {name} {}", operands.shown);
         assert!(help.text().contains(&call), "{name}");
         assert!(readme.contains(&format!("  {call}")), "{name}");
