@@ -4,7 +4,7 @@ use crate::fault::{quoted, Fault};
 use crate::groups::LAST_GROUP;
 use crate::names::{Area, Named, Point};
 use crate::parse::{Reader, STATEMENTS};
-use crate::steps::State;
+use crate::steps::{State, DROP};
 use crate::tokens::{Statement, Token};
 use crate::widths::{read_pattern, Widths};
 
@@ -164,7 +164,7 @@ impl Reader {
     ) -> Result<Option<u8>, Fault> {
         let token = statement.peek();
         let port = match (token.text, self.names.named(token.text)) {
-            ("drop", _) => 0,
+            ("drop", _) => DROP,
             ("controller", _) => of.controller(),
             (_, Some(Named::Port(port))) => *port,
             (_, Some(Named::Points(points))) => {

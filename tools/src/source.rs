@@ -25,9 +25,10 @@ pub enum Content {
 }
 
 impl Content {
-    /// Records start with their kind, a byte that no text starts with.
+    /// Records start with their kind, a byte that no text starts with: a group's kind, which may be
+    /// the tab of a text, does not come first.
     fn of(bytes: Vec<u8>) -> Content {
-        if bytes.first().is_some_and(|kind| *kind <= 8) {
+        if bytes.first().is_some_and(|kind| *kind <= kind::DELETE) {
             return Content::Records(bytes);
         }
         if bytes.starts_with(b"\xFF\xFE") || bytes.starts_with(b"\xFE\xFF") {

@@ -4,6 +4,7 @@ use crate::fault::Fault;
 use crate::formula::Variable::{self, X, Y};
 use crate::names::Area;
 use crate::parse::Reader;
+use crate::steps::DROP;
 use crate::tokens::{Statement, Token};
 use crate::widths::Widths;
 use crate::written::{Field, Written};
@@ -73,7 +74,7 @@ impl Sentence<'_, '_, '_> {
         self.statement.take();
         let (frames, _) = self.frames("from")?;
         self.statement.expect_all(&["is", "dropped"])?;
-        let dropped = Written::Fits(Field::Port, Y, [0, self.of.controller()]);
+        let dropped = Written::Fits(Field::Port, Y, [DROP, self.of.controller()]);
         let walk = Written::And(vec![Written::reaches(X, Y), dropped]);
         Ok(Written::And([&frames[..], &[walk.exists(Y)]].concat()))
     }
@@ -233,7 +234,7 @@ impl Sentence<'_, '_, '_> {
             }
             Area::Switch(_) => return Ok(()),
         };
-        if point[1] == 0 || point[1] == self.of.controller() {
+        if point[1] == DROP || point[1] == self.of.controller() {
             let message = format!("nothing enters or leaves at {name}, which is no ordinary port");
             return Err(start.fault(message));
         }
