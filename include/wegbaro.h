@@ -82,29 +82,30 @@
 
 /* The case that all calls have, with its first and second number.
  *
- *    number  refused because                                                                place
- *    1       n is 0 or above 657                                                            0
- *    2       the store is under 15,768 bytes                                                0
- *    3       a kind is not 1 to 5 or 9, or below the one before, or kind 1 is not once and  the record, from 0
- *            first
- *    4       a width is outside its limits                                                  the record
- *    5       a field is outside its range or width, the version is not 0, 1 or 4, an        the record
+ *    number  refused because                                                          place
+ *    1       there are no records, or more than 657                                   0
+ *    2       the store has fewer than 15,768 bytes                                    0
+ *    3       a kind is not 1 to 5 or 9 or is below the one before, or kind 1 is not   the record, from 0
+ *            once and first
+ *    4       a width is outside its limits                                            the record
+ *    5       a field is outside its range or width, the version is not 0, 1 or 4, an  the record
  *            action is bad, or an unnamed byte is not zero
- *    6       a link's end is not ordinary or already linked, or both ends are the same      the record
- *    7       a miss is not that of the next switch                                          the record
- *            the misses are incomplete                                                      the record behind them, or n
- *    8       the same rule stands twice                                                     the later one
- *    9       an operand is not earlier, a policy is out of order, or Y is free at its end   the record
- *    10      there is a 257th rule, a ninth policy or a 33rd node                           the record
- *    11      the work buffer is too short                                                   0
- *    12      the command is not 24 bytes, or no well-formed add, modify or delete           0
- *    13      an add of a new rule with 256 present, or in version 1 a modify of one         0
- *    14      the start or the end is not below 2^N                                          0
- *    15      the list is under 2^N + 1 entries                                              0
- *    16      a group has a faulty field, is out of order or the 17th, or a bucket of it     the record
- *            goes on to a group that is not lower
- *            a rule, a miss or a bucket names a group that its switch does not have         the record
- *            an add or a modify names a group that its switch does not have                 0
+ *    6       a link ends at a port that is not ordinary or at a point already         the record
+ *            linked, or both ends are the same point
+ *    7       a miss is not that of the next switch, or a switch has no miss           the record, or as below
+ *    8       the same rule stands twice                                               the later one
+ *    9       an operand is not an earlier node, a policy is out of order, or Y is     the record
+ *            free at its end
+ *    10      there is a 257th rule, a ninth policy or a 33rd node                     the record
+ *    11      the work buffer is too short                                             0
+ *    12      the command is not 24 bytes, or not a well-formed add, modify or delete  0
+ *    13      256 rules are present, and the command would add a new one               0
+ *    14      the start or the end is not below 2^N                                    0
+ *    15      the list has fewer than 2^N + 1 entries                                  0
+ *    16      a group has a faulty field, is out of order or the 17th, a bucket's      the record; in a command 0
+ *            group is not lower, or a group is named that its switch does not have
+ *
+ * Where misses are missing, the place of row 7 is the record behind them, or n if none is there.
  *
  * The check call has 1 to 11 and 16, the command call 1 to 13 and 16, the route call 1 to 11 and 14 to 16. The first that
  * is so is answered: 1 and 2, then the first faulty record with the lowest number of 3 to 10 and 16 that is so of it, then

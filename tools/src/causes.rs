@@ -1,11 +1,12 @@
 //! Why a row refuses: which of its causes it is, and the other record that is part of it.
 
 use crate::fields::{field_fault, width_fault};
-use crate::formula::{print_nodes, Node};
+use crate::formula::{node_of, print_nodes, Node};
 use crate::groups::{buckets, place_of, Target, MOST_GROUPS};
+use crate::kind::{self, action, node};
 use crate::steps::DROP;
 use crate::widths::Widths;
-use crate::{actions, Record};
+use crate::{actions, is_same_rule, Record};
 use wegbaro::{Refusal, MOST_RECORDS};
 
 /// Why a row refuses.
@@ -51,7 +52,7 @@ pub fn command_cause(records: &[Record], given: &[u8], refusal: Refusal) -> Opti
                 return Some(format!("it has {} bytes, and a command has 24", given.len()).into());
             };
             let kind = command[0];
-            if !(6..=8).contains(&kind) {
+            if !kind::is_command(kind) {
                 let kinds = "6 (add), 7 (modify) or 8 (delete)";
                 return Some(format!("its kind is {kind}, and a command's is {kinds}").into());
             }
@@ -67,7 +68,9 @@ pub fn command_cause(records: &[Record], given: &[u8], refusal: Refusal) -> Opti
 fn table_full_cause(given: &[u8]) -> String {
     let words = "256 rules are there, and this one is new";
     match given.first() {
-        Some(7) => format!("{words}: in OpenFlow 1.0 a modify without its rule adds it"),
+        Some(&kind::MODIFY) => {
+            format!("{words}: in OpenFlow 1.0 a modify without its rule adds it")
+        }
         _ => words.to_string(),
     }
 }
@@ -83,37 +86,20 @@ fn count_cause(count: usize) -> String {
     }
 }
 
-/// A record's kind in words.
-pub fn kind_words(kind: u8) -> String {
-    let words = match kind {
-        1 => "widths",
-        2 => "link",
-        3 => "miss",
-        4 => "rule",
-        5 => "policy",
-        6 => "add",
-        7 => "modify",
-        8 => "delete",
-        9 => "group",
-        _ => return format!("kind {kind}"),
-    };
-    words.to_string()
-}
-
 fn kind_cause(records: &[Record], place: usize, at: At) -> Option<Cause> {
     let kind = records.get(place)?[0];
-    if !matches!(kind, 1..=5 | 9) {
+    if !matches!(kind, kind::WIDTHS..=kind::POLICY | kind::GROUP) {
         return Some(format!("its kind is {kind}, and kinds are 1 to 5 and 9").into());
     }
-    let name = kind_words(kind);
+    let name = kind::words(kind);
     let Some(before) = place.checked_sub(1) else {
         return Some(format!("the first record is a {name}, and must be the widths").into());
     };
-    if kind == 1 {
+    if kind == kind::WIDTHS {
         let words = format!("the widths are there already, {}", at(0));
         return Some(Cause { words, other: Some(0) });
     }
-    let earlier = kind_words(records[before][0]);
+    let earlier = kind::words(records[before][0]);
     let words = format!("a {name} stands after a {earlier} ({})", at(before));
     Some(Cause { words, other: Some(before) })
 }
@@ -133,7 +119,7 @@ fn link_cause(records: &[Record], place: usize, at: At) -> Option<Cause> {
         return Some("both ends are the same point".to_string().into());
     }
     for (earlier, record) in records[..place].iter().enumerate() {
-        let taken = |point: &&[u8; 2]| record[0] == 2 && ends(record).contains(point);
+        let taken = |point: &&[u8; 2]| record[0] == kind::LINK && ends(record).contains(point);
         if let Some([switch, port]) = points.iter().find(taken) {
             let words =
                 format!("port {port} of switch {switch} is linked already, {}", at(earlier));
@@ -144,12 +130,12 @@ fn link_cause(records: &[Record], place: usize, at: At) -> Option<Cause> {
 }
 
 fn miss_cause(records: &[Record], place: usize, at: At) -> Option<Cause> {
-    let misses = records[..place].iter().filter(|record| record[0] == 3).count();
-    let here = records.get(place).filter(|record| record[0] == 3);
+    let misses = records[..place].iter().filter(|record| record[0] == kind::MISS).count();
+    let here = records.get(place).filter(|record| record[0] == kind::MISS);
     let Some(switch) = here.map(|record| record[1]) else {
         return Some(format!("switch {misses} has no miss").into());
     };
-    let earlier = records[..place].iter().position(|record| record[..2] == [3, switch]);
+    let earlier = records[..place].iter().position(|record| record[..2] == [kind::MISS, switch]);
     let words = match earlier {
         Some(earlier) => format!("switch {switch} has its miss already, {}", at(earlier)),
         None => format!("the miss of switch {misses} comes before that of switch {switch}"),
@@ -159,8 +145,7 @@ fn miss_cause(records: &[Record], place: usize, at: At) -> Option<Cause> {
 
 fn same_rule_cause(records: &[Record], place: usize, at: At) -> Option<Cause> {
     let rule = records.get(place)?;
-    let is_same = |other: &Record| other[0] == 4 && other[1..8] == rule[1..8];
-    let earlier = records[..place].iter().position(is_same)?;
+    let earlier = records[..place].iter().position(|other| is_same_rule(other, rule))?;
     let words = format!(
         "a rule with this switch, priority, port and header is there already, {}",
         at(earlier)
@@ -171,9 +156,9 @@ fn same_rule_cause(records: &[Record], place: usize, at: At) -> Option<Cause> {
 /// The nodes of the policy of the record at a place, up to that record.
 fn nodes_to(records: &[Record], place: usize) -> Vec<Node> {
     let policy = records[place][1];
-    let same = |record: &&Record| record[..2] == [5, policy];
+    let same = |record: &&Record| record[..2] == [kind::POLICY, policy];
     let nodes = records[..=place].iter().rev().take_while(same);
-    let mut nodes: Vec<Node> = nodes.map(|node| [node[2], node[3], node[4]]).collect();
+    let mut nodes: Vec<Node> = nodes.map(node_of).collect();
     nodes.reverse();
     nodes
 }
@@ -181,7 +166,7 @@ fn nodes_to(records: &[Record], place: usize) -> Vec<Node> {
 fn policy_cause(records: &[Record], place: usize, at: At) -> Option<Cause> {
     let policy = records.get(place)?[1];
     let before = place.checked_sub(1)?;
-    let last = (records[before][0] == 5).then(|| records[before][1]);
+    let last = (records[before][0] == kind::POLICY).then(|| records[before][1]);
     match last {
         None if policy != 0 => {
             return Some(format!("the first policy is {policy}, and must be 0").into());
@@ -196,8 +181,8 @@ fn policy_cause(records: &[Record], place: usize, at: At) -> Option<Cause> {
     let number = nodes.len() - 1;
     let [kind, one, other] = nodes[number];
     let operands: &[u8] = match kind {
-        3 | 6 | 7 | 8 => &[one],
-        4 | 5 => &[one, other],
+        node::NOT | node::SOME | node::ALL | node::TC => &[one],
+        node::AND | node::OR => &[one, other],
         _ => &[],
     };
     let node = print_nodes(&nodes[number..])?;
@@ -212,7 +197,7 @@ fn policy_cause(records: &[Record], place: usize, at: At) -> Option<Cause> {
 
 fn group_cause(records: &[Record], place: usize, at: At) -> Option<Cause> {
     let record = records.get(place)?;
-    if record[0] != 9 {
+    if record[0] != kind::GROUP {
         return absent_cause(records, record);
     }
     let fault = field_fault(widths(records, place)?, record).map(Cause::from);
@@ -220,7 +205,7 @@ fn group_cause(records: &[Record], place: usize, at: At) -> Option<Cause> {
         .or_else(|| absent_cause(records, record))
         .or_else(|| order_cause(records, place, at))
         .or_else(|| {
-            let before = records[..place].iter().filter(|record| record[0] == 9).count();
+            let before = records[..place].iter().filter(|record| record[0] == kind::GROUP).count();
             let words = format!("{MOST_GROUPS} groups stand before it, and that is the most");
             (before >= MOST_GROUPS).then(|| words.into())
         })
@@ -231,7 +216,7 @@ fn order_cause(records: &[Record], place: usize, at: At) -> Option<Cause> {
     let before = place.checked_sub(1)?;
     let [_, switch, group, ..] = records[place];
     let [kind, switch_before, group_before, ..] = records[before];
-    if kind != 9 || [switch_before, group_before] < [switch, group] {
+    if kind != kind::GROUP || [switch_before, group_before] < [switch, group] {
         return None;
     }
     let name = format!("group {group} of switch {switch}");
@@ -249,7 +234,7 @@ fn order_cause(records: &[Record], place: usize, at: At) -> Option<Cause> {
 /// The action or bucket of a record that names a group which no record of its switch has.
 fn absent_cause(records: &[Record], record: &Record) -> Option<Cause> {
     let switch = record[1];
-    let part = if record[0] == 9 { "bucket" } else { "action" };
+    let part = if record[0] == kind::GROUP { "bucket" } else { "action" };
     let is_absent = |group: &u8| place_of(records, switch, *group).is_none();
     let named = (1..).zip(named_groups(record));
     let mut absent = named.filter_map(|(number, group)| Some(number).zip(group.filter(is_absent)));
@@ -260,20 +245,22 @@ fn absent_cause(records: &[Record], record: &Record) -> Option<Cause> {
 /// The group that each action, or each bucket, of a record names.
 fn named_groups(record: &Record) -> Vec<Option<u8>> {
     match record[0] {
-        9 => buckets(record)
+        kind::GROUP => buckets(record)
             .map(|bucket| match bucket.target {
                 Target::Group(group) => Some(group),
                 Target::Port(_) => None,
             })
             .collect(),
-        _ => actions(record).map(|[kind, group, _]| (kind == 4).then_some(group)).collect(),
+        _ => actions(record)
+            .map(|[kind, group, _]| (kind == action::GROUP).then_some(group))
+            .collect(),
     }
 }
 
 fn full_cause(records: &[Record], place: usize) -> Option<Cause> {
     let record = records.get(place)?;
     let words = match record[0] {
-        4 => "256 rules stand before it, and that is the most",
+        kind::RULE => "256 rules stand before it, and that is the most",
         _ if record[1] == 8 => "8 policies stand before it, and that is the most",
         _ => "32 nodes of its policy stand before it, and that is the most",
     };

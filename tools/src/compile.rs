@@ -9,11 +9,12 @@ mod gates;
 mod parts;
 mod rewriting;
 
-use crate::formula::{Node, Variable, MOST_NODES, MOST_POLICIES};
+use crate::formula::{Node, Sign, Variable, MOST_NODES, MOST_POLICIES};
+use crate::kind::node;
 use crate::widths::Widths;
 use crate::written::Written;
 use gates::{Gates, Nodes};
-use parts::{Id, Parts, Sign, Tricks};
+use parts::{Id, Parts, Tricks};
 use std::collections::HashMap;
 
 /// The most alternatives that a formula is split into.
@@ -69,36 +70,36 @@ fn as_it_stands(written: &Written) -> Vec<Node> {
 fn stand(written: &Written, nodes: &mut Nodes) -> usize {
     let number = |variable: &Variable| usize::from(variable.number());
     match written {
-        Written::Bit(one, bit) => nodes.number(0, number(one), usize::from(*bit)),
-        Written::Steps(one, other) => nodes.number(1, number(one), number(other)),
-        Written::External(one) => nodes.number(2, number(one), 0),
+        Written::Bit(one, bit) => nodes.number(node::BIT, number(one), usize::from(*bit)),
+        Written::Steps(one, other) => nodes.number(node::R, number(one), number(other)),
+        Written::External(one) => nodes.number(node::E, number(one), 0),
         Written::Not(part) => {
             let part = stand(part, nodes);
-            nodes.number(3, part, 0)
+            nodes.number(node::NOT, part, 0)
         }
-        Written::And(parts) => stand_chain(4, parts, nodes),
-        Written::Or(parts) => stand_chain(5, parts, nodes),
+        Written::And(parts) => stand_chain(Sign::And, parts, nodes),
+        Written::Or(parts) => stand_chain(Sign::Or, parts, nodes),
         Written::Some(part, bound) => {
             let part = stand(part, nodes);
-            nodes.number(6, part, number(bound))
+            nodes.number(node::SOME, part, number(bound))
         }
         Written::All(part, bound) => {
             let part = stand(part, nodes);
-            nodes.number(7, part, number(bound))
+            nodes.number(node::ALL, part, number(bound))
         }
         Written::Closure(part, from, to) => {
             let part = stand(part, nodes);
-            nodes.number(8, part, 2 * number(from) + number(to))
+            nodes.number(node::TC, part, 2 * number(from) + number(to))
         }
         Written::Fits(..) | Written::Same(..) => unreachable!("no raw form"),
     }
 }
 
-fn stand_chain(kind: u8, parts: &[Written], nodes: &mut Nodes) -> usize {
+fn stand_chain(sign: Sign, parts: &[Written], nodes: &mut Nodes) -> usize {
     let mut whole = stand(&parts[0], nodes);
     for part in &parts[1..] {
         let part = stand(part, nodes);
-        whole = nodes.number(kind, whole, part);
+        whole = nodes.number(sign.kind(), whole, part);
     }
     whole
 }

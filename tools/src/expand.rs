@@ -1,25 +1,24 @@
 //! Texts with their policies in the raw forms.
 
-use crate::fault::Fault;
+use crate::kind;
 use crate::names::Names;
-use crate::parse::{parse, Reader};
+use crate::parse::{Parsed, Reader};
 use crate::print::{print_policy, whole_records};
 use crate::tokens::statements;
 use crate::{record, Record};
 
 /// The text with every policy of fields or a sentence as a comment, and below it the formula of raw
 /// forms that it becomes. It gives the same records.
-pub fn expand(text: &str) -> Result<String, Vec<Fault>> {
-    let parsed = parse(text)?;
+pub fn expand(text: &str, parsed: &Parsed) -> String {
     let (records, _) = whole_records(&parsed.bytes);
-    let Some(widths) = parsed.names.widths else { return Ok(text.to_string()) };
+    let Some(widths) = parsed.names.widths else { return text.to_string() };
     let raw = |number: u8, name: Option<&str>| {
-        let is_its = |record: &&Record| record[0] == 5 && record[1] == number;
+        let is_its = |record: &&Record| record[..2] == [kind::POLICY, number];
         let nodes: Vec<Record> = records.iter().filter(is_its).copied().collect();
         let name = name.map_or_else(String::new, |name| format!(" \"{name}\""));
         let mut reader = Reader::with(widths, Names::default());
         if let Some(before) = number.checked_sub(1) {
-            reader.note_record(&record(&[5, before]), 0);
+            reader.note_record(&record(&[kind::POLICY, before]), 0);
         }
         print_policy(&mut reader, &format!("policy {number}{name}"), &nodes)
     };
@@ -44,7 +43,7 @@ pub fn expand(text: &str) -> Result<String, Vec<Fault>> {
         let more = format!("\n# More of the policy in line {}\n{}", part.line, below.trim_end());
         lines[last] += &more;
     }
-    Ok(lines.join("\n") + "\n")
+    lines.join("\n") + "\n"
 }
 
 /// Whether lines of a text say the same as others but for spaces.

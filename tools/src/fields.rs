@@ -2,6 +2,7 @@
 //! of a group itself.
 
 use crate::groups::{BUCKET_BYTES, LAST_GROUP, MOST_BUCKETS};
+use crate::kind::{self, action, node, target};
 use crate::version::version_fault;
 use crate::widths::Widths;
 use crate::Record;
@@ -21,15 +22,17 @@ pub fn width_fault(record: &Record) -> Option<String> {
 /// What is wrong with a record's fields.
 pub fn field_fault(of: Widths, record: &Record) -> Option<String> {
     match record[0] {
-        1 => version_fault(record[4]).or_else(|| unused(record, 5, 24)),
-        2 => link_fault(of, record),
-        3 => switch_fault(of, record[1])
+        kind::WIDTHS => version_fault(record[4]).or_else(|| unused(record, 5, 24)),
+        kind::LINK => link_fault(of, record),
+        kind::MISS => switch_fault(of, record[1])
             .or_else(|| unused(record, 2, 8))
             .or_else(|| actions_fault(of, record)),
-        4 | 6 | 7 => match_fault(of, record).or_else(|| actions_fault(of, record)),
-        5 => node_fault(of, record),
-        8 => match_fault(of, record).or_else(|| unused(record, 8, 24)),
-        9 => group_fault(of, record),
+        kind::RULE | kind::ADD | kind::MODIFY => {
+            match_fault(of, record).or_else(|| actions_fault(of, record))
+        }
+        kind::POLICY => node_fault(of, record),
+        kind::DELETE => match_fault(of, record).or_else(|| unused(record, 8, 24)),
+        kind::GROUP => group_fault(of, record),
         _ => None,
     }
 }
@@ -41,7 +44,7 @@ fn unused(record: &Record, from: usize, to: usize) -> Option<String> {
 }
 
 fn switch_fault(of: Widths, switch: u8) -> Option<String> {
-    let last = of.switches();
+    let last = of.last_switch();
     (switch > last).then(|| format!("there is no switch {switch}, the last is {last}"))
 }
 
@@ -83,13 +86,13 @@ fn actions_fault(of: Widths, record: &Record) -> Option<String> {
         let [kind, value, care] = [record[place], record[place + 1], record[place + 2]];
         let what = format!("action {}", number + 1);
         match kind {
-            1 => pattern_fault(&what, [value, care], of.p),
-            2 if number + 1 == count => {
+            action::OUTPUT => pattern_fault(&what, [value, care], of.p),
+            action::SET if number + 1 == count => {
                 Some(format!("{what}, the last one, is a set, and sends nothing"))
             }
-            2 => pattern_fault(&what, [value, care], of.h),
-            3 => in_port_fault(&what, [value, care]),
-            4 => group_action_fault(&what, [value, care]),
+            action::SET => pattern_fault(&what, [value, care], of.h),
+            action::IN_PORT => in_port_fault(&what, [value, care]),
+            action::GROUP => group_action_fault(&what, [value, care]),
             _ => {
                 let kinds = "1 (output), 2 (set), 3 (in_port) or 4 (group)";
                 Some(format!("{what} has kind {kind}, not {kinds}"))
@@ -136,16 +139,16 @@ fn buckets_fault(of: Widths, record: &Record) -> Option<String> {
 /// What is wrong with the bucket of a number, from 1, of a group.
 fn bucket_fault(of: Widths, group: u8, number: usize, bucket: &[u8]) -> Option<String> {
     let what = format!("bucket {number}");
-    let [value, care, kind, target] = [bucket[0], bucket[1], bucket[2], bucket[3]];
+    let [value, care, kind, number] = [bucket[0], bucket[1], bucket[2], bucket[3]];
     let last = of.controller();
     let target_fault = || match kind {
-        1 if target > last => {
-            Some(format!("{what} sends to port {target}, and the last is {last}"))
+        target::PORT if number > last => {
+            Some(format!("{what} sends to port {number}, and the last is {last}"))
         }
-        2 if target >= group => {
-            Some(format!("{what} goes on to group {target}, which is not below its own, {group}"))
+        target::GROUP if number >= group => {
+            Some(format!("{what} goes on to group {number}, which is not below its own, {group}"))
         }
-        1 | 2 => None,
+        target::PORT | target::GROUP => None,
         _ => Some(format!("{what} has target kind {kind}, not 1 (port) or 2 (group)")),
     };
     pattern_fault(&what, [value, care], of.h).or_else(target_fault)
@@ -160,16 +163,16 @@ fn node_fault(of: Widths, record: &Record) -> Option<String> {
         |byte: u8| (byte > 1).then(|| format!("variable {byte} is neither 0 (X) nor 1 (Y)"));
     let zero = || unused(record, 4, 5);
     let fault = match kind {
-        0 => variable(one).or_else(|| {
+        node::BIT => variable(one).or_else(|| {
             let bits = of.bits();
             (other >= bits).then(|| format!("bit {other} is not below {bits}"))
         }),
-        1 => variable(one).or_else(|| variable(other)),
-        2 => variable(one).or_else(zero),
-        3 => zero(),
-        4 | 5 => None,
-        6 | 7 => variable(other),
-        8 => (other > 3).then(|| format!("{other} is no pair of variables, 0 to 3")),
+        node::R => variable(one).or_else(|| variable(other)),
+        node::E => variable(one).or_else(zero),
+        node::NOT => zero(),
+        node::AND | node::OR => None,
+        node::SOME | node::ALL => variable(other),
+        node::TC => (other > 3).then(|| format!("{other} is no pair of variables, 0 to 3")),
         _ => Some(format!("node kind {kind} is not 0 to 8")),
     };
     fault.or_else(|| unused(record, 5, 24))

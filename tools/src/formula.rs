@@ -1,12 +1,19 @@
 //! Policies as formulas and as node lists, and both printed.
 
 use crate::fault::Fault;
+use crate::kind::node::{self, NAMES};
 use crate::tokens::Statement;
 use crate::written::read_variable;
+use crate::Record;
 use std::rc::Rc;
 
 /// Kind and operands of a policy node.
 pub type Node = [u8; 3];
+
+/// The node of a policy's record.
+pub fn node_of(record: &Record) -> Node {
+    [record[2], record[3], record[4]]
+}
 
 /// A variable of a formula; each stands for a state.
 #[derive(Clone, Copy, Debug, PartialEq, Eq, PartialOrd, Ord, Hash)]
@@ -66,15 +73,15 @@ impl Formula {
         let operand = |number: u8| earlier.get(usize::from(number)).cloned();
         let variable = Variable::numbered;
         Some(match kind {
-            0 => Formula::Bit(variable(one)?, other),
-            1 => Formula::Steps(variable(one)?, variable(other)?),
-            2 => Formula::External(variable(one)?),
-            3 => Formula::Not(operand(one)?),
-            4 => Formula::And(operand(one)?, operand(other)?),
-            5 => Formula::Or(operand(one)?, operand(other)?),
-            6 => Formula::Some(operand(one)?, variable(other)?),
-            7 => Formula::All(operand(one)?, variable(other)?),
-            8 => Formula::Closure(operand(one)?, variable(other / 2)?, variable(other % 2)?),
+            node::BIT => Formula::Bit(variable(one)?, other),
+            node::R => Formula::Steps(variable(one)?, variable(other)?),
+            node::E => Formula::External(variable(one)?),
+            node::NOT => Formula::Not(operand(one)?),
+            node::AND => Formula::And(operand(one)?, operand(other)?),
+            node::OR => Formula::Or(operand(one)?, operand(other)?),
+            node::SOME => Formula::Some(operand(one)?, variable(other)?),
+            node::ALL => Formula::All(operand(one)?, variable(other)?),
+            node::TC => Formula::Closure(operand(one)?, variable(other / 2)?, variable(other % 2)?),
             _ => return None,
         })
     }
@@ -87,7 +94,6 @@ pub const MOST_NODES: usize = 32;
 /// The most characters that a printed formula has.
 const MOST_CHARACTERS: usize = 1_000;
 
-const NAMES: [&str; 9] = ["BIT", "R", "E", "NOT", "AND", "OR", "SOME", "ALL", "TC"];
 const VARIABLES: [&str; 2] = ["X", "Y"];
 
 /// Reads a node list; an operand may be any byte.
@@ -103,26 +109,27 @@ pub fn read_nodes(statement: &mut Statement, bits: u8) -> Result<Vec<Node>, Faul
 
 fn read_node(statement: &mut Statement, bits: u8) -> Result<Node, Fault> {
     let name = statement.peek().text;
-    let Some(kind) = NAMES.iter().position(|known| *known == name) else {
+    let Some(kind) = (0..).zip(NAMES).find_map(|(kind, known)| (known == name).then_some(kind))
+    else {
         return Err(statement.expected(&format!("a node ({})", NAMES.join(", "))));
     };
     statement.take();
     let operand = |statement: &mut Statement| statement.byte("the number of a node", 255);
     let variable = |statement: &mut Statement| read_variable(statement).map(Variable::number);
     let (one, other) = match kind {
-        0 => (variable(statement)?, statement.byte("a bit of a state", bits - 1)?),
-        1 => (variable(statement)?, variable(statement)?),
-        2 => (variable(statement)?, 0),
-        3 => (operand(statement)?, 0),
-        4 | 5 => (operand(statement)?, operand(statement)?),
-        6 | 7 => (operand(statement)?, variable(statement)?),
+        node::BIT => (variable(statement)?, statement.byte("a bit of a state", bits - 1)?),
+        node::R => (variable(statement)?, variable(statement)?),
+        node::E => (variable(statement)?, 0),
+        node::NOT => (operand(statement)?, 0),
+        node::AND | node::OR => (operand(statement)?, operand(statement)?),
+        node::SOME | node::ALL => (operand(statement)?, variable(statement)?),
         _ => {
             let walk = operand(statement)?;
             let first = variable(statement)?;
             (walk, 2 * first + variable(statement)?)
         }
     };
-    Ok([kind as u8, one, other])
+    Ok([kind, one, other])
 }
 
 fn variable(number: u8) -> Option<&'static str> {
@@ -139,26 +146,59 @@ fn print_node(node: &Node) -> Option<String> {
     let [kind, one, other] = *node;
     let name = NAMES.get(usize::from(kind))?;
     Some(match kind {
-        0 => format!("{name} {} {other}", variable(one)?),
-        1 => format!("{name} {} {}", variable(one)?, variable(other)?),
-        2 => format!("{name} {}", variable(one)?),
-        3 => format!("{name} {one}"),
-        4 | 5 => format!("{name} {one} {other}"),
-        6 | 7 => format!("{name} {one} {}", variable(other)?),
+        node::BIT => format!("{name} {} {other}", variable(one)?),
+        node::R => format!("{name} {} {}", variable(one)?, variable(other)?),
+        node::E => format!("{name} {}", variable(one)?),
+        node::NOT => format!("{name} {one}"),
+        node::AND | node::OR => format!("{name} {one} {other}"),
+        node::SOME | node::ALL => format!("{name} {one} {}", variable(other)?),
         _ => format!("{name} {one} {} {}", variable(other / 2)?, variable(other % 2)?),
     })
 }
 
-/// A sign that joins the parts of a formula.
-#[derive(Clone, Copy, PartialEq, Eq)]
-enum Sign {
+/// A sign that joins the parts of a formula: `&` or `|`.
+#[derive(Clone, Copy, Debug, PartialEq, Eq, Hash, PartialOrd, Ord)]
+pub enum Sign {
     And,
     Or,
 }
 
-/// The form of a printed formula.
+impl Sign {
+    /// The sign of a word or symbol.
+    pub fn of(text: &str) -> Option<Sign> {
+        match text {
+            "&" | "and" => Some(Sign::And),
+            "|" | "or" => Some(Sign::Or),
+            _ => None,
+        }
+    }
+
+    pub fn other(self) -> Sign {
+        match self {
+            Sign::And => Sign::Or,
+            Sign::Or => Sign::And,
+        }
+    }
+
+    /// The kind of its node.
+    pub fn kind(self) -> u8 {
+        match self {
+            Sign::And => node::AND,
+            Sign::Or => node::OR,
+        }
+    }
+
+    fn symbol(self) -> &'static str {
+        match self {
+            Sign::And => "&",
+            Sign::Or => "|",
+        }
+    }
+}
+
+/// What a printed formula is, as far as parentheses round it are concerned.
 #[derive(Clone, Copy, PartialEq, Eq)]
-enum Form {
+enum Shape {
     Atom,
     /// A quantifier, negated or not, and the sign in what it is about.
     Quantifier(Option<Sign>),
@@ -170,12 +210,12 @@ enum Form {
 #[derive(Clone)]
 struct Printed {
     text: String,
-    form: Form,
+    shape: Shape,
 }
 
 impl Printed {
     fn atom(text: String) -> Printed {
-        Printed { text, form: Form::Atom }
+        Printed { text, shape: Shape::Atom }
     }
 
     /// The text, in parentheses unless it stands well without.
@@ -188,16 +228,16 @@ impl Printed {
 
     /// Whether the text stands on the left of a sign without parentheses.
     fn stands_before(&self, sign: Sign) -> bool {
-        self.form == Form::Atom || self.form == Form::Chain(sign, false)
+        self.shape == Shape::Atom || self.shape == Shape::Chain(sign, false)
     }
 
     /// Whether the text stands on the right of a sign without parentheses: what a quantifier is about
     /// goes on with the sign before it alone.
     fn stands_behind(&self, sign: Sign) -> bool {
-        match self.form {
-            Form::Atom => true,
-            Form::Quantifier(its) => its.is_none_or(|its| its == sign),
-            Form::Chain(..) => false,
+        match self.shape {
+            Shape::Atom => true,
+            Shape::Quantifier(its) => its.is_none_or(|its| its == sign),
+            Shape::Chain(..) => false,
         }
     }
 }
@@ -216,24 +256,24 @@ fn print_over(node: Node, earlier: &[Option<Printed>]) -> Option<Printed> {
     let [kind, one, other] = node;
     let operand = |number: u8| earlier.get(usize::from(number))?.as_ref();
     match kind {
-        0 => Some(Printed::atom(format!("bit({},{other})", variable(one)?))),
-        1 => Some(Printed::atom(format!("R({},{})", variable(one)?, variable(other)?))),
-        2 => Some(Printed::atom(format!("E({})", variable(one)?))),
-        3 => Some(print_not(operand(one)?)),
-        4 => Some(print_chain("&", Sign::And, operand(one)?, operand(other)?)),
-        5 => Some(print_chain("|", Sign::Or, operand(one)?, operand(other)?)),
-        6 | 7 => {
-            let word = if kind == 6 { "exists" } else { "forall" };
+        node::BIT => Some(Printed::atom(format!("bit({},{other})", variable(one)?))),
+        node::R => Some(Printed::atom(format!("R({},{})", variable(one)?, variable(other)?))),
+        node::E => Some(Printed::atom(format!("E({})", variable(one)?))),
+        node::NOT => Some(print_not(operand(one)?)),
+        node::AND => Some(print_chain(Sign::And, operand(one)?, operand(other)?)),
+        node::OR => Some(print_chain(Sign::Or, operand(one)?, operand(other)?)),
+        node::SOME | node::ALL => {
+            let word = if kind == node::SOME { "exists" } else { "forall" };
             let inside = operand(one)?;
             let text = format!("{word} {}. {}", variable(other)?, inside.text);
-            let sign = match inside.form {
-                Form::Atom => None,
-                Form::Quantifier(sign) => sign,
-                Form::Chain(sign, _) => Some(sign),
+            let sign = match inside.shape {
+                Shape::Atom => None,
+                Shape::Quantifier(sign) => sign,
+                Shape::Chain(sign, _) => Some(sign),
             };
-            Some(Printed { text, form: Form::Quantifier(sign) })
+            Some(Printed { text, shape: Shape::Quantifier(sign) })
         }
-        8 => {
+        node::TC => {
             let (first, second) = (variable(other / 2)?, variable(other % 2)?);
             Some(Printed::atom(format!("tc({})({first},{second})", operand(one)?.text)))
         }
@@ -242,15 +282,15 @@ fn print_over(node: Node, earlier: &[Option<Printed>]) -> Option<Printed> {
 }
 
 fn print_not(negated: &Printed) -> Printed {
-    match negated.form {
-        Form::Chain(..) => Printed::atom(format!("!({})", negated.text)),
-        form => Printed { text: format!("!{}", negated.text), form },
+    match negated.shape {
+        Shape::Chain(..) => Printed::atom(format!("!({})", negated.text)),
+        shape => Printed { text: format!("!{}", negated.text), shape },
     }
 }
 
-fn print_chain(text: &str, sign: Sign, left: &Printed, right: &Printed) -> Printed {
+fn print_chain(sign: Sign, left: &Printed, right: &Printed) -> Printed {
     let [before, behind] = [left.stands_before(sign), right.stands_behind(sign)];
-    let text = format!("{} {text} {}", left.standing(before), right.standing(behind));
-    let open = behind && right.form != Form::Atom;
-    Printed { text, form: Form::Chain(sign, open) }
+    let text = format!("{} {} {}", left.standing(before), sign.symbol(), right.standing(behind));
+    let open = behind && right.shape != Shape::Atom;
+    Printed { text, shape: Shape::Chain(sign, open) }
 }

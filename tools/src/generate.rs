@@ -1,6 +1,13 @@
 //! Networks of three kinds, with shortest routes for random flows, as texts.
 
+use crate::arguments::{fault, Arguments};
+use crate::fault::quoted;
 use crate::groups::MOST_GROUPS;
+use crate::names::Point;
+use crate::standard;
+use crate::subcommands::{ProgramOption, FLOWS, GROUPS, SEED, SWITCHES};
+use crate::templates::MOST_HOPS;
+use crate::trouble::{Status, Trouble};
 use crate::widths::Widths;
 use std::fmt::Write;
 
@@ -39,8 +46,6 @@ const MOST_LINKS: usize = 5;
 const HOST: u8 = 1;
 /// How often a flow is drawn again whose header another flow has on its way.
 const TRIES: usize = 100;
-/// The most hops that a policy can hold a route to.
-const MOST_HOPS: usize = 7;
 
 /// How large a network is.
 #[derive(Clone, Copy, Debug, PartialEq, Eq)]
@@ -71,6 +76,24 @@ impl Options {
         let w = bits(self.switches);
         Widths { h: bits(self.flows).min(9 - PORTS - w), p: PORTS, w }
     }
+}
+
+/// `wegbaro generate`: the text of a network.
+pub fn run(arguments: &Arguments) -> Result<Status, Trouble> {
+    let word = arguments.joined(0);
+    let Some(kind) = Kind::of(&word) else {
+        let kinds = Kind::ALL.map(Kind::word).join(", ");
+        return Err(fault(format!("`{}` is no KIND ({kinds})", quoted(&word))));
+    };
+    let size = |option: ProgramOption, otherwise: u64| {
+        let number = arguments.number(option.name, otherwise)?;
+        Ok(usize::try_from(number).unwrap_or(usize::MAX))
+    };
+    let [switches, flows, groups] = [size(SWITCHES, 4)?, size(FLOWS, 4)?, size(GROUPS, 0)?];
+    let options = Options::new(switches, flows, groups).map_err(fault)?;
+    let text = generate(kind, options, arguments.number(SEED.name, 0)?);
+    standard::write(text.as_bytes())?;
+    Ok(Status::Good)
 }
 
 /// The text of a network; the same seed gives the same text.
@@ -110,9 +133,6 @@ impl Random {
         from[self.below(from.len())]
     }
 }
-
-/// A switch and a port of it.
-type Point = [usize; 2];
 
 /// Switches, which of them have hosts, and links between two switches.
 struct Graph {
@@ -251,7 +271,7 @@ impl Graph {
         let mut text =
             format!("{title} Port {HOST} of switches 0 to {} is a host's.\n", self.hosts - 1);
         let Widths { h, p, w } = of;
-        let mut line = |words: String| writeln!(text, "{words}").unwrap_or_default();
+        let mut line = |line: String| writeln!(text, "{line}").unwrap_or_default();
         line(format!("widths H {h} P {p} W {w}"));
         for [one, other] in &self.links {
             let ports = [self.port(*one, *other), self.port(*other, *one)];
@@ -273,7 +293,7 @@ impl Graph {
         line("policy 0: no loop over states".to_string());
         line("policy 1: no frame comes back to a switch it left".to_string());
         let longest = flows.iter().map(|flow| flow.route.len()).max().unwrap_or(1);
-        if longest <= MOST_HOPS {
+        if longest <= MOST_HOPS.into() {
             let hops = if longest == 1 { "hop" } else { "hops" };
             line(format!("policy 2: no route of more than {longest} {hops}"));
         }
@@ -319,8 +339,8 @@ impl Flow {
     /// The switches of the route, each with the port to which it sends.
     fn sent(&self, graph: &Graph) -> Vec<Point> {
         let point = |switch: &usize| match self.next(*switch) {
-            Some(Some(next)) => [*switch, graph.port(*switch, next).into()],
-            _ => [*switch, HOST.into()],
+            Some(Some(next)) => [*switch as u8, graph.port(*switch, next)],
+            _ => [*switch as u8, HOST],
         };
         self.route.iter().map(point).collect()
     }

@@ -1,7 +1,8 @@
-//! Groups: records of kind 9, whose buckets each send a copy of a frame to a port or on to a lower
+//! Groups, whose buckets each send a copy of a frame to a port or on to a lower
 //! group.
 
 use crate::fault::Fault;
+use crate::kind::{self, target};
 use crate::parse::Reader;
 use crate::tokens::Statement;
 use crate::widths::Widths;
@@ -41,7 +42,7 @@ pub struct Bucket {
 impl Bucket {
     fn of(bytes: &[u8]) -> Bucket {
         let target = match bytes[2] {
-            1 => Target::Port(bytes[3]),
+            target::PORT => Target::Port(bytes[3]),
             _ => Target::Group(bytes[3]),
         };
         Bucket { header: [bytes[0], bytes[1]], target }
@@ -51,8 +52,8 @@ impl Bucket {
     pub fn bytes(self) -> [u8; BUCKET_BYTES] {
         let [value, care] = self.header;
         let [kind, number] = match self.target {
-            Target::Port(port) => [1, port],
-            Target::Group(group) => [2, group],
+            Target::Port(port) => [target::PORT, port],
+            Target::Group(group) => [target::GROUP, group],
         };
         [value, care, kind, number]
     }
@@ -65,7 +66,7 @@ pub fn buckets(group: &Record) -> impl Iterator<Item = Bucket> + '_ {
 
 /// The place of a switch's group.
 pub fn place_of(records: &[Record], switch: u8, group: u8) -> Option<usize> {
-    records.iter().position(|record| record[..3] == [9, switch, group])
+    records.iter().position(|record| record[..3] == [kind::GROUP, switch, group])
 }
 
 impl Reader {
@@ -77,7 +78,7 @@ impl Reader {
     ) -> Result<Vec<u8>, Fault> {
         let [switch, group] = self.group_of_switch(of, statement)?;
         statement.expect(":")?;
-        let mut bytes = vec![9, switch, group, 0, 0, 0, 0, 0, 0];
+        let mut bytes = vec![kind::GROUP, switch, group, 0, 0, 0, 0, 0, 0];
         loop {
             if usize::from(bytes[8]) == MOST_BUCKETS {
                 let message = format!("there are more than {MOST_BUCKETS} buckets");

@@ -19,6 +19,10 @@ impl Object {
         self.raw(name, &value.to_string())
     }
 
+    pub fn truth(self, name: &str, value: bool) -> Object {
+        self.raw(name, &value.to_string())
+    }
+
     pub fn object(self, name: &str, value: Object) -> Object {
         self.raw(name, &value.to_string())
     }
@@ -89,12 +93,13 @@ mod tests {
         let object = Object::new()
             .text("a\"b", "c\\d\n\t\r\u{1}\u{7f}ä")
             .number("n", 7)
+            .truth("t", true)
             .object("o", inner.clone())
             .objects("p", &[inner, Object::new()])
             .numbers("l", &[1, 2])
             .and(Object::new().number("m", 8))
             .maybe(None, |object, value| object.number("no", value));
-        let line = r#"{"a\"b":"c\\d\n\t\r\u0001\u007fä","n":7,"o":{"i":1},"p":[{"i":1},{}],"l":[1,2],"m":8}"#;
+        let line = r#"{"a\"b":"c\\d\n\t\r\u0001\u007fä","n":7,"t":true,"o":{"i":1},"p":[{"i":1},{}],"l":[1,2],"m":8}"#;
         assert_eq!(object.to_string(), line);
     }
 }

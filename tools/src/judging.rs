@@ -1,253 +1,149 @@
 //! A network and its commands judged, and each answer told at once.
 
+use crate::answers::command::CommandAnswer;
+use crate::answers::short::ShortAnswer;
+use crate::answers::start::StartAnswer;
+use crate::answers::{note, told, Answer, Format, Standing};
+use crate::arguments::Arguments;
 use crate::book::Book;
-use crate::fault::quoted;
-use crate::json::Object;
-use crate::parse::parse_command;
-use crate::priorities::Noted;
-use crate::source::{fault_trouble, Given, Source};
+use crate::priorities::{notes_on_equals, Noted};
+use crate::source::{Command, Source};
 use crate::standard;
 use crate::trouble::{Status, Trouble};
-use crate::words::{origin, Answer, Form, Teller};
-use crate::{Record, RECORD};
-use std::io::{self, BufRead, Read};
 use wegbaro::{Checked, Gate};
-
-/// Bytes of work of the program `gate`.
-const GATE_WORK: usize = 65_536;
 
 /// A gate, what is known of its records, and the worst that was answered.
 pub struct Judging<'a> {
+    pub source: &'a Source,
+    pub format: Format,
+    /// The bytes of work that the gate has, if they are not as many as are needed.
+    work: Option<usize>,
     gate: Option<Gate>,
     book: Book,
-    answered: usize,
+    pub answered: usize,
     /// What is said of rules that act together.
     noted: Noted,
-    teller: Teller<'a>,
-    status: Status,
+    pub status: Status,
 }
 
 /// What is done with an answer: it is told, or held against another.
-type Told<'t> = &'t mut dyn FnMut(&Answer, &str) -> Result<(), Trouble>;
+pub type Told<'t> = &'t mut dyn FnMut(&dyn Answer, &str) -> Result<(), Trouble>;
 
 /// Tells an answer.
-fn tell(_: &Answer, told: &str) -> Result<(), Trouble> {
+pub fn tell(_: &dyn Answer, told: &str) -> Result<(), Trouble> {
     standard::write(told.as_bytes())
 }
 
-/// Judges a network.
-pub fn check(source: &Source, form: Form) -> Result<Status, Trouble> {
-    let mut judging = Judging::new(source, form, None);
+/// `wegbaro check`: judges a network.
+pub fn check(arguments: &Arguments) -> Result<Status, Trouble> {
+    let format = arguments.format();
+    let source = Source::noted(arguments.file(), format)?;
+    if !source.commands.is_empty() {
+        note(format, "the file's commands are not judged; `wegbaro run` judges them too")?;
+    }
+    let mut judging = Judging::new(&source, format, None);
     judging.start(&mut tell)?;
     Ok(judging.status)
 }
 
-/// Judges a network and its commands.
-pub fn run(source: &Source, form: Form) -> Result<Status, Trouble> {
-    let mut judging = Judging::new(source, form, None);
+/// `wegbaro run`: judges a network and its commands.
+pub fn run(arguments: &Arguments) -> Result<Status, Trouble> {
+    let source = Source::noted(arguments.file(), arguments.format())?;
+    let mut judging = Judging::new(&source, arguments.format(), None);
     judging.all(&mut tell)?;
-    judging.note_unjudged();
+    judging.note_unjudged()?;
     Ok(judging.status)
-}
-
-/// The answers of the program `gate` in words; answers that are not of this source are a fault.
-pub fn explain(source: &Source, form: Form, output: &str) -> Result<Status, Trouble> {
-    let mut lines = output.lines();
-    let mut number = 0;
-    let mut judging = Judging::new(source, form, Some(GATE_WORK));
-    judging.all(&mut |answer, told| {
-        number += 1;
-        let expected = format!("the gate's answer about this file is `{}`", answer.line());
-        match lines.next() {
-            Some(line) if line == answer.line() => standard::write(told.as_bytes()),
-            Some(line) => Err(other_answer(number, &format!("is `{}`", quoted(line)), &expected)),
-            None => Err(other_answer(number, "is missing", &expected)),
-        }
-    })?;
-    match lines.next() {
-        Some(line) => {
-            let found = format!("is `{}`", quoted(line));
-            Err(other_answer(number + 1, &found, "the gate has no more answers about this file"))
-        }
-        None => Ok(judging.status),
-    }
-}
-
-fn other_answer(number: usize, found: &str, expected: &str) -> Trouble {
-    Trouble::faulty(format!(
-        "line {number} of the answers {found}, and {expected}: these are not the answers about \
-         this file"
-    ))
-}
-
-/// Judges a network and its commands, then commands as they come in on standard input. There is no
-/// session where the network does not hold or the file is cut.
-pub fn session(source: &Source, form: Form, records: bool) -> Result<Status, Trouble> {
-    let mut judging = Judging::new(source, form, None);
-    judging.all(&mut tell)?;
-    if judging.gate.is_none() || !source.rest.is_empty() {
-        judging.note_unjudged();
-        return Ok(judging.status);
-    }
-    let mut input = standard::input()?;
-    match records {
-        true => judging.records(&mut input)?,
-        false => judging.lines(&mut input)?,
-    }
-    Ok(judging.status)
-}
-
-fn read_failed(error: io::Error) -> Trouble {
-    Trouble::failed(format!("standard input: {error}"))
 }
 
 impl<'a> Judging<'a> {
-    fn new(source: &'a Source, form: Form, work: Option<usize>) -> Judging<'a> {
+    pub fn new(source: &'a Source, format: Format, work: Option<usize>) -> Judging<'a> {
         Judging {
+            source,
+            format,
+            work,
             gate: None,
             book: Book::new(&source.network, &source.lines),
             answered: 0,
             noted: Noted::default(),
-            teller: Teller { source, form, work },
             status: Status::Good,
         }
     }
 
-    fn answer(&mut self, answer: &Answer, told: Told) -> Result<(), Trouble> {
-        let status = match answer {
-            Answer::Short => Status::Faulty,
-            _ if answer.is_good() => Status::Good,
-            _ => Status::Bad,
-        };
-        self.status = self.status.max(status);
-        told(answer, &self.teller.tell(&self.book, answer))
+    /// Whether the network holds, so that commands are judged.
+    pub fn holds(&self) -> bool {
+        self.gate.is_some()
+    }
+
+    fn standing(&self) -> Standing<'_> {
+        Standing { source: self.source, book: &self.book }
+    }
+
+    pub fn answer(&mut self, answer: &dyn Answer, tell: Told) -> Result<(), Trouble> {
+        self.status = self.status.max(answer.status());
+        tell(answer, &told(answer, self.standing(), self.format)?)
     }
 
     /// Judges the network. The gate is kept if the network holds.
-    fn start(&mut self, told: Told) -> Result<(), Trouble> {
-        let source = self.teller.source;
-        if source.is_network_cut() {
-            return self.answer(&Answer::Short, told);
+    fn start(&mut self, tell: Told) -> Result<(), Trouble> {
+        if self.source.is_network_cut() {
+            return self.answer(&ShortAnswer::Record, tell);
         }
-        let gate = match self.teller.work {
-            Some(bytes) => Gate::with_work(&source.network, bytes),
-            None => Gate::new(&source.network),
+        let gate = match self.work {
+            Some(bytes) => Gate::with_work(&self.source.network, bytes),
+            None => Gate::new(&self.source.network),
         };
         let verdict = gate.as_ref().map(Gate::check).map_err(|refusal| *refusal);
         self.gate = gate.ok().filter(|gate| gate.check() == Checked::Holds);
-        self.answer(&Answer::Start(verdict), told)?;
-        if let Ok(verdict) = verdict {
-            self.note_equals(verdict == Checked::Holds);
+        self.answer(&StartAnswer { verdict, work: self.work }, tell)?;
+        match verdict {
+            Ok(verdict) => self.note_equals(verdict == Checked::Holds),
+            Err(_) => Ok(()),
         }
-        Ok(())
     }
 
     /// Judges the network and the source's commands. They are not judged unless the network holds.
-    fn all(&mut self, told: Told) -> Result<(), Trouble> {
-        self.start(told)?;
-        let source = self.teller.source;
-        if self.gate.is_none() {
+    pub fn all(&mut self, tell: Told) -> Result<(), Trouble> {
+        self.start(tell)?;
+        if !self.holds() {
             return Ok(());
         }
-        for given in &source.commands {
-            self.command(given.clone(), told)?;
+        for command in &self.source.commands {
+            self.command(*command, tell)?;
         }
-        match source.rest.is_empty() {
+        match self.source.rest.is_empty() {
             true => Ok(()),
-            false => self.answer(&Answer::Short, told),
+            false => self.answer(&ShortAnswer::Record, tell),
         }
     }
 
     /// Says that commands are left alone, where the network does not hold.
-    fn note_unjudged(&self) {
-        if self.gate.is_none() && !self.teller.source.commands.is_empty() {
-            standard::say("note: the commands are not judged, as the network does not hold\n");
+    pub fn note_unjudged(&self) -> Result<(), Trouble> {
+        match !self.holds() && !self.source.commands.is_empty() {
+            true => note(self.format, "the commands are not judged, as the network does not hold"),
+            false => Ok(()),
         }
     }
 
-    fn command(&mut self, given: Given, told: Told) -> Result<(), Trouble> {
+    /// Judges a command, if the network holds.
+    pub fn command(&mut self, command: Command, tell: Told) -> Result<(), Trouble> {
         let Some(gate) = &mut self.gate else { return Ok(()) };
         self.answered += 1;
-        let judged = gate.command(&given.record);
-        let left = self.book.after(&given.record, &origin(self.answered, &given));
-        let answer = Answer::Command(self.answered, given, judged);
-        self.answer(&answer, told)?;
-        if answer.is_good() {
-            self.book = left;
-            self.note_equals(true);
+        let verdict = gate.command(&command.record);
+        let answer = CommandAnswer { number: self.answered, command, verdict };
+        self.answer(&answer, tell)?;
+        match answer.status() {
+            Status::Good => {
+                self.book = answer.left(&self.book);
+                self.note_equals(true)
+            }
+            _ => Ok(()),
         }
-        Ok(())
     }
 
     /// Says which rules act together in the network, unless that is said already.
-    fn note_equals(&mut self, holds: bool) {
-        for note in self.teller.notes_on_equals(&self.book, holds, &mut self.noted) {
-            standard::say(&format!("note: {note}\n"));
-        }
-    }
-
-    /// Commands as lines of text. A faulty line is told and passed over.
-    fn lines(&mut self, input: &mut impl BufRead) -> Result<(), Trouble> {
-        let mut line = vec![];
-        while input.read_until(b'\n', &mut line).map_err(read_failed)? > 0 {
-            let text = String::from_utf8_lossy(&line);
-            let text = text.trim();
-            if !text.is_empty() && !text.starts_with('#') {
-                self.line(text)?;
-            }
-            line.clear();
-        }
-        Ok(())
-    }
-
-    fn line(&mut self, text: &str) -> Result<(), Trouble> {
-        let source = self.teller.source;
-        let Some(widths) = source.widths() else { return Ok(()) };
-        match parse_command(text, widths, &source.names) {
-            Ok(record) => self.command(Given { record, line: None }, &mut tell),
-            Err(faults) => {
-                self.answered += 1;
-                self.status = self.status.max(Status::Faulty);
-                let name = format!("command {}", self.answered);
-                let trouble = fault_trouble(&name, text, &faults);
-                self.faulty(trouble)
-            }
-        }
-    }
-
-    /// Tells a command that could not be read. To a reader of the gate's lines it is one that row 12
-    /// refuses.
-    fn faulty(&self, trouble: Trouble) -> Result<(), Trouble> {
-        match self.teller.form {
-            Form::Words => standard::write(trouble.words.as_bytes()),
-            Form::Json => {
-                let command = || Object::new().text("subject", "command");
-                let line = |object| {
-                    let object = command().number("number", self.answered).and(object);
-                    format!("{object}\n")
-                };
-                let lines: String = trouble.objects.into_iter().map(line).collect();
-                standard::write(lines.as_bytes())
-            }
-            Form::Gate => {
-                standard::say(&trouble.words);
-                standard::write(format!("{} refused 12 0\n", self.answered).as_bytes())
-            }
-        }
-    }
-
-    /// Commands as records.
-    fn records(&mut self, input: &mut impl Read) -> Result<(), Trouble> {
-        loop {
-            let mut bytes = vec![];
-            input.take(RECORD as u64).read_to_end(&mut bytes).map_err(read_failed)?;
-            if bytes.is_empty() {
-                return Ok(());
-            }
-            match Record::try_from(bytes) {
-                Ok(record) => self.command(Given { record, line: None }, &mut tell)?,
-                Err(_) => return self.answer(&Answer::Short, &mut tell),
-            }
-        }
+    fn note_equals(&mut self, holds: bool) -> Result<(), Trouble> {
+        let standing = Standing { source: self.source, book: &self.book };
+        let notes = notes_on_equals(standing, holds, &mut self.noted)?;
+        notes.iter().try_for_each(|message| note(self.format, message))
     }
 }

@@ -1,12 +1,14 @@
 //! The program `wegbaro`: networks and commands as text, judged by the proved library, with answers
 //! in words. `README.md` describes the text and the program.
 
+pub mod answers;
+pub mod arguments;
 pub mod book;
-pub mod breaking;
-pub mod call;
 pub mod causes;
 pub mod compile;
+pub mod conversions;
 pub mod expand;
+pub mod explain;
 pub mod fault;
 pub mod fields;
 pub mod formula;
@@ -14,6 +16,7 @@ pub mod generate;
 pub mod groups;
 pub mod json;
 pub mod judging;
+pub mod kind;
 pub mod names;
 mod naming;
 pub mod parse;
@@ -23,16 +26,17 @@ pub mod print;
 pub mod priorities;
 pub mod program;
 pub mod route;
+pub mod session;
 pub mod source;
 pub mod standard;
 pub mod steps;
+pub mod subcommands;
 pub mod templates;
 pub mod tokens;
 pub mod trouble;
 pub mod truth;
 pub mod version;
 pub mod widths;
-pub mod words;
 pub mod written;
 
 /// Bytes of a record.
@@ -45,6 +49,11 @@ pub type Record = [u8; RECORD];
 pub fn actions(record: &Record) -> impl Iterator<Item = [u8; 3]> + '_ {
     let used = record[9..21].chunks(3).take(record[8].into());
     used.map(|action| [action[0], action[1], action[2]])
+}
+
+/// Whether a record is the rule that another record, a rule or a command, is about.
+pub fn is_same_rule(rule: &Record, other: &Record) -> bool {
+    rule[0] == kind::RULE && rule[1..8] == other[1..8]
 }
 
 /// A record from its first bytes; the others are zero.

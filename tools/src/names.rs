@@ -1,5 +1,6 @@
 //! Names for switches, ports, groups, headers, wards and policies.
 
+use crate::steps::DROP;
 use crate::widths::Widths;
 use std::collections::BTreeMap;
 
@@ -52,7 +53,7 @@ impl Names {
         let name = self.find(own).or_else(|| self.find(|named| *named == Named::Port(port)));
         match name {
             Some(name) => name.to_string(),
-            None if port == 0 => "drop".to_string(),
+            None if port == DROP => "drop".to_string(),
             None if self.widths.is_some_and(|of| of.controller() == port) => {
                 "controller".to_string()
             }
@@ -71,7 +72,7 @@ impl Names {
 
     /// A header by name or number.
     pub fn header(&self, header: u8) -> String {
-        let full = self.widths.map_or(u8::MAX, |of| of.headers());
+        let full = self.widths.map_or(u8::MAX, |of| of.last_header());
         let name = self.find(|named| *named == Named::Header([header, full]));
         name.map_or_else(|| header.to_string(), String::from)
     }

@@ -4,7 +4,7 @@ use crate::fault::{quoted, Fault};
 use crate::groups::LAST_GROUP;
 use crate::names::{Area, Named, Point};
 use crate::parse::{Reader, STATEMENTS};
-use crate::steps::State;
+use crate::steps::{State, DROP};
 use crate::tokens::{Statement, Token};
 use crate::widths::{read_pattern, Widths};
 
@@ -14,7 +14,7 @@ impl Reader {
         let named = match kind.text {
             "switch" => {
                 statement.take();
-                Named::Switch(statement.byte("a switch", of.switches())?)
+                Named::Switch(statement.byte("a switch", of.last_switch())?)
             }
             "port" => {
                 statement.take();
@@ -121,7 +121,7 @@ impl Reader {
             statement.take();
             return Ok(*switch);
         }
-        let read = statement.byte("a switch", of.switches());
+        let read = statement.byte("a switch", of.last_switch());
         read.map_err(|fault| self.with_nearest(statement, fault))
     }
 
@@ -164,7 +164,7 @@ impl Reader {
     ) -> Result<Option<u8>, Fault> {
         let token = statement.peek();
         let port = match (token.text, self.names.named(token.text)) {
-            ("drop", _) => 0,
+            ("drop", _) => DROP,
             ("controller", _) => of.controller(),
             (_, Some(Named::Port(port))) => *port,
             (_, Some(Named::Points(points))) => {
@@ -236,7 +236,7 @@ impl Reader {
     ) -> Result<[u8; 2], Fault> {
         match statement.peek().text.contains('*') {
             true => self.pattern(statement, "switch", of.w),
-            false => Ok([self.switch(of, statement)?, of.switches()]),
+            false => Ok([self.switch(of, statement)?, of.last_switch()]),
         }
     }
 
@@ -267,14 +267,14 @@ impl Reader {
     fn header(&self, of: Widths, statement: &mut Statement) -> Result<u8, Fault> {
         let token = statement.peek();
         if let Some(Named::Header([header, care])) = self.names.named(token.text) {
-            if *care != of.headers() {
+            if *care != of.last_header() {
                 let message = format!("`{}` stands for several headers", quoted(token.text));
                 return Err(token.fault(message));
             }
             statement.take();
             return Ok(*header);
         }
-        let read = statement.byte("a header", of.headers());
+        let read = statement.byte("a header", of.last_header());
         read.map_err(|fault| self.with_nearest(statement, fault))
     }
 
@@ -347,7 +347,7 @@ fn is_name(word: &str) -> bool {
 }
 
 /// The words that have a meaning in the language, so that none of them is a name.
-const WORDS: &[&str] = &[
+const RESERVED: &[&str] = &[
     "H",
     "P",
     "W",
@@ -403,5 +403,5 @@ const WORDS: &[&str] = &[
 /// The word of the language that a name is, in whatever letters.
 fn reserved(name: &str) -> Option<&'static str> {
     let same = |word: &&&str| word.eq_ignore_ascii_case(name);
-    WORDS.iter().chain(&STATEMENTS).find(same).copied()
+    RESERVED.iter().chain(&STATEMENTS).find(same).copied()
 }

@@ -4,9 +4,9 @@
 //! statement that would mean something else than it says. What else is wrong between records, such
 //! as a point linked twice, is left to the gate, which refuses it by a row.
 
-pub use crate::expand::expand;
 use crate::fault::{quoted, Fault};
 use crate::formula::Formula;
+use crate::kind::{self, action};
 use crate::names::{Names, Point};
 use crate::policies::Split;
 use crate::tokens::{statements, Place, Statement, Token};
@@ -100,21 +100,35 @@ impl Parsed {
     }
 }
 
-/// The record of one command line.
-pub fn parse_command(line: &str, widths: Widths, names: &Names) -> Result<Record, Vec<Fault>> {
+/// What starts a command.
+const COMMANDS: [&str; 4] = ["add", "modify", "delete", "bytes"];
+
+/// What the text of one command says.
+#[derive(Clone, Debug, PartialEq, Eq)]
+pub struct CommandText {
+    pub record: Record,
+    /// What is to be said of it though it is no fault.
+    pub notes: Vec<String>,
+}
+
+/// The record of one command.
+pub fn parse_command(text: &str, widths: Widths, names: &Names) -> Result<CommandText, Vec<Fault>> {
     let mut reader = Reader::with(widths, names.clone());
-    let mut found = statements(line);
+    let mut found = statements(text);
     let place = Place { line: 1, column: 1 };
     let [statement] = &mut found[..] else {
         return Err(vec![place.fault(1, "expected one command")]);
     };
     statement.sound().map_err(|fault| vec![fault])?;
     let keyword = statement.peek();
-    if !["add", "modify", "delete", "bytes"].contains(&keyword.text) {
-        return Err(vec![statement.expected("a command (add, modify, delete or bytes)")]);
+    if !COMMANDS.contains(&keyword.text) {
+        let fault = statement.expected(&format!("a command ({})", list(&COMMANDS)));
+        return Err(vec![fault.with_nearest(keyword.text, COMMANDS)]);
     }
     match reader.statement(statement) {
-        Ok(bytes) if bytes.len() == RECORD => Ok(record(&bytes)),
+        Ok(bytes) if bytes.len() == RECORD => {
+            Ok(CommandText { record: record(&bytes), notes: reader.notes })
+        }
         Ok(bytes) => {
             let message = format!("a record has {RECORD} bytes, these are {}", bytes.len());
             Err(vec![keyword.fault(message)])
@@ -124,7 +138,7 @@ pub fn parse_command(line: &str, widths: Widths, names: &Names) -> Result<Record
     }
 }
 
-/// The two states of a call, each by its number or its fields.
+/// The two states of an argument, each by its number or its fields.
 pub fn parse_states(text: &str, widths: Widths, names: &Names) -> Result<[usize; 2], Fault> {
     let reader = Reader::with(widths, names.clone());
     let mut found = statements(text);
@@ -151,20 +165,20 @@ impl From<Fault> for Unread {
     }
 }
 
-/// The widths of a text so far.
+/// Where the widths of a text stand.
 #[derive(Clone, Copy, Debug, Default)]
-enum Given {
+enum WidthsLine {
     #[default]
-    Not,
+    NotYet,
     Faulty,
-    Line(usize),
+    At(usize),
 }
 
 /// Reads statements one after the other.
 #[derive(Clone, Debug, Default)]
 pub struct Reader {
     pub widths: Option<Widths>,
-    given: Given,
+    widths_line: WidthsLine,
     pub names: Names,
     pub(crate) policies: Vec<PolicyText>,
     /// Number and line of each policy, in the order of the text.
@@ -226,10 +240,10 @@ impl Reader {
             "ward" => self.ward(of, statement),
             "link" => self.link(of, statement),
             "miss" => self.miss(of, statement),
-            "rule" => self.rule(of, statement, 4),
-            "add" => self.rule(of, statement, 6),
-            "modify" => self.rule(of, statement, 7),
-            "delete" => self.rule(of, statement, 8),
+            "rule" => self.rule(of, statement, kind::RULE),
+            "add" => self.rule(of, statement, kind::ADD),
+            "modify" => self.rule(of, statement, kind::MODIFY),
+            "delete" => self.rule(of, statement, kind::DELETE),
             "group" => self.group_statement(of, statement),
             _ => self.policy(of, statement),
         }
@@ -252,11 +266,13 @@ impl Reader {
     /// Keeps what later statements are held against.
     pub(crate) fn note_record(&mut self, bytes: &[u8], line: usize) {
         match bytes {
-            [2, one, two, three, four, ..] => {
+            [kind::LINK, one, two, three, four, ..] => {
                 self.links.extend([([*one, *two], line), ([*three, *four], line)]);
             }
-            [6..=8, ..] => self.command = self.command.or(Some(line)),
-            [5, number, ..] if self.numbers.last().map(|(last, _)| last) != Some(number) => {
+            [kind::ADD..=kind::DELETE, ..] => self.command = self.command.or(Some(line)),
+            [kind::POLICY, number, ..]
+                if self.numbers.last().is_none_or(|(last, _)| last != number) =>
+            {
                 self.numbers.push((*number, line));
             }
             _ => {}
@@ -264,11 +280,11 @@ impl Reader {
     }
 
     fn read_widths(&mut self, keyword: Token, statement: &mut Statement) -> Result<Vec<u8>, Fault> {
-        if let Given::Line(line) = self.given {
+        if let WidthsLine::At(line) = self.widths_line {
             let message = format!("the widths are given already, in line {line}");
             return Err(keyword.fault(message).earlier(line));
         }
-        self.given = Given::Faulty;
+        self.widths_line = WidthsLine::Faulty;
         statement.expect("H")?;
         let h = statement.byte("the header width", 6)?;
         statement.expect("P")?;
@@ -282,19 +298,19 @@ impl Reader {
                 "the limits are H 1 to 6, P 2 to 4, W 0 to 4, and 1 + H + P + W at most 10";
             return Err(keyword.fault(message));
         }
-        self.given = Given::Line(keyword.place.line);
+        self.widths_line = WidthsLine::At(keyword.place.line);
         self.widths = Some(widths);
         self.names.widths = Some(widths);
-        Ok(record(&[1, h, p, w, version]).to_vec())
+        Ok(record(&[kind::WIDTHS, h, p, w, version]).to_vec())
     }
 
     /// The widths for the statement that starts with the keyword. That they are missing is told once.
     fn widths(&mut self, keyword: Token) -> Result<Widths, Unread> {
-        match (self.widths, self.given) {
+        match (self.widths, self.widths_line) {
             (Some(widths), _) => Ok(widths),
-            (None, Given::Faulty) => Err(Unread::WithoutWidths),
+            (None, WidthsLine::Faulty) => Err(Unread::WithoutWidths),
             (None, _) => {
-                self.given = Given::Faulty;
+                self.widths_line = WidthsLine::Faulty;
                 Err(keyword.fault("expected `widths` before this statement").into())
             }
         }
@@ -304,8 +320,8 @@ impl Reader {
     /// statement itself gives a name, that is kept.
     fn follows(&mut self, statement: &Statement, fault: &Fault) -> bool {
         let name = match statement.first() {
-            "name" => statement.words().last(),
-            "ward" => statement.words().nth(1),
+            "name" => statement.texts().last(),
+            "ward" => statement.texts().nth(1),
             _ => None,
         };
         let place = Place { line: fault.line, column: fault.column };
@@ -319,12 +335,12 @@ impl Reader {
         let [switch, port] = self.point(of, statement)?;
         statement.expect("-")?;
         let [other_switch, other_port] = self.point(of, statement)?;
-        Ok(record(&[2, switch, port, other_switch, other_port]).to_vec())
+        Ok(record(&[kind::LINK, switch, port, other_switch, other_port]).to_vec())
     }
 
     fn miss(&mut self, of: Widths, statement: &mut Statement) -> Result<Vec<u8>, Fault> {
         let switch = self.switch(of, statement)?;
-        let mut bytes = vec![3, switch, 0, 0, 0, 0, 0, 0];
+        let mut bytes = vec![kind::MISS, switch, 0, 0, 0, 0, 0, 0];
         bytes.extend(self.actions(of, switch, statement)?);
         Ok(record(&bytes).to_vec())
     }
@@ -342,7 +358,7 @@ impl Reader {
             false => [0, 0],
         };
         let mut bytes = vec![kind, switch, low, high, port[0], port[1], header[0], header[1]];
-        if kind != 8 {
+        if kind != kind::DELETE {
             bytes.extend(self.actions(of, switch, statement)?);
         }
         let rule = record(&bytes);
@@ -354,8 +370,8 @@ impl Reader {
     /// line, as each is to be looked at.
     fn note_unsent(&mut self, of: Widths, rule: &Record, line: usize) {
         let [switch, port, care] = [rule[1], rule[4], rule[5]];
-        let is_back = |action: &[u8]| care == of.controller() && action == [1, port, care];
-        if rule[9..21].chunks(3).any(is_back) {
+        let back = [action::OUTPUT, port, care];
+        if care == of.controller() && rule[9..21].chunks(3).any(|action| action == back) {
             let port = quoted(&self.names.port(switch, port));
             self.notes.push(format!(
                 "line {line}: `output {port}` sends nothing here, as the rule is for frames that \
@@ -383,28 +399,28 @@ impl Reader {
         statement.expect(":")?;
         let mut bytes = vec![0];
         loop {
-            let action = statement.peek();
+            let start = statement.peek();
             if usize::from(bytes[0]) == MOST_ACTIONS {
-                return Err(action.fault(format!("there are more than {MOST_ACTIONS} actions")));
+                return Err(start.fault(format!("there are more than {MOST_ACTIONS} actions")));
             }
             let (kind, [value, care]) = if statement.accept("output") {
-                (1, self.output(of, switch, statement)?)
+                (action::OUTPUT, self.output(of, switch, statement)?)
             } else if statement.accept("set") {
-                (2, self.header_pattern(of, statement)?)
+                (action::SET, self.header_pattern(of, statement)?)
             } else if statement.accept("in_port") {
-                (3, in_port(statement)?)
+                (action::IN_PORT, in_port(statement)?)
             } else if statement.accept("group") {
-                (4, [self.group(switch, statement)?, 0])
+                (action::GROUP, [self.group(switch, statement)?, 0])
             } else {
                 let fault = statement.expected("an action (`output`, `set`, `in_port` or `group`)");
-                return Err(fault.with_nearest(action.text, ACTIONS));
+                return Err(fault.with_nearest(start.text, ACTIONS));
             };
             bytes[0] += 1;
             bytes.extend([kind, value, care]);
             if !statement.accept(",") {
                 return match kind {
-                    2 => {
-                        Err(action.fault("the last action must be `output`, `in_port` or `group`"))
+                    action::SET => {
+                        Err(start.fault("the last action must be `output`, `in_port` or `group`"))
                     }
                     _ => Ok(bytes),
                 };
@@ -440,7 +456,8 @@ impl Reader {
             }
             statement.take();
         }
-        let goes_on = bytes.len() == RECORD && bytes[0] == 5 && self.open == Some(bytes[1]);
+        let is_node = bytes.len() == RECORD && bytes[0] == kind::POLICY;
+        let goes_on = is_node && self.open == Some(bytes[1]);
         match self.policies.last() {
             Some(policy) if goes_on && Some(policy.number) == self.open => {
                 let message = format!(
@@ -466,9 +483,9 @@ fn in_port(statement: &Statement) -> Result<[u8; 2], Fault> {
 }
 
 /// Words as a list in a sentence.
-fn list(words: &[&str]) -> String {
-    match words {
+fn list(items: &[&str]) -> String {
+    match items {
         [first @ .., last] if !first.is_empty() => format!("{} or {last}", first.join(", ")),
-        _ => words.join(""),
+        _ => items.join(""),
     }
 }

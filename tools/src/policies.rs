@@ -3,6 +3,7 @@
 use crate::compile::{compile, Compiled};
 use crate::fault::Fault;
 use crate::formula::{read_nodes, Formula, Node, MOST_NODES, MOST_POLICIES};
+use crate::kind::{self, node};
 use crate::parse::{PolicyText, Reader};
 use crate::record;
 use crate::templates::read_sentence;
@@ -188,15 +189,15 @@ fn compile_forms(forms: &[Written], of: Widths) -> Compiled {
 
 /// The records of a policy's nodes.
 fn policy_bytes(policy: u8, nodes: &[Node]) -> Vec<u8> {
-    let node = |[kind, one, other]: &Node| record(&[5, policy, *kind, *one, *other]);
-    nodes.iter().flat_map(node).collect()
+    let of_node = |[kind, one, other]: &Node| record(&[kind::POLICY, policy, *kind, *one, *other]);
+    nodes.iter().flat_map(of_node).collect()
 }
 
 /// Whether every node but the last is an operand of a later one.
 fn all_are_used(nodes: &[Node]) -> bool {
-    let uses = |[kind, one, other]: &Node, number: usize| match kind {
-        3 | 6..=8 => usize::from(*one) == number,
-        4 | 5 => [one, other].iter().any(|operand| usize::from(**operand) == number),
+    let uses = |[kind, one, other]: &Node, number: usize| match *kind {
+        node::NOT | node::SOME | node::ALL | node::TC => usize::from(*one) == number,
+        node::AND | node::OR => [one, other].iter().any(|operand| usize::from(**operand) == number),
         _ => false,
     };
     (1..nodes.len()).all(|later| nodes[later..].iter().any(|node| uses(node, later - 1)))

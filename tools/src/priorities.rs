@@ -5,15 +5,16 @@
 //! policy that holds it is proved that it also holds if each state takes the steps of just one of
 //! the rules, whichever.
 
-use crate::book::Book;
-use crate::breaking::{field_names, nodes_of};
+use crate::answers::broken::nodes_of;
+use crate::answers::start::policies;
+use crate::answers::taken::places_words;
+use crate::answers::Standing;
 use crate::formula::Node;
-use crate::steps::{priority_of, Network, State, Taken};
-use crate::words::{policies, Teller};
+use crate::kind::node;
+use crate::steps::{priority_of, Network, State};
+use crate::trouble::Trouble;
 use crate::Record;
 
-/// The most rules that are told in a row.
-const MOST_TOLD: usize = 4;
 /// The most sets of rules that are told at once.
 const MOST_SETS: usize = 8;
 
@@ -66,16 +67,16 @@ fn has_all<T: Ord>(list: &[T], entries: &[T]) -> bool {
 pub fn is_even(nodes: &[Node]) -> bool {
     // For each node whether an R lies below it, over an even and over an odd number of NOTs.
     let mut below: Vec<[bool; 2]> = vec![];
-    for [kind, one, other] in nodes {
-        let operand = |number: &u8| below[usize::from(*number)];
+    for &[kind, one, other] in nodes {
+        let operand = |number: u8| below[usize::from(number)];
         below.push(match kind {
-            0 | 2 => [false, false],
-            1 => [true, false],
-            3 => {
+            node::BIT | node::E => [false, false],
+            node::R => [true, false],
+            node::NOT => {
                 let [even, odd] = operand(one);
                 [odd, even]
             }
-            4 | 5 => {
+            node::AND | node::OR => {
                 let [one, other] = [operand(one), operand(other)];
                 [one[0] || other[0], one[1] || other[1]]
             }
@@ -104,79 +105,47 @@ impl Noted {
     }
 }
 
-impl Teller<'_> {
-    /// Notes on the rules that act together in a network that no row refuses, unless they are noted.
-    /// Where it holds, the first of them are followed by what that means for each policy.
-    pub fn notes_on_equals(&self, book: &Book, holds: bool, noted: &mut Noted) -> Vec<String> {
-        let Some(network) = Network::new(&book.records) else { return vec![] };
-        let new = noted.renew(&book.records, acting_together(network));
-        let first = new.iter().take(MOST_SETS);
-        let mut notes: Vec<String> = first.map(|it| self.together_words(book, it)).collect();
-        if new.len() > MOST_SETS {
-            let more = new.len() - MOST_SETS;
-            notes.push(format!("so it is with {more} more sets of rules"));
+/// Notes on the rules that act together in a network that no row refuses, unless they are noted.
+/// Where it holds, the first of them are followed by what that means for each policy.
+pub fn notes_on_equals(
+    standing: Standing,
+    holds: bool,
+    noted: &mut Noted,
+) -> Result<Vec<String>, Trouble> {
+    let records = &standing.book.records;
+    let new = noted.renew(records, acting_together(standing.network()?));
+    let first = new.iter().take(MOST_SETS);
+    let mut notes: Vec<String> = first.map(|it| together_words(standing, it)).collect();
+    if new.len() > MOST_SETS {
+        let more = new.len() - MOST_SETS;
+        notes.push(format!("so it is with {more} more sets of rules"));
+    }
+    if holds && !new.is_empty() && !noted.policies {
+        notes.extend((0..policies(records)).map(|policy| evenness_words(standing, policy)));
+        noted.policies = true;
+    }
+    Ok(notes)
+}
+
+fn together_words(standing: Standing, together: &Together) -> String {
+    let [switch, port, header] = standing.field_words(together.state);
+    let rules = places_words(standing.book, &together.places);
+    let priority = priority_of(&standing.book.records[together.places[0]]);
+    let all = if together.places.len() == 2 { "both" } else { "all" };
+    format!(
+        "{rules} are rules of switch {switch} with priority {priority} that {all} match port \
+         {port}, header {header}; {all} act, where a switch may take just one of them"
+    )
+}
+
+/// What the verdict that the network holds means for a policy.
+fn evenness_words(standing: Standing, policy: usize) -> String {
+    let holds = match is_even(&nodes_of(&standing.book.records, policy)) {
+        true => "is even: it holds also if a switch takes just one of these rules, whichever",
+        false => {
+            "is not even: it holds over the steps of all these rules together, and may be broken \
+             if a switch takes just one of them"
         }
-        if holds && !new.is_empty() && !noted.policies {
-            let numbers = 0..policies(&book.records);
-            notes.extend(numbers.map(|policy| self.evenness_words(&book.records, policy)));
-            noted.policies = true;
-        }
-        notes
-    }
-
-    fn together_words(&self, book: &Book, together: &Together) -> String {
-        let [switch, port, header] = field_names(&self.source.names, together.state);
-        let rules = places_words(book, &together.places);
-        let priority = priority_of(&book.records[together.places[0]]);
-        let all = if together.places.len() == 2 { "both" } else { "all" };
-        format!(
-            "{rules} are rules of switch {switch} with priority {priority} that {all} match port \
-             {port}, header {header}; {all} act, where a switch may take just one of them"
-        )
-    }
-
-    /// What the verdict that the network holds means for a policy.
-    fn evenness_words(&self, records: &[Record], policy: usize) -> String {
-        let holds = match is_even(&nodes_of(records, policy)) {
-            true => "is even: it holds also if a switch takes just one of these rules, whichever",
-            false => {
-                "is not even: it holds over the steps of all these rules together, and may be \
-                 broken if a switch takes just one of them"
-            }
-        };
-        format!("policy {policy}{} {holds}", self.policy_words(policy))
-    }
-}
-
-/// The rules that send a frame to the same state as the one before them, in words.
-pub fn also_words(book: &Book, taken: &Taken) -> Option<String> {
-    let also: Vec<usize> = taken.by.iter().skip(1).map(|way| way[0].place).collect();
-    too_words(book, &also, ["sends it there", "send it there"])
-}
-
-/// The rules that act on a frame beside those that send it there, in words.
-pub fn beside_words(book: &Book, taken: &Taken) -> Option<String> {
-    too_words(book, &taken.beside, ["acts", "act"])
-}
-
-fn too_words(book: &Book, places: &[usize], [one, several]: [&str; 2]) -> Option<String> {
-    let verb = match places.len() {
-        0 => return None,
-        1 => one,
-        _ => several,
     };
-    Some(format!("{} {verb} too, with the same priority", places_words(book, places)))
-}
-
-/// Where the records at these places come from, the first few of them.
-fn places_words(book: &Book, places: &[usize]) -> String {
-    let told = places.iter().take(MOST_TOLD);
-    let mut words: Vec<String> = told.map(|place| book.origins[*place].clone()).collect();
-    if places.len() > MOST_TOLD {
-        words.push(format!("{} more", places.len() - MOST_TOLD));
-    }
-    match words.pop() {
-        Some(last) if !words.is_empty() => format!("{} and {last}", words.join(", ")),
-        last => last.unwrap_or_default(),
-    }
+    format!("policy {policy}{} {holds}", standing.policy_words(policy))
 }

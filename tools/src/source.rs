@@ -1,21 +1,19 @@
 //! A network and commands from a file, be it a text or records.
 
+use crate::answers::{note, Format};
 use crate::fault::{whole, Fault};
 use crate::json::Object;
+use crate::kind;
 use crate::names::Names;
 use crate::parse::{parse, Parsed, PolicyText, MOST_FAULTS};
 use crate::print::whole_records;
-use crate::standard;
+use crate::standard::{read_input, read_whole, too_much};
 use crate::trouble::{Status, Trouble};
 use crate::widths::Widths;
 use crate::Record;
 use std::ffi::{OsStr, OsString};
 use std::fs::File;
-use std::io::{self, Read};
 use wegbaro::MOST_RECORDS;
-
-/// The most bytes of a file that are read.
-const MOST_BYTES: u64 = 64 << 20;
 
 /// What a file has, told by its content.
 #[derive(Clone, Debug, PartialEq, Eq)]
@@ -27,9 +25,10 @@ pub enum Content {
 }
 
 impl Content {
-    /// Records start with their kind, a byte that no text starts with.
+    /// Records start with their kind, a byte that no text starts with: a group's kind, which may be
+    /// the tab of a text, does not come first.
     fn of(bytes: Vec<u8>) -> Content {
-        if bytes.first().is_some_and(|kind| *kind <= 8) {
+        if bytes.first().is_some_and(|kind| *kind <= kind::DELETE) {
             return Content::Records(bytes);
         }
         if bytes.starts_with(b"\xFF\xFE") || bytes.starts_with(b"\xFE\xFF") {
@@ -59,22 +58,13 @@ pub fn name(file: &OsStr) -> String {
 
 /// What a file has; `-` is standard input.
 pub fn content(file: &OsString) -> Result<Content, Trouble> {
-    let read = match is_input(file) {
-        true => standard::read_input(MOST_BYTES + 1)?,
-        false => read_file(file),
-    };
-    let bytes = read.map_err(|error| Trouble::failed(format!("{}: {error}", name(file))))?;
-    if bytes.len() as u64 > MOST_BYTES {
-        let most = MOST_BYTES >> 20;
-        return Err(Trouble::faulty(format!("{} has more than {most} MiB", name(file))));
+    let has = format!("{} has", name(file));
+    if is_input(file) {
+        return Ok(Content::of(read_input(&has)?));
     }
-    Ok(Content::of(bytes))
-}
-
-fn read_file(file: &OsStr) -> io::Result<Vec<u8>> {
-    let mut bytes = vec![];
-    File::open(file)?.take(MOST_BYTES + 1).read_to_end(&mut bytes)?;
-    Ok(bytes)
+    let read = File::open(file).and_then(read_whole);
+    let read = read.map_err(|error| Trouble::failed(format!("{}: {error}", name(file))))?;
+    read.map(Content::of).ok_or_else(|| too_much(&has))
 }
 
 /// The text of a file.
@@ -110,9 +100,9 @@ pub fn parsed(file: &OsStr, text: &str) -> Result<Parsed, Trouble> {
 
 /// The faults of a text.
 pub fn fault_trouble(file: &str, text: &str, faults: &[Fault]) -> Trouble {
-    let mut words: String = faults.iter().map(|fault| fault.show(file, text)).collect();
+    let mut message: String = faults.iter().map(|fault| fault.show(file, text)).collect();
     if faults.len() == MOST_FAULTS {
-        words += &format!("these are the first {MOST_FAULTS} faults\n");
+        message += &format!("these are the first {MOST_FAULTS} faults\n");
     }
     let object = |fault: &Fault| {
         Object::new()
@@ -125,13 +115,14 @@ pub fn fault_trouble(file: &str, text: &str, faults: &[Fault]) -> Trouble {
             .maybe(fault.earlier, |object, line| object.number("earlier", line))
     };
     let objects = faults.iter().map(object).collect();
-    Trouble { status: Status::Faulty, words, objects }
+    Trouble { status: Status::Faulty, message, objects }
 }
 
 /// A command and where it stands.
-#[derive(Clone, Debug, PartialEq, Eq)]
-pub struct Given {
+#[derive(Clone, Copy, Debug, PartialEq, Eq)]
+pub struct Command {
     pub record: Record,
+    /// Its line, if it is a text's.
     pub line: Option<usize>,
 }
 
@@ -141,7 +132,7 @@ pub struct Source {
     pub network: Vec<Record>,
     /// The line of each record of the network, if it is a text's.
     pub lines: Vec<usize>,
-    pub commands: Vec<Given>,
+    pub commands: Vec<Command>,
     /// Bytes behind the last whole record.
     pub rest: Vec<u8>,
     pub names: Names,
@@ -163,6 +154,13 @@ impl Source {
         }
     }
 
+    /// The same, and what is to be said of a text though it is no fault is said.
+    pub fn noted(file: &OsString, format: Format) -> Result<Source, Trouble> {
+        let source = Source::of(file)?;
+        source.notes.iter().try_for_each(|message| note(format, message))?;
+        Ok(source)
+    }
+
     pub fn of_text(parsed: Parsed) -> Source {
         let mut source = Source::split(&parsed.bytes, &parsed.lines);
         source.names = parsed.names;
@@ -180,17 +178,17 @@ impl Source {
     /// The records up to the first command, and the commands.
     fn split(bytes: &[u8], lines: &[usize]) -> Source {
         let (records, rest) = whole_records(bytes);
-        let is_command = |record: &Record| (6..=8).contains(&record[0]);
+        let is_command = |record: &Record| kind::is_command(record[0]);
         let first = records.iter().position(is_command).unwrap_or(records.len());
         let (network, commands) = records.split_at(first);
-        let given = |(place, record): (usize, &Record)| Given {
+        let command = |(place, record): (usize, &Record)| Command {
             record: *record,
             line: lines.get(first + place).copied(),
         };
         Source {
             network: network.to_vec(),
             lines: lines.iter().take(first).copied().collect(),
-            commands: commands.iter().enumerate().map(given).collect(),
+            commands: commands.iter().enumerate().map(command).collect(),
             rest: rest.to_vec(),
             ..Source::default()
         }
@@ -202,7 +200,7 @@ impl Source {
 
     /// Whether the network's last record is cut, so that no network is there to be judged.
     pub fn is_network_cut(&self) -> bool {
-        let starts_command = self.rest.first().is_some_and(|kind| (6..=8).contains(kind));
+        let starts_command = self.rest.first().is_some_and(|kind| kind::is_command(*kind));
         let may_go_on = self.commands.is_empty() && self.network.len() <= MOST_RECORDS;
         !self.rest.is_empty() && may_go_on && !starts_command
     }

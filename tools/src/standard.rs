@@ -33,10 +33,26 @@ pub fn input() -> Result<io::StdinLock<'static>, Trouble> {
     }
 }
 
-/// All of standard input, up to a limit.
-pub fn read_input(most: u64) -> Result<io::Result<Vec<u8>>, Trouble> {
+/// The most bytes that are read of a file or of standard input.
+pub const MOST_BYTES: u64 = 64 << 20;
+
+/// All of standard input. What it has, in words, is told if it is too much.
+pub fn read_input(has: &str) -> Result<Vec<u8>, Trouble> {
+    let read = read_whole(input()?);
+    let read = read.map_err(|error| Trouble::failed(format!("standard input: {error}")))?;
+    read.ok_or_else(|| too_much(has))
+}
+
+/// All that a reader has, unless it is too much.
+pub fn read_whole(reader: impl Read) -> io::Result<Option<Vec<u8>>> {
     let mut bytes = vec![];
-    Ok(input()?.take(most).read_to_end(&mut bytes).map(|_| bytes))
+    reader.take(MOST_BYTES + 1).read_to_end(&mut bytes)?;
+    Ok(Some(bytes).filter(|bytes| bytes.len() as u64 <= MOST_BYTES))
+}
+
+/// What has too much to be read.
+pub fn too_much(has: &str) -> Trouble {
+    Trouble::faulty(format!("{has} more than {} MiB", MOST_BYTES >> 20))
 }
 
 /// Writes to standard output at once.
@@ -50,6 +66,6 @@ pub fn write(bytes: &[u8]) -> Result<(), Trouble> {
 }
 
 /// Writes to standard error. Where that fails, the exit status tells all that can be told.
-pub fn say(words: &str) {
-    let _ = io::stderr().write_all(words.as_bytes());
+pub fn say(message: &str) {
+    let _ = io::stderr().write_all(message.as_bytes());
 }

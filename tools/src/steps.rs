@@ -4,14 +4,14 @@
 //! records are those of a network that no row refuses.
 
 use crate::groups::{buckets, place_of, Target};
+use crate::kind::{self, action};
+use crate::names::Point;
+use crate::trouble::Trouble;
 use crate::widths::Widths;
 use crate::{actions, Record};
 
 /// Port 0 is drop.
 pub const DROP: u8 = 0;
-
-/// A port of a switch.
-pub type Point = [u8; 2];
 
 /// A packet state.
 #[derive(Clone, Copy, Debug, PartialEq, Eq)]
@@ -61,6 +61,14 @@ pub struct Taken {
     /// The places of the rules that act on the frame too, of the same priority, and do not send it
     /// there.
     pub beside: Vec<usize>,
+}
+
+/// A step of a walk, and what takes the frame on.
+#[derive(Clone, Debug, PartialEq, Eq)]
+pub struct Step {
+    pub from: usize,
+    pub to: usize,
+    pub taken: Taken,
 }
 
 /// A copy that a switch sends of a frame, and what sends it.
@@ -118,7 +126,7 @@ impl<'a> Network<'a> {
 
     /// The other end of the link at a point.
     pub fn other_end(&self, point: Point) -> Option<Point> {
-        let links = self.records.iter().filter(|record| record[0] == 2);
+        let links = self.records.iter().filter(|record| record[0] == kind::LINK);
         let mut ends = links.flat_map(|link| {
             let [one, other] = [[link[1], link[2]], [link[3], link[4]]];
             [(one, other), (other, one)]
@@ -146,8 +154,8 @@ impl<'a> Network<'a> {
         let matching: Vec<usize> = (0..self.records.len()).filter(is_match).collect();
         let priority = |place: &usize| priority_of(&self.records[*place]);
         let Some(highest) = matching.iter().map(priority).max() else {
-            let miss = self.records.iter().position(|record| record[..2] == [3, switch]);
-            return miss.into_iter().collect();
+            let is_miss = |record: &Record| record[..2] == [kind::MISS, switch];
+            return self.records.iter().position(is_miss).into_iter().collect();
         };
         matching.into_iter().filter(|place| priority(place) == highest).collect()
     }
@@ -169,15 +177,15 @@ impl<'a> Network<'a> {
         let mut all = vec![];
         for (number, [kind, value, care]) in (1..).zip(actions(&self.records[place])) {
             let sent = match kind {
-                1 => {
+                action::OUTPUT => {
                     let ports = self.output_ports([value, care], arrival);
                     ports.into_iter().map(|port| frame.sent_to(port)).collect()
                 }
-                2 => {
+                action::SET => {
                     frame = frame.set([value, care]);
                     vec![]
                 }
-                3 => vec![frame.sent_to(arrival)],
+                action::IN_PORT => vec![frame.sent_to(arrival)],
                 _ => self.sent_by_group(value, frame, &mut vec![]),
             };
             let carrier = self.carrier(place, number);
@@ -226,7 +234,7 @@ impl<'a> Network<'a> {
         if from.departing {
             let place = self.records.iter().position(|record| ends_at(record, from.point))?;
             taken.by.push(vec![Carrier { place, part: None }]);
-            return Some(taken);
+            return Some(taken).filter(|_| self.next(from) == [to]);
         }
         for place in self.acting(from) {
             match self.sent(place, from).into_iter().find(|sent| sent.copy == to) {
@@ -235,6 +243,22 @@ impl<'a> Network<'a> {
             }
         }
         Some(taken).filter(|taken| !taken.by.is_empty())
+    }
+
+    /// The steps of a walk in this network.
+    pub fn walked(&self, walk: &[usize]) -> Result<Vec<Step>, Trouble> {
+        walk.windows(2).map(|pair| self.step(pair[0], pair[1])).collect()
+    }
+
+    fn step(&self, from: usize, to: usize) -> Result<Step, Trouble> {
+        let [one, other] = [from, to].map(|number| State::numbered(number, self.widths));
+        match self.taken(one, other) {
+            Some(taken) => Ok(Step { from, to, taken }),
+            None => {
+                let message = format!("no record takes a frame from state {from} to state {to}");
+                Err(Trouble::internal(message))
+            }
+        }
     }
 
     /// Whether one state steps to another.
@@ -246,13 +270,13 @@ impl<'a> Network<'a> {
 
 /// Whether a record is a link that ends at a point.
 fn ends_at(record: &Record, point: Point) -> bool {
-    record[0] == 2 && (record[1..3] == point || record[3..5] == point)
+    record[0] == kind::LINK && (record[1..3] == point || record[3..5] == point)
 }
 
 /// Whether a record is a rule that matches an arriving state.
 fn is_matching_rule(record: &Record, state: State) -> bool {
     let [switch, port] = state.point;
-    record[..2] == [4, switch]
+    record[..2] == [kind::RULE, switch]
         && port & record[5] == record[4]
         && state.header & record[7] == record[6]
 }

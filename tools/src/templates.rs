@@ -4,12 +4,13 @@ use crate::fault::Fault;
 use crate::formula::Variable::{self, X, Y};
 use crate::names::Area;
 use crate::parse::Reader;
+use crate::steps::DROP;
 use crate::tokens::{Statement, Token};
 use crate::widths::Widths;
 use crate::written::{Field, Written};
 
 /// The most hops that a route may be held to: the formula of more has more than 32 nodes.
-const MOST_HOPS: u16 = 7;
+pub const MOST_HOPS: u16 = 7;
 
 /// Reads a sentence, if the statement goes on with one: the formula that it forbids, and for some a
 /// second one that is true for the same states in every network with these links, and is shorter.
@@ -47,22 +48,22 @@ impl Sentence<'_, '_, '_> {
             return Ok(Written::reaches(X, X));
         }
         if self.statement.accept("loop") {
-            self.words(&["over", "states"])?;
+            self.statement.expect_all(&["over", "states"])?;
             let walk = Written::And(vec![Written::reaches(X, Y), Written::reaches(Y, Y)]);
             return Ok(Written::And(vec![Written::External(X), walk.exists(Y)]));
         }
         if self.statement.accept("frame") {
-            self.words(&["comes", "back", "to", "a", "switch", "it", "left"])?;
+            self.statement.expect_all(&["comes", "back", "to", "a", "switch", "it", "left"])?;
             return Ok(comes_back());
         }
         if self.statement.accept("route") {
-            self.words(&["of", "more", "than"])?;
+            self.statement.expect_all(&["of", "more", "than"])?;
             let start = self.statement.peek();
             let hops = self.statement.number("a number of hops", MOST_HOPS)?;
             if hops == 0 {
                 return Err(start.fault(format!("a route has 1 to {MOST_HOPS} hops here")));
             }
-            self.words(&[if hops == 1 { "hop" } else { "hops" }])?;
+            self.statement.expect_all(&[if hops == 1 { "hop" } else { "hops" }])?;
             return Ok(longer_than(hops));
         }
         Err(self.statement.expected("`loops`, `loop`, `frame` or `route`"))
@@ -72,8 +73,8 @@ impl Sentence<'_, '_, '_> {
     fn nothing(&mut self) -> Result<Written, Fault> {
         self.statement.take();
         let (frames, _) = self.frames("from")?;
-        self.words(&["is", "dropped"])?;
-        let dropped = Written::Fits(Field::Port, Y, [0, self.of.controller()]);
+        self.statement.expect_all(&["is", "dropped"])?;
+        let dropped = Written::Fits(Field::Port, Y, [DROP, self.of.controller()]);
         let walk = Written::And(vec![Written::reaches(X, Y), dropped]);
         Ok(Written::And([&frames[..], &[walk.exists(Y)]].concat()))
     }
@@ -82,7 +83,7 @@ impl Sentence<'_, '_, '_> {
     fn header(&mut self) -> Result<Written, Fault> {
         self.statement.take();
         let pattern = self.reader.header_pattern(self.of, self.statement)?;
-        self.words(&["never", "leaves"])?;
+        self.statement.expect_all(&["never", "leaves"])?;
         let mut out = vec![Written::reaches(X, Y), Written::External(Y), departing(Y)];
         if self.statement.accept("at") {
             let areas = self.outside()?;
@@ -97,9 +98,9 @@ impl Sentence<'_, '_, '_> {
     /// `everything that` for `what`.
     fn what(&mut self) -> Result<Vec<Written>, Fault> {
         if self.statement.take().text == "everything" {
-            self.words(&["that"])?;
+            self.statement.expect_all(&["that"])?;
         }
-        self.words(&["enters"])?;
+        self.statement.expect_all(&["enters"])?;
         let (mut frames, from) = self.frames("at")?;
         let walks = if self.statement.accept("reaches") {
             // A departing state at an external point gets nowhere, and is not meant.
@@ -108,7 +109,7 @@ impl Sentence<'_, '_, '_> {
             let walks = self.walks(Written::Steps(X, Y), &from, &there);
             walks.into_iter().map(Written::negated).collect()
         } else if self.statement.accept("never") {
-            self.words(&["reaches"])?;
+            self.statement.expect_all(&["reaches"])?;
             let there = self.reader.areas(self.of, self.statement)?;
             self.walks(Written::Steps(X, Y), &from, &there)
         } else if self.statement.accept("leaves") {
@@ -132,7 +133,7 @@ impl Sentence<'_, '_, '_> {
             true => self.outside()?,
             false => vec![],
         };
-        self.words(&["only", "by", "way", "of"])?;
+        self.statement.expect_all(&["only", "by", "way", "of"])?;
         let start = self.statement.peek();
         let switches = self.reader.areas(self.of, self.statement)?;
         if switches.iter().any(|area| matches!(area, Area::Point(_))) {
@@ -170,12 +171,12 @@ impl Sentence<'_, '_, '_> {
     /// `AREAS and AREAS never meet`.
     fn apart(&mut self) -> Result<Written, Fault> {
         let one = self.reader.areas(self.of, self.statement)?;
-        self.words(&["and"])?;
+        self.statement.expect_all(&["and"])?;
         let start = self.statement.peek();
         let other = self.reader.areas(self.of, self.statement)?;
-        self.words(&["never", "meet"])?;
+        self.statement.expect_all(&["never", "meet"])?;
         if let Some(area) = one.iter().find(|area| other.iter().any(|it| overlap(area, it))) {
-            let message = format!("{} is in both", self.in_words(area));
+            let message = format!("{} is in both", self.area_name(area));
             return Err(start.fault(message));
         }
         let within = |variable, areas| Written::within(variable, areas, self.of);
@@ -195,7 +196,7 @@ impl Sentence<'_, '_, '_> {
             frames = self.at(X, &areas);
         }
         if self.statement.accept("with") {
-            self.words(&["header"])?;
+            self.statement.expect_all(&["header"])?;
             let pattern = self.reader.header_pattern(self.of, self.statement)?;
             frames.push(Written::Fits(Field::Header, X, pattern));
         }
@@ -224,7 +225,7 @@ impl Sentence<'_, '_, '_> {
     /// At a linked point, at drop and at the controller nothing enters or leaves, so a sentence about
     /// that would hold whatever the network does.
     fn is_outside(&self, area: &Area, start: Token) -> Result<(), Fault> {
-        let name = self.in_words(area);
+        let name = self.area_name(area);
         let point = match area {
             Area::Point(point) => point,
             Area::Switch(switch) if self.reader.is_linked_whole(self.of, *switch) => {
@@ -233,7 +234,7 @@ impl Sentence<'_, '_, '_> {
             }
             Area::Switch(_) => return Ok(()),
         };
-        if point[1] == 0 || point[1] == self.of.controller() {
+        if point[1] == DROP || point[1] == self.of.controller() {
             let message = format!("nothing enters or leaves at {name}, which is no ordinary port");
             return Err(start.fault(message));
         }
@@ -247,7 +248,7 @@ impl Sentence<'_, '_, '_> {
         }
     }
 
-    fn in_words(&self, area: &Area) -> String {
+    fn area_name(&self, area: &Area) -> String {
         let names = &self.reader.names;
         match *area {
             Area::Switch(switch) => format!("switch {}", names.switch(switch)),
@@ -255,13 +256,6 @@ impl Sentence<'_, '_, '_> {
                 format!("{}:{}", names.switch(switch), names.port(switch, port))
             }
         }
-    }
-
-    fn words(&mut self, words: &[&str]) -> Result<(), Fault> {
-        for word in words {
-            self.statement.expect(word)?;
-        }
-        Ok(())
     }
 }
 

@@ -76,7 +76,7 @@ pub fn statements(text: &str) -> Vec<Statement<'_>> {
             found.push(Statement { tokens, read: 0, start, end, fault });
         } else if let Some(before) = found.last_mut() {
             if ended {
-                fault = Some(apart(start, before));
+                fault = Some(apart(start).earlier(before.end.line));
             }
             before.tokens.extend(tokens);
             before.end = end;
@@ -87,11 +87,16 @@ pub fn statements(text: &str) -> Vec<Statement<'_>> {
     found
 }
 
-/// The fault of a line that would continue a statement which does not stand directly before it.
-fn apart(start: Place, before: &Statement) -> Fault {
+/// The fault of a line that would continue a statement, where none stands directly before it.
+pub fn fault_apart(line: &str) -> Fault {
+    let column = line.chars().take_while(|c| [' ', '\t'].contains(c)).count() + 1;
+    apart(Place { line: 1, column })
+}
+
+fn apart(start: Place) -> Fault {
     let message = "this line starts with a space, but the line before it is no statement";
     let hint = "a statement is continued on the next line; an indented comment may stand between";
-    start.fault(1, message).hint(hint).earlier(before.end.line)
+    start.fault(1, message).hint(hint)
 }
 
 fn is_word(character: char) -> bool {
@@ -164,13 +169,13 @@ impl<'a> Statement<'a> {
     }
 
     /// The words and symbols, read or not.
-    pub fn words(&self) -> impl Iterator<Item = &'a str> + '_ {
+    pub fn texts(&self) -> impl Iterator<Item = &'a str> + '_ {
         self.tokens.iter().map(|token| token.text)
     }
 
     /// The first word; an empty one if there is none.
     pub fn first(&self) -> &'a str {
-        self.words().next().unwrap_or_default()
+        self.texts().next().unwrap_or_default()
     }
 
     /// The word or symbol at a place.
@@ -237,10 +242,10 @@ impl<'a> Statement<'a> {
     }
 
     /// Reads the words and symbols if they are the next tokens.
-    pub fn accept_all(&mut self, words: &[&str]) -> bool {
-        let are_next = words.iter().enumerate().all(|(by, word)| self.ahead(by).text == *word);
+    pub fn accept_all(&mut self, texts: &[&str]) -> bool {
+        let are_next = texts.iter().enumerate().all(|(by, text)| self.ahead(by).text == *text);
         if are_next {
-            self.read += words.len();
+            self.read += texts.len();
         }
         are_next
     }
@@ -251,6 +256,11 @@ impl<'a> Statement<'a> {
             true => Ok(()),
             false => Err(self.expected(&format!("`{text}`"))),
         }
+    }
+
+    /// Reads the words and symbols.
+    pub fn expect_all(&mut self, texts: &[&str]) -> Result<(), Fault> {
+        texts.iter().try_for_each(|text| self.expect(text))
     }
 
     /// Reads a decimal number from 0 to the most, which has no leading zero.

@@ -1,8 +1,10 @@
 //! The truth of a policy's nodes for every pair of states, and the Y that goes with a state.
 
 use crate::formula::Node;
+use crate::kind::node;
 use crate::route;
 use crate::steps::{Network, State};
+use crate::trouble::Trouble;
 
 /// The states for which something is true, a bit each.
 type Row = [u64; 16];
@@ -84,13 +86,17 @@ impl<'a> Truth<'a> {
         let of = |variable: u8, x: usize, y: usize| if variable == 0 { x } else { y };
         let operand = |number: u8| &self.planes[usize::from(number)];
         match kind {
-            0 => Plane::of(states, |x, y| of(one, x, y) >> other & 1 == 1),
-            1 => Plane::of(states, |x, y| steps.has(of(one, x, y), of(other, x, y))),
-            2 => Plane::of(states, |x, y| external[of(one, x, y)]),
-            3 => Plane::of(states, |x, y| !operand(one).has(x, y)),
-            4 => Plane::of(states, |x, y| operand(one).has(x, y) && operand(other).has(x, y)),
-            5 => Plane::of(states, |x, y| operand(one).has(x, y) || operand(other).has(x, y)),
-            6 | 7 => {
+            node::BIT => Plane::of(states, |x, y| of(one, x, y) >> other & 1 == 1),
+            node::R => Plane::of(states, |x, y| steps.has(of(one, x, y), of(other, x, y))),
+            node::E => Plane::of(states, |x, y| external[of(one, x, y)]),
+            node::NOT => Plane::of(states, |x, y| !operand(one).has(x, y)),
+            node::AND => {
+                Plane::of(states, |x, y| operand(one).has(x, y) && operand(other).has(x, y))
+            }
+            node::OR => {
+                Plane::of(states, |x, y| operand(one).has(x, y) || operand(other).has(x, y))
+            }
+            node::SOME | node::ALL => {
                 let plane = operand(one);
                 let truth = |free: usize| {
                     let has = |bound: usize| match other {
@@ -98,7 +104,7 @@ impl<'a> Truth<'a> {
                         _ => plane.has(free, bound),
                     };
                     match kind {
-                        6 => (0..states).any(has),
+                        node::SOME => (0..states).any(has),
                         _ => (0..states).all(has),
                     }
                 };
@@ -118,22 +124,27 @@ impl<'a> Truth<'a> {
     }
 
     /// Why a state breaks the policy: first what is so of the state alone, then for each `exists Y.`
-    /// the lowest Y that goes with it.
-    pub fn reasons(&self, x: usize) -> Vec<Reason> {
+    /// the lowest Y that goes with it. The library says that it does.
+    pub fn reasons(&self, x: usize) -> Result<Vec<Reason>, Trouble> {
+        if !self.breaks(x) {
+            return Err(Trouble::internal(format!("state {x} does not break the policy here")));
+        }
         let mut search = Search { truth: self, seen: vec![], reasons: vec![Reason::default()] };
         if let Some(last) = self.nodes.len().checked_sub(1) {
-            search.explore(Sight { node: last, at: [x, 0], truth: true }, None);
+            search.explore(Sight { node: last, at: [x, 0], truth: true }, None)?;
         }
-        search.reasons
+        Ok(search.reasons)
     }
 
     /// A shortest walk of one or more pairs for which a node is true, both ends included. Where the
     /// node is a step from X to Y, it is the route that the library finds.
-    fn walk(&self, node: usize, from: usize, to: usize) -> Option<Vec<usize>> {
-        match self.nodes[node] {
-            [1, 0, 1] => route::find(self.network.records, [from, to]).ok()?,
+    fn walk(&self, node: usize, from: usize, to: usize) -> Result<Vec<usize>, Trouble> {
+        let walk = match self.nodes[node] {
+            [node::R, 0, 1] => route::find(self.network.records, [from, to]).ok().flatten(),
             _ => self.walk_in_plane(node, from, to),
-        }
+        };
+        let message = || format!("no walk of node {node} leads from state {from} to state {to}");
+        walk.ok_or_else(|| Trouble::internal(message()))
     }
 
     fn walk_in_plane(&self, node: usize, from: usize, to: usize) -> Option<Vec<usize>> {
@@ -195,44 +206,48 @@ struct Sight {
 
 struct Search<'t> {
     truth: &'t Truth<'t>,
-    seen: Vec<Sight>,
+    /// What was looked at, for which reason: two reasons may rest on the same walk.
+    seen: Vec<(Sight, Option<usize>)>,
     reasons: Vec<Reason>,
 }
 
 impl Search<'_> {
     /// Goes through the parts by which a node is true or false. Within an `exists Y.` it is known
     /// for which reason.
-    fn explore(&mut self, sight: Sight, reason: Option<usize>) {
-        if self.seen.contains(&sight) || self.seen.len() == MOST_SEEN {
-            return;
+    fn explore(&mut self, sight: Sight, reason: Option<usize>) -> Result<(), Trouble> {
+        if self.seen.contains(&(sight, reason)) || self.seen.len() == MOST_SEEN {
+            return Ok(());
         }
-        self.seen.push(sight);
+        self.seen.push((sight, reason));
         let Sight { node, at, truth } = sight;
         let [kind, one, other] = self.truth.nodes[node];
         let operands = [one, other].map(usize::from);
         match (kind, truth) {
-            (1, true) => self.add(reason, operands.map(|variable| at[variable]).to_vec()),
-            (3, _) => self.explore(Sight { node: operands[0], at, truth: !truth }, reason),
-            (4, true) | (5, false) => {
+            (node::R, true) => self.add(reason, operands.map(|variable| at[variable]).to_vec()),
+            (node::NOT, _) => {
+                self.explore(Sight { node: operands[0], at, truth: !truth }, reason)?;
+            }
+            (node::AND, true) | (node::OR, false) => {
                 for node in operands {
-                    self.explore(Sight { node, at, truth }, reason);
+                    self.explore(Sight { node, at, truth }, reason)?;
                 }
             }
-            (4, false) | (5, true) => {
+            (node::AND, false) | (node::OR, true) => {
                 let agrees = |node: &usize| self.truth.planes[*node].has(at[0], at[1]) == truth;
                 if let Some(node) = operands.into_iter().find(agrees) {
-                    self.explore(Sight { node, at, truth }, reason);
+                    self.explore(Sight { node, at, truth }, reason)?;
                 }
             }
-            (6, true) | (7, false) => self.choose(sight, operands[0], operands[1], reason),
-            (8, true) => {
+            (node::SOME, true) | (node::ALL, false) => {
+                self.choose(sight, operands[0], operands[1], reason)?;
+            }
+            (node::TC, true) => {
                 let [from, to] = [at[operands[1] / 2], at[operands[1] % 2]];
-                if let Some(walk) = self.truth.walk(operands[0], from, to) {
-                    self.add(reason, walk);
-                }
+                self.add(reason, self.truth.walk(operands[0], from, to)?);
             }
             _ => {}
         }
+        Ok(())
     }
 
     fn add(&mut self, reason: Option<usize>, walk: Vec<usize>) {
@@ -241,9 +256,15 @@ impl Search<'_> {
 
     /// Chooses the lowest state for the variable. An outermost `exists X.` is not about the state
     /// that breaks the policy.
-    fn choose(&mut self, sight: Sight, node: usize, variable: usize, reason: Option<usize>) {
+    fn choose(
+        &mut self,
+        sight: Sight,
+        node: usize,
+        variable: usize,
+        reason: Option<usize>,
+    ) -> Result<(), Trouble> {
         if reason.is_none() && variable == 0 {
-            return;
+            return Ok(());
         }
         let plane = &self.truth.planes[node];
         let mut at = sight.at;
@@ -251,12 +272,12 @@ impl Search<'_> {
             at[variable] = *state;
             plane.has(at[0], at[1]) == sight.truth
         };
-        let Some(state) = (0..plane.0.len()).find(is_it) else { return };
+        let Some(state) = (0..plane.0.len()).find(is_it) else { return Ok(()) };
         at[variable] = state;
         let reason = reason.unwrap_or_else(|| {
             self.reasons.push(Reason { y: Some(state), walks: vec![] });
             self.reasons.len() - 1
         });
-        self.explore(Sight { node, at, ..sight }, Some(reason));
+        self.explore(Sight { node, at, ..sight }, Some(reason))
     }
 }

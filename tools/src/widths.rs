@@ -1,6 +1,6 @@
 //! The widths of a network, and patterns and states of those widths.
 
-use crate::Record;
+use crate::{kind, Record};
 
 /// Header, port and switch widths.
 #[derive(Clone, Copy, Debug, PartialEq, Eq)]
@@ -15,7 +15,7 @@ impl Widths {
     pub fn of(record: &Record) -> Option<Widths> {
         let [kind, h, p, w, ..] = *record;
         let widths = Widths { h, p, w };
-        (kind == 1 && widths.within_limits()).then_some(widths)
+        (kind == kind::WIDTHS && widths.within_limits()).then_some(widths)
     }
 
     pub fn within_limits(self) -> bool {
@@ -35,18 +35,18 @@ impl Widths {
         1 << self.bits()
     }
 
-    /// The number of the controller's port.
+    /// The number of the controller's port, the highest.
     pub fn controller(self) -> u8 {
         (1 << self.p) - 1
     }
 
     /// The highest header.
-    pub fn headers(self) -> u8 {
+    pub fn last_header(self) -> u8 {
         (1 << self.h) - 1
     }
 
     /// The highest switch.
-    pub fn switches(self) -> u8 {
+    pub fn last_switch(self) -> u8 {
         (1 << self.w) - 1
     }
 }
@@ -59,14 +59,6 @@ pub fn pattern(value: u8, care: u8, width: u8) -> String {
         _ => '1',
     };
     (0..width).rev().map(character).collect()
-}
-
-/// A pattern: a number if it has no star.
-pub fn pattern_word(value: u8, care: u8, width: u8) -> String {
-    match care == (1 << width) - 1 {
-        true => value.to_string(),
-        false => pattern(value, care, width),
-    }
 }
 
 /// Value and care of a word: as many 0, 1 and star characters as the width, a shorter decimal number

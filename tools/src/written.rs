@@ -1,7 +1,7 @@
 //! Formulas as they are written: the raw forms, fields, and the words for them.
 
 use crate::fault::{nearest, Fault};
-use crate::formula::Variable;
+use crate::formula::{Sign, Variable};
 use crate::names::Area;
 use crate::parse::Reader;
 use crate::tokens::{Statement, Token};
@@ -68,7 +68,7 @@ impl Written {
 
     /// The state is in one of the parts of the network.
     pub fn within(variable: Variable, areas: &[Area], of: Widths) -> Written {
-        let switch = |it: u8| Written::Fits(Field::Switch, variable, [it, of.switches()]);
+        let switch = |it: u8| Written::Fits(Field::Switch, variable, [it, of.last_switch()]);
         let place = |area: &Area| match *area {
             Area::Switch(it) => switch(it),
             Area::Point([it, port]) => {
@@ -110,23 +110,6 @@ impl Written {
             | Written::All(part, _)
             | Written::Closure(part, ..) => part.is_raw(),
             Written::And(parts) | Written::Or(parts) => parts.iter().all(Written::is_raw),
-        }
-    }
-}
-
-/// `&` or `|`.
-#[derive(Clone, Copy, Debug, PartialEq, Eq)]
-enum Sign {
-    And,
-    Or,
-}
-
-impl Sign {
-    fn of(text: &str) -> Option<Sign> {
-        match text {
-            "&" | "and" => Some(Sign::And),
-            "|" | "or" => Some(Sign::Or),
-            _ => None,
         }
     }
 }

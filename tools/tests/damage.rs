@@ -1,8 +1,12 @@
 //! Texts with random damage: whatever they are, they are read or their faults are told.
 
+mod seeded;
+
+use seeded::seeded;
 use std::path::Path;
 use wegbaro_tests::random::Random;
-use wegbaro_tools::parse::{expand, parse, Parsed, MOST_FAULTS};
+use wegbaro_tools::expand::expand;
+use wegbaro_tools::parse::{parse, Parsed, MOST_FAULTS};
 use wegbaro_tools::print::print;
 
 /// Words put in where they do not belong.
@@ -67,7 +71,8 @@ fn told(text: &str) -> bool {
         Ok(Parsed { bytes, lines, .. }) => {
             assert_eq!(lines.len(), bytes.len().div_ceil(24));
             assert_eq!(parse(&print(&bytes)).unwrap().bytes, bytes, "{text}");
-            assert_eq!(parse(&expand(text).unwrap()).unwrap().bytes, bytes, "{text}");
+            let expanded = expand(text, &parse(text).unwrap());
+            assert_eq!(parse(&expanded).unwrap().bytes, bytes, "{text}");
             false
         }
         Err(faults) => {
@@ -86,7 +91,7 @@ fn told(text: &str) -> bool {
 
 #[test]
 fn damaged_examples() {
-    let mut random = Random::new(1);
+    let mut random = seeded(1);
     let folder = Path::new(env!("CARGO_MANIFEST_DIR")).join("../examples");
     let read = |example| std::fs::read_to_string(folder.join(example).join("network.txt")).unwrap();
     let texts = ["chain", "flood", "k", "openflow10", "routes", "templates", "uplinks"].map(read);

@@ -4,7 +4,8 @@ mod common;
 
 use common::parsed;
 use std::path::Path;
-use wegbaro_tools::parse::{expand, Parsed};
+use wegbaro_tools::expand::expand;
+use wegbaro_tools::parse::Parsed;
 
 const WARD: &str = "\
 widths H 1 P 2 W 1
@@ -14,7 +15,7 @@ miss 1: output drop
 ";
 
 fn expanded(text: &str) -> String {
-    expand(text).unwrap_or_else(|faults| panic!("{}", faults[0].show("text", text)))
+    expand(text, &parsed(text))
 }
 
 #[test]

@@ -421,12 +421,17 @@ fn numbers_and_patterns() {
     let notes = |statement: &str, p: u8| {
         parse(&format!("widths H 1 P {p} W 0\n{statement}\n")).unwrap().notes
     };
-    assert_eq!(
-        notes("miss 0: output 10\nadd 0 priority 1 port 10: output 1", 2),
-        ["line 2: `10` is read as two bits, port 2; the number 2 is plainer, as `10` is a number in \
-          a ward with more port bits"]
-    );
-    for (statement, p) in [("miss 0: output 2", 2), ("miss 0: output 10", 4)] {
+    for (word, port) in [("10", 2), ("11", 3)] {
+        let statements = format!("miss 0: output {word}\nadd 0 priority 1 port {word}: output 1");
+        let note = format!(
+            "line 2: `{word}` is read as two bits, port {port}; the number {port} is plainer, as \
+             `{word}` is a number in a ward with more port bits"
+        );
+        assert_eq!(notes(&statements, 2), [note]);
+    }
+    for (statement, p) in
+        [("miss 0: output 2", 2), ("miss 0: output 01", 2), ("miss 0: output 10", 4)]
+    {
         assert_eq!(notes(statement, p), Vec::<String>::new());
     }
 }

@@ -1,8 +1,10 @@
 //! Formulas and the nodes they are compiled to.
 
 mod common;
+mod seeded;
 
 use common::{parsed, with_policies};
+use seeded::seeded;
 use wegbaro_tests::formulas::{
     all, and, bit, external, not, or, policy, r, random_formula, some, tc, Node, X, Y,
 };
@@ -10,7 +12,6 @@ use wegbaro_tests::gate::{Answer, Call, Gate, Lent};
 use wegbaro_tests::k::{delete_d, dropping_add, first_add, k, rule_d, second_add, setting_add};
 use wegbaro_tests::library::{program, Library};
 use wegbaro_tests::networks::{random_network, Sizes, Widths, MODEST};
-use wegbaro_tests::random::Random;
 use wegbaro_tests::records::Record;
 use wegbaro_tools::formula::print_formula;
 
@@ -84,7 +85,7 @@ fn fields_are_few_nodes() {
 
 #[test]
 fn printed_formulas_compile_to_themselves() {
-    let mut random = Random::new(6);
+    let mut random = seeded(6);
     let mut same = 0;
     for _ in 0..4_000 {
         let length = 1 + random.below(14);
@@ -106,7 +107,7 @@ fn check(records: &[Record]) -> Answer {
 
 #[test]
 fn printed_formulas_mean_the_same() {
-    let mut random = Random::new(7);
+    let mut random = seeded(7);
     let most = Sizes { links: 2, rules: 6, policies: 0, nodes: 0, ..MODEST };
     let [mut held, mut violated] = [0, 0];
     for _ in 0..600 {

@@ -88,6 +88,39 @@ fn the_longest_route() {
     }
 }
 
+/// Routes of up to seven hops are held to their length, longer ones are not: no policy says more.
+#[test]
+fn the_most_hops() {
+    let mut seen = [false; 2];
+    for seed in 0..200 {
+        let text = text(Kind::Ring, 16, 3, seed);
+        let routes = records(&text);
+        let network = Network::new(&routes).unwrap();
+        let longest = (0..network.states()).map(|state| hops(network, state)).max().unwrap();
+        let held = text.lines().find(|line| line.starts_with("policy 2: "));
+        match longest {
+            7 => assert_eq!(held, Some("policy 2: no route of more than 7 hops")),
+            8 => assert_eq!(held, None),
+            _ => continue,
+        }
+        seen[longest - 7] = true;
+    }
+    assert_eq!(seen, [true, true]);
+}
+
+/// The switches that a frame comes to from an external state.
+fn hops(network: Network, state: usize) -> usize {
+    let mut at = vec![State::numbered(state, network.widths)];
+    at.retain(|state| !state.departing && network.is_external(state.point));
+    let mut hops = 0;
+    while !at.is_empty() && hops < 16 {
+        let sent: Vec<State> = at.iter().flat_map(|state| network.next(*state)).collect();
+        hops += usize::from(sent.iter().any(|state| state.point[1] != 0));
+        at = sent.iter().flat_map(|state| network.next(*state)).collect();
+    }
+    hops
+}
+
 #[test]
 fn the_same_seed_gives_the_same_text() {
     for kind in Kind::ALL {

@@ -2,8 +2,10 @@
 //! implementation.
 
 mod common;
+mod seeded;
 
 use common::with_policies;
+use seeded::seeded;
 use wegbaro::{check, command, work_bytes, Gate, Refusal, STORE_BYTES};
 use wegbaro_tests::commands::random_command;
 use wegbaro_tests::damage::damage;
@@ -15,7 +17,8 @@ use wegbaro_tests::random::Random;
 use wegbaro_tests::records::{delete, miss, modify, output, record, rule, widths, with};
 use wegbaro_tests::records::{ANY, VERSIONS};
 use wegbaro_tests::second::{self, Second};
-use wegbaro_tools::book::Book;
+use wegbaro_tools::answers::Standing;
+use wegbaro_tools::book::{Book, Origin};
 use wegbaro_tools::causes::{command_cause, network_cause};
 use wegbaro_tools::formula::Node;
 use wegbaro_tools::parse::{parse, parse_command};
@@ -24,7 +27,6 @@ use wegbaro_tools::route::find;
 use wegbaro_tools::source::Source;
 use wegbaro_tools::steps::{Network, State};
 use wegbaro_tools::truth::Truth;
-use wegbaro_tools::words::record_words;
 use wegbaro_tools::{actions, Record};
 
 const SMALL: Widths = Widths { h: 1, p: 2, w: 1 };
@@ -126,7 +128,7 @@ fn groups_in_a_row() {
 
 #[test]
 fn steps_are_those_of_the_second_implementation() {
-    let mut random = Random::new(1);
+    let mut random = seeded(1);
     let [mut back, mut through, mut several] = [0, 0, 0];
     for of in all_widths() {
         let records = random_network(&mut random, of, MODEST);
@@ -151,7 +153,7 @@ fn steps_are_those_of_the_second_implementation() {
 /// Two states make a route of the library just where the one steps to the other.
 #[test]
 fn steps_are_those_of_the_library() {
-    let mut random = Random::new(9);
+    let mut random = seeded(9);
     let [mut back, mut through, mut several] = [0, 0, 0];
     for _ in 0..60 {
         let records = random_network(&mut random, SMALL, BARE);
@@ -181,7 +183,7 @@ fn lowest(records: &[Record]) -> Option<usize> {
 
 #[test]
 fn truth_is_that_of_the_second_implementation() {
-    let mut random = Random::new(2);
+    let mut random = seeded(2);
     let [mut held, mut broken] = [0, 0];
     for round in 0..400 {
         let of = if round % 10 == 0 { Widths { h: 2, p: 3, w: 1 } } else { SMALL };
@@ -219,7 +221,7 @@ fn random_pair(random: &mut Random, bits: u8) -> Vec<Node> {
 
 /// The Y of the first `exists Y.`.
 fn first_y(truth: &Truth, x: usize) -> Option<usize> {
-    truth.reasons(x).iter().find_map(|reason| reason.y)
+    truth.reasons(x).unwrap().iter().find_map(|reason| reason.y)
 }
 
 /// Whether a formula is true for a pair of states, by the second implementation.
@@ -238,7 +240,7 @@ fn is_true(bare: &[Record], nodes: &[Node], x: usize, y: usize) -> bool {
 /// With `A & exists Y. B` the witness is the lowest Y that makes B true with the state.
 #[test]
 fn the_witness_is_the_lowest() {
-    let mut random = Random::new(3);
+    let mut random = seeded(3);
     let mut found = 0;
     for round in 0..400 {
         let bare = random_network(&mut random, ONE, BARE);
@@ -264,7 +266,7 @@ fn the_witness_is_the_lowest() {
 
 #[test]
 fn no_witness_where_no_y_is_chosen() {
-    let bare = random_network(&mut Random::new(4), SMALL, BARE);
+    let bare = random_network(&mut seeded(4), SMALL, BARE);
     let of = |nodes: &[Node]| first_y(&Truth::of(network(&bare), nodes), 31);
     let [bit, some_y, all_y] = [[0, 1, 3], [6, 0, 1], [7, 0, 1]];
     assert_eq!(of(&[bit, some_y]), Some(8));
@@ -279,7 +281,7 @@ fn no_witness_where_no_y_is_chosen() {
 /// The walk of a policy about what is reached leads by steps from X to Y, and none is shorter.
 #[test]
 fn walks() {
-    let mut random = Random::new(5);
+    let mut random = seeded(5);
     let mut longest = 0;
     for _ in 0..60 {
         let records = random_network(&mut random, SMALL, BARE);
@@ -308,7 +310,7 @@ fn walk_to(network: Network, from: usize, to: usize) -> Vec<usize> {
     let is_y = push_is_state(&mut nodes, Y, to, 5);
     let both = push(&mut nodes, and(is_y, 1));
     push(&mut nodes, some(both, Y));
-    let reasons = Truth::of(network, &nodes).reasons(from);
+    let reasons = Truth::of(network, &nodes).reasons(from).unwrap();
     assert_eq!(reasons.len(), 2);
     assert_eq!(reasons[1].y, Some(to));
     reasons[1].walks[0].clone()
@@ -317,19 +319,19 @@ fn walk_to(network: Network, from: usize, to: usize) -> Vec<usize> {
 /// What many shared nodes are made of is looked at once.
 #[test]
 fn reasons_of_shared_nodes() {
-    let bare = random_network(&mut Random::new(8), SMALL, BARE);
+    let bare = random_network(&mut seeded(8), SMALL, BARE);
     let mut nodes = vec![[0, 1, 3], [6, 0, 1]];
     for last in 1..31 {
         push(&mut nodes, and(last, last));
     }
-    let reasons = Truth::of(network(&bare), &nodes).reasons(31);
+    let reasons = Truth::of(network(&bare), &nodes).reasons(31).unwrap();
     assert_eq!(reasons.iter().filter(|reason| reason.y == Some(8)).count(), 1);
 }
 
 /// The book goes with the gate's store through a series of commands.
 #[test]
 fn the_book_goes_with_the_gate() {
-    let mut random = Random::new(6);
+    let mut random = seeded(6);
     let [mut forwarded, mut blocked, mut added] = [0, 0, 0];
     for round in 0..60 {
         let mut records = guarded_network(&mut random, SMALL);
@@ -342,7 +344,7 @@ fn the_book_goes_with_the_gate() {
             let before = gate.records().to_vec();
             match gate.command(&given) {
                 Ok(wegbaro::Commanded::Forwarded { .. }) => {
-                    book = book.after(&given, &format!("command {number}"));
+                    book = book.after(&given, Origin::Command(number));
                     forwarded += 1;
                 }
                 Ok(_) => blocked += 1,
@@ -368,18 +370,19 @@ fn a_modify_without_its_rule() {
     };
     for version in [0, 4] {
         let book = before(version, &[high]);
-        assert_eq!(book.after(&modify(low), "command 1"), book);
+        assert_eq!(book.after(&modify(low), Origin::Command(1)), book);
     }
-    let left = before(1, &[high]).after(&modify(low), "command 1");
+    let left = before(1, &[high]).after(&modify(low), Origin::Command(1));
     assert_eq!(left.records, before(1, &[high, low]).records);
-    assert_eq!(left.origins, ["record 0", "record 1", "record 2", "command 1", "record 3"]);
-    let first = before(1, &[]).after(&modify(low), "command 1");
+    let origins: Vec<String> = left.origins.iter().map(Origin::to_string).collect();
+    assert_eq!(origins, ["record 0", "record 1", "record 2", "command 1", "record 3"]);
+    let first = before(1, &[]).after(&modify(low), Origin::Command(1));
     assert_eq!(first.records, before(1, &[low]).records);
     // With its rule it replaces the actions, and a delete without its rule changes nothing.
     let dropped = rule(0, 20, ANY, ANY, &[output(0, 3)]);
-    let replaced = left.after(&modify(dropped), "command 2");
+    let replaced = left.after(&modify(dropped), Origin::Command(2));
     assert_eq!(replaced.records, before(1, &[dropped, low]).records);
-    assert_eq!(first.after(&delete(high), "command 2"), first);
+    assert_eq!(first.after(&delete(high), Origin::Command(2)), first);
 }
 
 /// Puts the last node of the last policy there once more.
@@ -391,7 +394,7 @@ fn repeat_last_node(records: &mut Vec<Record>) {
 /// Every refusal of a damaged network or command has a cause of its own row.
 #[test]
 fn every_refusal_has_a_cause() {
-    let mut random = Random::new(7);
+    let mut random = seeded(7);
     let mut seen = [0; 17];
     let mut words: Vec<Vec<String>> = vec![vec![]; 17];
     let mut count = |refusal: Refusal, cause: Option<wegbaro_tools::causes::Cause>, of: &str| {
@@ -448,10 +451,13 @@ fn commands_in_words_are_read_back() {
     ] {
         let source = Source::of_text(parse(text).unwrap());
         let of = source.widths().unwrap();
+        let book = Book::default();
+        let standing = Standing { source: &source, book: &book };
         let mut named = 0;
-        for given in &source.commands {
-            let words = record_words(&source, &given.record);
-            assert_eq!(parse_command(&words, of, &source.names), Ok(given.record), "{words}");
+        for command in &source.commands {
+            let words = standing.record_words(&command.record);
+            let read = parse_command(&words, of, &source.names).unwrap();
+            assert_eq!(read.record, command.record, "{words}");
             named += usize::from(words.contains(name));
         }
         assert!(named >= least, "{named}");
@@ -464,7 +470,8 @@ fn groups_in_words() {
     let text = include_str!("../../examples/uplinks/network.txt");
     let source = Source::of_text(parse(text).unwrap());
     let groups = source.network.iter().filter(|record| record[0] == 9);
-    let words: Vec<String> = groups.map(|group| record_words(&source, group)).collect();
+    let standing = Standing { source: &source, book: &Book::default() };
+    let words: Vec<String> = groups.map(|group| standing.record_words(group)).collect();
     let expected =
         ["group 0/uplinks: output 4; output 5", "group 0/mirror: output 3; group uplinks"];
     assert_eq!(words, expected);

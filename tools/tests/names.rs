@@ -199,7 +199,7 @@ fn names_of_numbers() {
 fn one_command() {
     let names = parsed(NAMES).names;
     let widths = Widths { h: 2, p: 3, w: 2 };
-    let read = |line: &str| parse_command(line, widths, &names);
+    let read = |line: &str| parse_command(line, widths, &names).map(|text| text.record);
     let text = format!("{NAMES}add core priority 1 port pump: set urgent, output uplink");
     let add = read("add core priority 1 port pump: set urgent, output uplink\n").unwrap();
     assert_eq!(parsed(&text).bytes[24..], add);

@@ -1,8 +1,10 @@
 //! The program's calls: what is written, what is said, and the exit status.
 
 mod running;
+mod seeded;
 
 use running::{complains, expect, file, program, run, wegbaro, K, K_LINES};
+use seeded::seeded;
 use std::fs::{File, OpenOptions};
 use std::os::unix::process::CommandExt;
 use std::process::Stdio;
@@ -13,6 +15,7 @@ use wegbaro_tests::library;
 use wegbaro_tests::networks::full_switch;
 use wegbaro_tests::random::Random;
 use wegbaro_tests::records::{add, link, miss, output, rule, widths, with, Record, ANY, IN_PORT};
+use wegbaro_tools::subcommands::{Subcommand, SUBCOMMANDS};
 
 /// The words about K and its two adds, as a text.
 const K_WORDS: &str = "\
@@ -40,10 +43,20 @@ fn wide() -> Vec<Record> {
 fn help_and_version() {
     let help = wegbaro(&["--help"], b"");
     assert_eq!((help.status, help.said.as_str()), (Some(0), ""));
-    for task in ["check", "run", "session", "records", "text", "expand", "explain", "picture"] {
-        assert!(help.text().contains(&format!("  wegbaro {task} FILE ")), "{task}");
+    let column = |text: &str| text.find("judges the network").unwrap();
+    let first = help.text().lines().nth(2).unwrap();
+    assert_eq!(first, "  wegbaro check FILE        judges the network");
+    let readme = include_str!("../README.md");
+    for Subcommand { name, operands, .. } in SUBCOMMANDS {
+        let call = format!("  wegbaro {name} {}", operands.shown);
+        assert!(help.text().contains(&call), "{name}");
+        assert!(readme.contains(&format!("  {call}")), "{name}");
     }
-    assert!(help.text().contains("  wegbaro route FILE FROM TO\n"));
+    let route = format!("  wegbaro route FILE FROM TO\n{:1$}how", "", column(first));
+    assert!(help.text().contains(&route), "{}", help.text());
+    let json = "  --json          check, run, session, explain, route: answers as JSON, one object";
+    assert!(help.text().contains(json), "{}", help.text());
+    assert!(help.text().contains("  --seed N        generate: the same seed"), "{}", help.text());
     assert!(help.text().lines().all(|line| line.chars().count() < 100));
     assert_eq!(wegbaro(&["check", "--help"], b"").text(), help.text());
     let version = format!("wegbaro {}\n", env!("CARGO_PKG_VERSION"));
@@ -58,7 +71,8 @@ fn faulty_calls() {
     complains(&["check", K, K], b"", 2, "`check` takes one FILE");
     complains(&["check", "--rules", K], b"", 2, "`check` has no option `--rules`");
     complains(&["check", "--json=1", K], b"", 2, "`--json` takes no value");
-    complains(&["check", "--json", "--gate", K], b"", 2, "exclude each other");
+    let both = wegbaro(&["check", "--json", "--gate", K], b"");
+    assert!(both.status == Some(2) && both.said.contains("exclude each other"), "{both:?}");
     complains(&["session", "-"], b"", 2, "`session` reads commands from standard input");
     complains(&["explain", "-"], b"", 2, "`explain` reads answers from standard input");
     complains(&["generate"], b"", 2, "`generate` takes one KIND (plod, tree, ring)");
@@ -67,6 +81,10 @@ fn faulty_calls() {
     complains(&["generate", "ring", "--seed", "x"], b"", 2, "--seed `x` is no number");
     complains(&["generate", "ring", "--switches=99"], b"", 2, "switches");
     complains(&["generate", "ring", "--groups", "17"], b"", 2, "groups is at most 16, not 17");
+    // Of an option given twice the later one counts.
+    let twice = wegbaro(&["generate", "ring", "--seed", "1", "--seed=2"], b"");
+    assert_eq!(twice.text(), wegbaro(&["generate", "ring", "--seed", "2"], b"").text());
+    assert_ne!(twice.text(), wegbaro(&["generate", "ring", "--seed", "1"], b"").text());
     // Behind `--` an option is a file's name.
     complains(&["check", "--", "--json"], b"", 3, "--json: No such file");
 }
@@ -148,7 +166,7 @@ header 1: output 1, output **, set 0, in_port)
     let command =
         r#""command":"add 0 priority 1 port ** header 1: output 1, output **, set 0, in_port""#;
     assert!(ran.text().contains(command), "{}", ran.text());
-    assert!(ran.text().ends_with("\"route\":[3,10]}\n"), "{}", ran.text());
+    assert!(ran.text().contains(r#","route":[3,10],"reasons":[{"y":"#), "{}", ran.text());
 }
 
 /// A note is said on standard error, and is no fault.
@@ -164,12 +182,20 @@ fn an_output_that_sends_nothing() {
 fn answers_as_json() {
     let state = r#"{"number":3,"switch":0,"port":1,"direction":"arriving","header":1,"words":"switch 0, port 1, arriving, header 1"}"#;
     let y = r#"{"number":29,"switch":1,"port":2,"direction":"departing","header":1,"words":"switch 1, port 2, departing, header 1"}"#;
+    let by = |state: &str, by: &str| format!("{},{by}}}", state.strip_suffix('}').unwrap());
+    let states = [
+        by(state, r#""by":"rule 0 priority 5 port ** header *: output 2","by_record":6,"by_command":1"#),
+        r#"{"number":21,"switch":0,"port":2,"direction":"departing","header":1,"words":"switch 0, port 2, departing, header 1","by":"link 0:2 - 1:1","by_record":1}"#.to_string(),
+        r#"{"number":11,"switch":1,"port":1,"direction":"arriving","header":1,"words":"switch 1, port 1, arriving, header 1","by":"rule 1 priority 10 port 1 header *: output 2","by_record":5}"#.to_string(),
+        y.to_string(),
+    ];
     let lines = [
         r#"{"subject":"start","answer":"holds","records":20,"policies":1}"#.to_string(),
         format!(
-            r#"{{"subject":"command","number":1,"command":"add 0 priority 5 port ** header *: output 2","answer":"blocked","policy":0,"state":{state},"y":{y},"route":[3,21,11,29]}}"#
+            r#"{{"subject":"command","number":1,"command":"add 0 priority 5 port ** header *: output 2","answer":"blocked","policy":0,"state":{state},"y":{y},"route":[3,21,11,29],"reasons":[{{"y":{y},"walks":[{{"route":[3,21,11,29],"states":[{}]}}]}}]}}"#,
+            states.join(",")
         ),
-        r#"{"subject":"command","number":2,"command":"add 0 priority 5 port ** header 0: output 2","answer":"forwarded","records":21}"#.to_string(),
+        r#"{"subject":"command","number":2,"command":"add 0 priority 5 port ** header 0: output 2","answer":"forwarded","records":21,"changed":true}"#.to_string(),
         r#"{"subject":"command","number":3,"command":"bytes 07 01 00 00 00 00 00 00 00 00 00 00 00 00 00 00 00 00 00 00 00 00 00 00","answer":"refused","row":12,"place":0,"cause":"the action count is 0, and must be 1 to 4"}"#.to_string(),
         r#"{"subject":"end","answer":"short"}"#.to_string(),
     ];
@@ -205,6 +231,74 @@ fn answers_as_json() {
     assert!(ran.text().starts_with(r#"{"answer":"failed","message":"no file: No such file"#));
 }
 
+/// A ward whose commands do not change what their words say.
+const EFFECTS: &str = "\
+widths H 1 P 2 W 1
+name port 0:1 pump
+miss 0: output drop
+miss 1: output drop
+rule 0 priority 10 port 1 header 0: output 2
+rule 0 priority 20 port 1: output 2
+rule 1 priority 5: output 2
+delete 0 priority 20 port 1 header 0
+modify 0 priority 20 port 2: output drop
+delete 1 priority 6 port 1 header 1
+add 0 priority 10 port 1 header 0: output drop
+add 0 priority 10 port 1 header 0: output drop
+modify 1 priority 5: output 2
+modify 1 priority 5: output 1
+add 1 priority 7: output 1
+delete 1 priority 7
+";
+
+/// A forwarded command that changes nothing says so, and an add that replaces a rule says which.
+#[test]
+fn what_a_command_changes() {
+    let rule = |line: usize| match line {
+        5 => "rule 0 priority 10 port pump header 0: output 2",
+        _ => "rule 0 priority 20 port pump header *: output 2",
+    };
+    let nearest = |line: usize| {
+        let rule = rule(line);
+        format!("nothing changes, as there is no such rule; the nearest is line {line} ({rule}); ")
+    };
+    let effects = [
+        (nearest(5), 6, r#"false,"nearest_record":3,"nearest_line":5"#),
+        (nearest(6), 6, r#"false,"nearest_record":4,"nearest_line":6"#),
+        ("nothing changes, as there is no such rule; ".to_string(), 6, "false"),
+        (
+            "it replaces the rule of line 5; ".to_string(),
+            6,
+            r#"true,"replaced_record":3,"replaced_line":5"#,
+        ),
+        (
+            "nothing changes, as line 11 is this rule; ".to_string(),
+            6,
+            r#"false,"replaced_record":3,"replaced_line":11"#,
+        ),
+        (
+            "nothing changes, as line 7 is this rule; ".to_string(),
+            6,
+            r#"false,"replaced_record":5,"replaced_line":7"#,
+        ),
+        (String::new(), 6, r#"true,"replaced_record":5,"replaced_line":13"#),
+        (String::new(), 7, "true"),
+        (String::new(), 6, "true"),
+    ];
+    let words = wegbaro(&["run", "-"], EFFECTS.as_bytes());
+    let objects = wegbaro(&["run", "--json", "-"], EFFECTS.as_bytes());
+    assert_eq!((words.status, objects.status), (Some(0), Some(0)), "{}", words.said);
+    let told = words.text().lines().skip(1).zip(objects.text().lines().skip(1));
+    let told: Vec<(&str, &str)> = told.collect();
+    assert_eq!(told.len(), effects.len());
+    for ((effect, records, changed), (words, object)) in effects.iter().zip(told) {
+        let end = format!(": forwarded, {effect}the network then has {records} records");
+        assert!(words.ends_with(&end), "{words}");
+        let end = format!(r#""answer":"forwarded","records":{records},"changed":{changed}}}"#);
+        assert!(object.ends_with(&end), "{object}");
+    }
+}
+
 /// Commands are left alone where the network does not hold, and that is said.
 #[test]
 fn commands_that_are_not_judged() {
@@ -223,7 +317,7 @@ fn commands_that_are_not_judged() {
 /// the tool lends as much as the network needs.
 #[test]
 fn the_lines_of_the_gate() {
-    let mut random = Random::new(11);
+    let mut random = seeded(11);
     let mut compared = 0;
     for _ in 0..150 {
         let input = random_input(&mut random);
@@ -275,7 +369,7 @@ fn words(random: &mut Random) -> String {
 /// Whatever the input is, every call ends with one of the four statuses.
 #[test]
 fn spoiled_inputs() {
-    let mut random = Random::new(12);
+    let mut random = seeded(12);
     let text = std::fs::read(K).unwrap();
     let tasks = ["check", "run", "records", "text", "expand", "picture"];
     let mut seen = [0; 3];
@@ -426,8 +520,13 @@ fn long_words() {
         let ran = wegbaro(&["check", "-"], text.as_bytes());
         assert!(ran.text().len() + ran.said.len() < 1_000, "{}", ran.said.len());
     }
-    let ran = wegbaro(&["session", "--gate", K], word.as_bytes());
-    assert!(ran.status == Some(2) && ran.said.len() < 1_000);
+    let ran = wegbaro(&["session", "--gate", K], format!("{word}\n").as_bytes());
+    assert!(
+        ran.status == Some(2) && ran.text().ends_with("3 refused 12 0\n"),
+        "{}",
+        ran.said.len()
+    );
+    assert!(ran.said.len() < 1_000);
     let ran = wegbaro(&["explain", K], word.as_bytes());
     assert!(ran.status == Some(2) && ran.said.len() < 1_000);
 }
@@ -439,7 +538,56 @@ fn reading_fails() {
         complains(&[task, folder], b"", 3, "Is a directory");
         complains(&[task, "no such file"], b"", 3, "no such file: No such file or directory");
     }
-    complains(&["check", "-"], &vec![b'#'; (64 << 20) + 1], 2, "has more than 64 MiB");
+}
+
+/// An empty file of so many bytes, of which none is on the disk.
+fn sparse(name: &str, bytes: u64) -> String {
+    let path = file(name, b"");
+    OpenOptions::new().write(true).open(&path).unwrap().set_len(bytes).unwrap();
+    path
+}
+
+/// 64 MiB are read, of a file, of standard input and of answers; one byte more is told, not cut.
+#[test]
+fn as_much_as_is_read() {
+    let most = 64 << 20;
+    let [whole, more] = [sparse("most", most), sparse("more", most + 1)];
+    let told = |arguments: &[&str], input: &str| {
+        let mut program = program(arguments);
+        program.stdin(Stdio::from(File::open(input).unwrap()));
+        let ran = run(program, b"");
+        assert_eq!((ran.status, ran.text()), (Some(2), ""), "{arguments:?}: {}", ran.said);
+        ran.said
+    };
+    let text = "has records, and a text is expected (`wegbaro text` gives their text)\n";
+    assert_eq!(told(&["records", &whole], K), format!("{whole} {text}"));
+    assert_eq!(told(&["records", &more], K), format!("{more} has more than 64 MiB\n"));
+    assert_eq!(told(&["records", "-"], &whole), format!("standard input {text}"));
+    assert_eq!(told(&["records", "-"], &more), "standard input has more than 64 MiB\n");
+    let answer = told(&["explain", K], &whole);
+    assert!(answer.starts_with("line 1 of the answers is `\\x00"), "{answer}");
+    let cut = "the answers on standard input have more than 64 MiB\n";
+    assert_eq!(told(&["explain", K], &more), cut);
+    std::fs::remove_file(whole).unwrap();
+    std::fs::remove_file(more).unwrap();
+}
+
+/// Records are told by the kind that they start with, and a cut record is a command's by its kind.
+#[test]
+fn first_bytes_of_records() {
+    let none = "start refused 1 0\n";
+    for kind in 6..=8 {
+        expect(&["check", "--gate", "-"], &[&[kind][..], &[0; 23]].concat(), 1, none);
+        let cut = [&k().concat()[..], &[kind]].concat();
+        expect(&["run", "--gate", "-"], &cut, 2, "start holds\nend short\n");
+    }
+    for kind in [5, 9] {
+        let cut = [&k().concat()[..], &[kind]].concat();
+        expect(&["run", "--gate", "-"], &cut, 2, "end short\n");
+    }
+    let many = |count: usize| [vec![1; 24 * count], vec![1]].concat();
+    expect(&["run", "--gate", "-"], &many(657), 2, "end short\n");
+    expect(&["run", "--gate", "-"], &many(658), 1, none);
 }
 
 /// A program with standard input or output closed from the start.
@@ -550,6 +698,13 @@ fn pictures() {
     let ran = wegbaro(&["picture", "-"], named);
     assert!(ran.text().contains("s1 [label=\"switch 1\\ncore\"]"), "{}", ran.text());
     assert!(ran.text().contains("headlabel=\"1 up\""), "{}", ran.text());
+    // Each end has the name that its own switch gives.
+    let both = b"widths H 1 P 3 W 1\nname port 0:2 down\nname port 1:2 line\n\
+                 name port 0:1 pump\nname port 1:1 up\nlink 0:2 - 1:1\nmiss 0: output drop\n\
+                 miss 1: output drop\n";
+    let ran = wegbaro(&["picture", "-"], both);
+    let labels = "s0 -- s1 [taillabel=\"2 down\", headlabel=\"1 up\"];";
+    assert!(ran.text().contains(labels), "{}", ran.text());
 }
 
 /// `explain` notices answers that are not about this file.

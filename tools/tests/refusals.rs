@@ -11,9 +11,10 @@ use wegbaro_tests::k::{k, k_set};
 use wegbaro_tests::networks::full_switch;
 use wegbaro_tests::records::{add, link, miss, modify, output, record, rule, set, widths, with};
 use wegbaro_tests::records::{Action, Record, ANY, IN_PORT, VERSIONS};
+use wegbaro_tools::answers::start::StartAnswer;
+use wegbaro_tools::answers::{Answer, Standing};
 use wegbaro_tools::book::Book;
 use wegbaro_tools::source::Source;
-use wegbaro_tools::words::{Answer, Form, Teller};
 
 /// Checks what is said of records that a row refuses.
 fn refused(records: &[Record], words: &str) {
@@ -45,10 +46,10 @@ fn row_1() {
 #[test]
 fn row_2() {
     let source = Source::default();
-    let teller = Teller { source: &source, form: Form::Words, work: None };
-    let answer = Answer::Start(Err(Refusal { row: 2, place: 0 }));
-    let words = "start: refused: row 2, the store has fewer than 15,768 bytes\n";
-    assert_eq!(teller.tell(&Book::default(), &answer), words);
+    let standing = Standing { source: &source, book: &Book::default() };
+    let answer = StartAnswer { verdict: Err(Refusal { row: 2, place: 0 }), work: None };
+    let words = "start: refused: row 2, the store has fewer than 15,768 bytes";
+    assert_eq!(answer.words(standing).unwrap(), words);
 }
 
 #[test]
@@ -455,7 +456,7 @@ fn row_13() {
     let there = rule(0, 255, ANY, ANY, &[output(1, 3)]);
     let add_words = ": refused: row 13, 256 rules are there, and this one is new";
     let modify_words = format!("{add_words}: in OpenFlow 1.0 a modify without its rule adds it");
-    let judged = ": forwarded, the network then has 258 records";
+    let judged = "the network then has 258 records";
     for version in VERSIONS {
         let full = full_switch(version);
         let ends = |command: Record, words: &str| {

@@ -1,8 +1,10 @@
 //! Bytes to text to bytes, and text to bytes to text.
 
 mod common;
+mod seeded;
 
 use common::{group, parsed};
+use seeded::seeded;
 use wegbaro_tests::commands::{command, SOUND};
 use wegbaro_tests::inputs::random_input;
 use wegbaro_tests::k::{first_add, k, second_add};
@@ -10,7 +12,6 @@ use wegbaro_tests::library::program;
 use wegbaro_tests::networks::{
     all_widths, crowded, guarded_network, largest, random_network, MODEST,
 };
-use wegbaro_tests::random::Random;
 use wegbaro_tests::records::{add, miss, modify, output, rule, set, widths, with};
 use wegbaro_tests::records::{Action, ANY, IN_PORT, VERSIONS};
 use wegbaro_tools::parse::parse;
@@ -33,7 +34,7 @@ fn in_words(text: &str) {
 
 #[test]
 fn well_formed_networks_and_commands_of_every_width() {
-    let mut random = Random::new(1);
+    let mut random = seeded(1);
     for of in all_widths() {
         for round in 0..40 {
             let records = match round % 4 {
@@ -52,7 +53,7 @@ fn well_formed_networks_and_commands_of_every_width() {
 
 #[test]
 fn the_largest_networks() {
-    let mut random = Random::new(2);
+    let mut random = seeded(2);
     for _ in 0..5 {
         in_words(&there_and_back(&largest(&mut random).concat()));
     }
@@ -63,7 +64,7 @@ fn the_largest_networks() {
 
 #[test]
 fn damaged_and_cut_inputs() {
-    let mut random = Random::new(3);
+    let mut random = seeded(3);
     for _ in 0..3_000 {
         there_and_back(&random_input(&mut random));
     }
@@ -71,7 +72,7 @@ fn damaged_and_cut_inputs() {
 
 #[test]
 fn bytes_without_any_order() {
-    let mut random = Random::new(4);
+    let mut random = seeded(4);
     for _ in 0..2_000 {
         let length = random.up_to(200);
         let mut bytes = random.bytes(length);
@@ -86,7 +87,7 @@ fn bytes_without_any_order() {
 
 #[test]
 fn every_byte_of_k_changed() {
-    let mut random = Random::new(5);
+    let mut random = seeded(5);
     let bytes = [k(), vec![first_add(), second_add()]].concat().concat();
     for place in 0..bytes.len() {
         for change in [1, 2, 4, 128, random.byte()] {

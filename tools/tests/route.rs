@@ -1,15 +1,21 @@
 //! Routes: what is told and drawn of them, and how the states of a call are read.
 
 mod running;
+mod seeded;
 
 use running::{complains, expect, file, program, run, wegbaro, K};
+use seeded::seeded;
 use std::ffi::OsStr;
 use std::os::unix::ffi::OsStrExt;
 use wegbaro_tests::k::k;
 use wegbaro_tests::networks::{all_widths, random_network, MODEST};
-use wegbaro_tests::random::Random;
-use wegbaro_tools::route::{find, steps};
+use wegbaro_tools::route::find;
 use wegbaro_tools::steps::Network;
+
+/// What is noted of a file with commands, as an object.
+const BEFORE_COMMANDS: &str =
+    "{\"answer\":\"note\",\"message\":\"the route is that of the network \
+                               before the file's commands\"}\n";
 
 const K_ROUTE: &str = "\
 route: found, 3 steps
@@ -78,7 +84,7 @@ fn no_route() {
                  to state 2 (switch 0, port 1, arriving, header 0)\n";
     expect(&["route", K, "28", "2"], b"", 1, words);
     let object = r#"{"subject":"route","answer":"none","from":{"number":28,"switch":1,"port":2,"direction":"departing","header":0,"words":"switch 1, port 2, departing, header 0"},"to":{"number":2,"switch":0,"port":1,"direction":"arriving","header":0,"words":"switch 0, port 1, arriving, header 0"}}"#;
-    expect(&["route", "--json", K, "28", "2"], b"", 1, &format!("{object}\n"));
+    expect(&["route", "--json", K, "28", "2"], b"", 1, &format!("{BEFORE_COMMANDS}{object}\n"));
     complains(&["route", "--dot", K, "28", "2"], b"", 1, "no picture, as there is no route\n");
     // Standing still is no route.
     let words = "route: none, no frame gets from state 2 (switch 0, port 1, arriving, header 0) \
@@ -231,7 +237,7 @@ fn a_route_as_json() {
         r#"{{"subject":"route","answer":"found","route":[2,20,10,28],"states":[{}]}}"#,
         states.join(",")
     );
-    expect(&["route", "--json", K, "2", "28"], b"", 0, &format!("{object}\n"));
+    expect(&["route", "--json", K, "2", "28"], b"", 0, &format!("{BEFORE_COMMANDS}{object}\n"));
 }
 
 #[test]
@@ -317,7 +323,8 @@ fn faulty_states() {
     assert_eq!((ran.status, ran.text()), (Some(2), ""), "{}", ran.said);
     let object = r#"{"answer":"faulty","file":"FROM TO","line":1,"column":3,"message":"expected a state (0 to 31), found `32`""#;
     let ran = wegbaro(&["route", "--json", K, "2", "32"], b"");
-    assert!(ran.status == Some(2) && ran.text().starts_with(object), "{ran:?}");
+    let start = format!("{BEFORE_COMMANDS}{object}");
+    assert!(ran.status == Some(2) && ran.text().starts_with(&start), "{ran:?}");
 }
 
 #[test]
@@ -331,8 +338,9 @@ fn faulty_calls() {
         );
     }
     complains(&["route", "--gate", K, "2", "28"], b"", 2, "`route` has no option `--gate`");
+    let both = wegbaro(&["route", "--json", "--dot", K, "2", "28"], b"");
     let exclude = "--json and --dot exclude each other";
-    complains(&["route", "--json", "--dot", K, "2", "28"], b"", 2, exclude);
+    assert!(both.status == Some(2) && both.said.starts_with(exclude), "{both:?}");
     complains(&["route", "no such file", "2", "28"], b"", 3, "no such file: No such file");
     complains(&["route", "-", "2", "28"], b"widths H 1\n", 2, "standard input:1:");
 }
@@ -378,13 +386,13 @@ command 1 (add 0 priority 1 port 1 header *: output 3, output 2), line 9: blocke
     let rule = "0 priority 1 port 1: output 3, output 2\n";
     expect(&["run", "-"], format!("{network}add {rule}").as_bytes(), 1, blocked);
     let ran = wegbaro(&["run", "--json", "-"], format!("{network}add {rule}").as_bytes());
-    assert!(ran.text().ends_with("\"route\":[3,37,21,57]}\n"), "{}", ran.text());
+    assert!(ran.text().contains(r#","route":[3,37,21,57],"reasons":["#), "{}", ran.text());
 }
 
 /// Every step of every route has a rule, a miss or a link that takes the frame on.
 #[test]
 fn routes_of_random_networks() {
-    let mut random = Random::new(14);
+    let mut random = seeded(14);
     let mut longest = 0;
     for of in all_widths().into_iter().filter(|of| of.bits() <= 8) {
         let records = random_network(&mut random, of, MODEST);
@@ -394,7 +402,7 @@ fn routes_of_random_networks() {
             let Some(route) = find(&records, ends).unwrap() else { continue };
             assert_eq!([route[0], route[route.len() - 1]], ends);
             assert!(route.windows(2).all(|pair| network.steps(pair[0], pair[1])), "{route:?}");
-            assert_eq!(steps(network, &route).len(), route.len() - 1, "{route:?}");
+            assert_eq!(network.walked(&route).unwrap().len(), route.len() - 1, "{route:?}");
             longest = longest.max(route.len());
         }
     }

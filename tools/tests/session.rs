@@ -78,7 +78,7 @@ fn k_file(name: &str) -> String {
 fn a_line_and_its_answer() {
     let mut session = Session::new(&[&k_file("lines")]);
     assert_eq!(session.line(), "start: the network holds, no policy is broken");
-    let first = session.ask(b"add 0 priority 5: output 2\n");
+    let first = session.ask(b"add 0 priority 5: output 2\n\n");
     assert!(first
         .starts_with("command 1 (add 0 priority 5 port ** header *: output 2): blocked: policy 0"));
     assert!(session.line().starts_with("    with Y = state 29 "));
@@ -86,13 +86,13 @@ fn a_line_and_its_answer() {
     assert!(session.line().starts_with(own));
     assert!(session.line().starts_with("    - switch 1: "));
     // Empty lines and comments have no answer.
-    session.send(b"\n# a comment\n   \n");
-    let second = session.ask(b"  add 0 priority 5 header 0: output 2\r\n");
+    session.send(b"\n# a comment\n   \n  # an indented one\n");
+    let second = session.ask(b"add 0 priority 5 header 0: output 2\r\n\n");
     assert!(second.ends_with("forwarded, the network then has 21 records"), "{second}");
     // Half a line has no answer until the rest comes.
     session.send(b"delete 0 prior");
     assert!(session.lines.recv_timeout(Duration::from_millis(200)).is_err());
-    let third = session.ask(b"ity 5 header 0\n");
+    let third = session.ask(b"ity 5 header 0\n\n");
     assert!(third.ends_with("forwarded, the network then has 20 records"), "{third}");
     assert_eq!(session.end(), (Some(1), String::new()));
 }
@@ -102,7 +102,7 @@ fn a_line_and_its_answer() {
 fn a_modify_that_adds() {
     let mut session = Session::new(&[&file("adds", &in_version(&k(), 1).concat())]);
     assert_eq!(session.line(), "start: the network holds, no policy is broken");
-    let first = session.ask(b"modify 0 priority 5: output 2\n");
+    let first = session.ask(b"modify 0 priority 5: output 2\n\n");
     let blocked =
         "command 1 (modify 0 priority 5 port ** header *: output 2): blocked: policy 0 is \
                    broken by state 3 (switch 0, port 1, arriving, header 1)";
@@ -113,17 +113,17 @@ fn a_modify_that_adds() {
     assert!(session.line().starts_with("    - switch 1: "));
     let mut count = |command: &[u8], records: usize| {
         let answer = session.ask(command);
-        let words = format!("forwarded, the network then has {records} records");
-        assert!(answer.ends_with(&words), "{answer}");
+        let words = format!("the network then has {records} records");
+        assert!(answer.ends_with(&words) && answer.contains("): forwarded, "), "{answer}");
     };
-    count(b"modify 0 priority 5 header 0: output 2\n", 21);
-    count(b"modify 0 priority 5 header 0: output drop\n", 21);
-    count(b"modify 1 priority 5: output drop\n", 22);
-    count(b"delete 0 priority 5 header 0\n", 21);
-    count(b"delete 0 priority 5 header 0\n", 21);
+    count(b"modify 0 priority 5 header 0: output 2\n\n", 21);
+    count(b"modify 0 priority 5 header 0: output drop\n\n", 21);
+    count(b"modify 1 priority 5: output drop\n\n", 22);
+    count(b"delete 0 priority 5 header 0\n\n", 21);
+    count(b"delete 0 priority 5 header 0\n\n", 21);
     // A rule that a modify added is told by that command.
-    session.ask(b"delete 1 priority 10 port 1\n");
-    session.ask(b"modify 1 priority 5: set 1, output 2\n");
+    session.ask(b"delete 1 priority 10 port 1\n\n");
+    session.ask(b"modify 1 priority 5: set 1, output 2\n\n");
     session.line();
     session.line();
     let added = session.line();
@@ -139,8 +139,8 @@ fn a_modify_that_changes_nothing() {
         let file = file("changes-nothing", &in_version(&k(), version).concat());
         let mut session = Session::new(&["--gate", &file]);
         assert_eq!(session.line(), "start holds");
-        assert_eq!(session.ask(b"modify 0 priority 5: output 2\n"), "1 forwarded 20");
-        assert_eq!(session.ask(b"add 0 priority 5: output 2\n"), "2 blocked 0 3");
+        assert_eq!(session.ask(b"modify 0 priority 5: output 2\n\n"), "1 forwarded 20");
+        assert_eq!(session.ask(b"add 0 priority 5: output 2\n\n"), "2 blocked 0 3");
         assert_eq!(session.end(), (Some(1), String::new()));
     }
 }
@@ -154,12 +154,12 @@ fn a_modify_that_finds_the_table_full() {
     }
     let mut session = Session::new(&["--gate", &file("full", text.as_bytes())]);
     assert_eq!(session.line(), "start holds");
-    assert_eq!(session.ask(b"modify 0 priority 255: output 1\n"), "1 forwarded 258");
-    assert_eq!(session.ask(b"modify 0 priority 256: output 1\n"), "2 refused 13 0");
-    assert_eq!(session.ask(b"modify 0 priority 255: output 2\n"), "3 forwarded 258");
-    assert_eq!(session.ask(b"modify 0 priority 256: group 0\n"), "4 refused 16 0");
-    assert_eq!(session.ask(b"delete 0 priority 0\n"), "5 forwarded 257");
-    assert_eq!(session.ask(b"modify 0 priority 256: output 1\n"), "6 forwarded 258");
+    assert_eq!(session.ask(b"modify 0 priority 255: output 1\n\n"), "1 forwarded 258");
+    assert_eq!(session.ask(b"modify 0 priority 256: output 1\n\n"), "2 refused 13 0");
+    assert_eq!(session.ask(b"modify 0 priority 255: output 2\n\n"), "3 forwarded 258");
+    assert_eq!(session.ask(b"modify 0 priority 256: group 0\n\n"), "4 refused 16 0");
+    assert_eq!(session.ask(b"delete 0 priority 0\n\n"), "5 forwarded 257");
+    assert_eq!(session.ask(b"modify 0 priority 256: output 1\n\n"), "6 forwarded 258");
     assert_eq!(session.end(), (Some(1), String::new()));
 }
 
@@ -167,15 +167,15 @@ fn a_modify_that_finds_the_table_full() {
 fn a_faulty_line_is_told_and_passed_over() {
     let mut session = Session::new(&[&k_file("faulty")]);
     session.line();
-    let first = session.ask(b"add 0 priority 5 output 2\n");
+    let first = session.ask(b"add 0 priority 5 output 2\n\n");
     assert!(first.starts_with("command 1:1:"), "{first}");
     assert_eq!(session.line(), "    add 0 priority 5 output 2");
     assert_eq!(session.line().trim_matches([' ', '^']), "");
-    let second = session.ask(b"rule 0 priority 5: output 2\n");
+    let second = session.ask(b"rule 0 priority 5: output 2\n\n");
     assert!(second.starts_with("command 2:1:1: expected a command"), "{second}");
     session.line();
     session.line();
-    let third = session.ask(b"add 0 priority 5 header 0: output 2\n");
+    let third = session.ask(b"add 0 priority 5 header 0: output 2\n\n");
     assert!(third.starts_with("command 3 (add 0 "), "{third}");
     assert_eq!(session.end(), (Some(2), String::new()));
 }
@@ -184,11 +184,11 @@ fn a_faulty_line_is_told_and_passed_over() {
 fn lines_of_the_gate_and_objects() {
     let mut session = Session::new(&["--gate", &k_file("gate")]);
     assert_eq!(session.line(), "start holds");
-    assert_eq!(session.ask(b"add 0 priority 5: output 2\n"), "1 blocked 0 3");
-    assert_eq!(session.ask(b"ad\n"), "2 refused 12 0");
-    assert_eq!(session.ask(b"add 0 priority 5 header 0: output 2\n"), "3 forwarded 21");
-    // The last line may have no line break.
-    session.send(b"delete 0 priority 5");
+    assert_eq!(session.ask(b"add 0 priority 5: output 2\n\n"), "1 blocked 0 3");
+    assert_eq!(session.ask(b"ad\n\n"), "2 refused 12 0");
+    assert_eq!(session.ask(b"add 0 priority 5 header 0: output 2\n\n"), "3 forwarded 21");
+    // The end of the input ends the last command too.
+    session.send(b"delete 0 priority 5\n");
     drop(session.input.take());
     assert_eq!(session.line(), "4 forwarded 21");
     let (status, said) = session.end();
@@ -197,9 +197,9 @@ fn lines_of_the_gate_and_objects() {
 
     let mut session = Session::new(&["--json", &k_file("json")]);
     session.line();
-    let first = session.ask(b"add 0 priority 5: output 2\n");
+    let first = session.ask(b"add 0 priority 5: output 2\n\n");
     assert!(first.starts_with(r#"{"subject":"command","number":1,"command":"add "#), "{first}");
-    let second = session.ask(b"\x07\n");
+    let second = session.ask(b"\x07\n\n");
     let faulty =
         r#"{"subject":"command","number":2,"answer":"faulty","file":"command 2","line":1,"#;
     assert!(second.starts_with(faulty), "{second}");
@@ -232,7 +232,7 @@ fn commands_of_the_file_come_first() {
     for line in K_LINES.lines() {
         assert_eq!(session.line(), line);
     }
-    assert_eq!(session.ask(b"delete 0 priority 5 header 0\n"), "3 forwarded 20");
+    assert_eq!(session.ask(b"delete 0 priority 5 header 0\n\n"), "3 forwarded 20");
     assert_eq!(session.end().0, Some(1));
 }
 
@@ -272,15 +272,90 @@ fn names_of_the_text() {
     assert_eq!(line, words, "{}", ran.said);
 }
 
+/// Lines are continued as in a file: the command is the one that the text says.
+#[test]
+fn continued_lines() {
+    let mut session = Session::new(&["--gate", &k_file("continued")]);
+    assert_eq!(session.line(), "start holds");
+    session.send(b"add 0 priority 5\n");
+    session.send(b"    # the header that may pass\n");
+    session.send(b"\theader 0:\n    output 2\n");
+    assert!(session.lines.recv_timeout(Duration::from_millis(200)).is_err());
+    // An empty line, a comment and the next command end it.
+    assert_eq!(session.ask(b"\n"), "1 forwarded 21");
+    assert_eq!(session.ask(b"delete 0 priority 5\n    header 0\n# done\n"), "2 forwarded 20");
+    assert_eq!(
+        session.ask(b"delete 0 priority 10\n  port 1\nadd 0 priority 5:\n"),
+        "3 forwarded 20"
+    );
+    session.send(b"  output 2\n");
+    drop(session.input.take());
+    assert_eq!(session.line(), "4 blocked 0 3");
+    assert_eq!(session.end(), (Some(1), String::new()));
+    // The rule for one port and header alone is deleted.
+    let words = wegbaro(
+        &["session", &k_file("deleted")],
+        b"delete 0 priority 10\n    port 1 header 0\ndelete 0 priority 10\n",
+    );
+    let lines: Vec<&str> = words.text().lines().skip(1).collect();
+    let deleted = "command 1 (delete 0 priority 10 port 1 header 0): forwarded, the network then";
+    assert!(lines.len() == 2 && lines[0].starts_with(deleted), "{lines:?}");
+    assert!(
+        lines[1].starts_with("command 2 (delete 0 priority 10 port ** header *): "),
+        "{lines:?}"
+    );
+}
+
+/// A line that continues nothing is told, as in a file, and its columns count its spaces.
+#[test]
+fn lines_that_continue_nothing() {
+    let apart = "command 1:1:5: this line starts with a space, but the line before it is no \
+                 statement\n        port 1 header 0\n        ^\n";
+    let after = b"\n    port 1 header 0\ndelete 0 priority 5\n";
+    let ran = wegbaro(&["session", &k_file("apart")], after);
+    assert_eq!(ran.status, Some(2));
+    let told = ran.text().split_once('\n').unwrap().1;
+    assert!(told.starts_with(apart), "{told}");
+    assert!(told.contains("\ncommand 2 (delete 0 "), "{told}");
+    let ran = wegbaro(&["session", &k_file("columns")], b"delete 0 priority 5\n    prot 1\n");
+    let fault = "command 1:2:5: expected the end of the statement, found `prot`\n        prot 1\n";
+    assert!(ran.text().contains(fault), "{}", ran.text());
+    let ran = wegbaro(&["session", &k_file("misspelt")], b"dlete 0 priority 5\n");
+    assert!(ran.text().contains("\n  hint: did you mean `delete`?\n"), "{}", ran.text());
+}
+
+/// A last line without a line break may be cut: it is told, and its command is not run.
+#[test]
+fn a_cut_line() {
+    let words = "end: the input ends within a line, and the command that it belongs to is not run";
+    for (input, answers) in [
+        (&b"delete 0 priority 10"[..], vec![]),
+        (b"delete 0 priority 10\n    port 1", vec![]),
+        (b"delete 0 priority 10\n ", vec![]),
+        (b"delete 0 priority 5\ndelete 0 priority 10", vec!["1 forwarded 20"]),
+    ] {
+        let file = k_file("cut-line");
+        let lines = [&["start holds"], &answers[..], &["end short"]].concat();
+        expect(&["session", "--gate", &file], input, 2, &(lines.join("\n") + "\n"));
+        let ran = wegbaro(&["session", &file], input);
+        assert_eq!(ran.text().lines().last(), Some(words));
+        let ran = wegbaro(&["session", "--json", &file], input);
+        assert_eq!(ran.text().lines().last(), Some(r#"{"subject":"end","answer":"short"}"#));
+    }
+    // A comment is nothing that could be cut.
+    let comment = b"delete 0 priority 5\n# done";
+    expect(&["session", "--gate", &k_file("comment")], comment, 0, "start holds\n1 forwarded 20\n");
+}
+
 /// The session shown in README.md, on K.
 #[test]
 fn the_session_of_the_readme() {
     let readme = include_str!("../README.md");
     let block = &readme[readme.find("    wegbaro session ward.txt\n").unwrap()..];
-    let lines: Vec<&str> = block.lines().map_while(|line| line.strip_prefix("    ")).collect();
-    let [_, start, command, answer] = lines[..] else { panic!("{lines:?}") };
+    let lines: Vec<&str> = block.lines().take(5).map(str::trim).collect();
+    let [_, start, command, "", answer] = lines[..] else { panic!("{lines:?}") };
     let mut session = Session::new(&[&k_file("readme")]);
     assert_eq!(session.line(), start);
-    assert_eq!(session.ask(format!("{command}\n").as_bytes()), answer);
+    assert_eq!(session.ask(format!("{command}\n\n").as_bytes()), answer);
     assert_eq!(session.end(), (Some(0), String::new()));
 }

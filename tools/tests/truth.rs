@@ -2,8 +2,10 @@
 //! fields of the states.
 
 mod common;
+mod seeded;
 
 use common::with_policies;
+use seeded::seeded;
 use std::collections::BTreeMap;
 use wegbaro_tests::formulas::policy;
 use wegbaro_tests::gate::{Answer, Call, Gate, Lent};
@@ -357,7 +359,7 @@ fn all_are_used(nodes: &[Node]) -> bool {
 
 #[test]
 fn random_formulas_for_every_pair_of_states() {
-    let mut random = Random::new(1);
+    let mut random = seeded(1);
     let mut counts = Counts::new();
     let small: Vec<Widths> = all_widths().into_iter().filter(|of| of.bits() <= 6).collect();
     for round in 0..1_500 {
@@ -371,7 +373,7 @@ fn random_formulas_for_every_pair_of_states() {
 
 #[test]
 fn random_formulas_of_wider_wards() {
-    let mut random = Random::new(2);
+    let mut random = seeded(2);
     let mut counts = Counts::new();
     let wide: Vec<Widths> =
         all_widths().into_iter().filter(|of| (7..=8).contains(&of.bits())).collect();
@@ -397,7 +399,7 @@ fn fits_by_closures(random: &mut Random, of: Widths, tree: &Tree, written: usize
 /// Two points of six bits each: what is said of Y shares the bits of X.
 #[test]
 fn two_points_share_their_bits() {
-    let mut random = Random::new(3);
+    let mut random = seeded(3);
     let of = Widths { h: 1, p: 4, w: 2 };
     for _ in 0..10 {
         let point = |random: &mut Random, it| Tree::At(it, random.below(4), random.below(16));
@@ -412,7 +414,7 @@ fn two_points_share_their_bits() {
 /// The same switch among sixteen: each is among the other's bits.
 #[test]
 fn the_same_switch_by_order() {
-    let mut random = Random::new(5);
+    let mut random = seeded(5);
     let of = Widths { h: 1, p: 2, w: 4 };
     let from_outside = Tree::And(vec![Tree::External(1), Tree::Reaches([1, 0])]);
     let again = Tree::And(vec![Tree::Reaches([0, 1]), Tree::Same(Field::Switch, [0, 1], false)]);
@@ -427,7 +429,7 @@ fn the_same_switch_by_order() {
 /// The second implementation finds the lowest state that the formula as written has.
 #[test]
 fn the_lowest_state_of_a_policy() {
-    let mut random = Random::new(4);
+    let mut random = seeded(4);
     let of = Widths { h: 1, p: 2, w: 2 };
     let [mut held, mut violated] = [0, 0];
     for round in 0..300 {

@@ -1,7 +1,8 @@
 //! Nodes, equal ones once, and the nodes of a part of a formula.
 
-use super::parts::{Id, Part, Parts, Sign};
-use crate::formula::{Node, Variable};
+use super::parts::{Id, Part, Parts};
+use crate::formula::{Node, Sign, Variable};
+use crate::kind::node;
 use std::collections::{BTreeMap, BTreeSet, HashMap};
 
 /// The most members of all chains among which pairs are looked for.
@@ -41,7 +42,8 @@ impl Gates<'_> {
     pub(super) fn nodes(mut self, whole: Id) -> Vec<Node> {
         if let Some(truth) = self.parts.constant(whole) {
             // Bit 0 of X is 1 or it is not: the one joined to the other by OR, or by AND.
-            return vec![[0, 0, 0], [3, 0, 0], [if truth { 5 } else { 4 }, 0, 1]];
+            let both = if truth { node::OR } else { node::AND };
+            return vec![[node::BIT, 0, 0], [node::NOT, 0, 0], [both, 0, 1]];
         }
         self.gather(whole);
         let size: usize = self.chains.values().map(|(_, set)| set.len()).sum();
@@ -122,31 +124,31 @@ impl Gates<'_> {
             return *number;
         }
         let number = |variable: Variable| usize::from(variable.number());
-        let node = match self.parts.parts[id].clone() {
+        let made = match self.parts.parts[id].clone() {
             Part::Constant(_) => unreachable!("a constant is the whole formula or no part of it"),
-            Part::Bit(one, bit) => self.nodes.number(0, number(one), bit.into()),
-            Part::Steps(one, other) => self.nodes.number(1, number(one), number(other)),
-            Part::External(one) => self.nodes.number(2, number(one), 0),
+            Part::Bit(one, bit) => self.nodes.number(node::BIT, number(one), bit.into()),
+            Part::Steps(one, other) => self.nodes.number(node::R, number(one), number(other)),
+            Part::External(one) => self.nodes.number(node::E, number(one), 0),
             Part::Not(inside) => {
                 let inside = self.emit(inside);
-                self.nodes.number(3, inside, 0)
+                self.nodes.number(node::NOT, inside, 0)
             }
             Part::Chain(..) => self.emit_chain(id),
             Part::Some(inside, bound) => {
                 let inside = self.emit(inside);
-                self.nodes.number(6, inside, number(bound))
+                self.nodes.number(node::SOME, inside, number(bound))
             }
             Part::All(inside, bound) => {
                 let inside = self.emit(inside);
-                self.nodes.number(7, inside, number(bound))
+                self.nodes.number(node::ALL, inside, number(bound))
             }
             Part::Closure(inside, from, to) => {
                 let inside = self.emit(inside);
-                self.nodes.number(8, inside, 2 * number(from) + number(to))
+                self.nodes.number(node::TC, inside, 2 * number(from) + number(to))
             }
         };
-        self.numbers.insert(id, node);
-        node
+        self.numbers.insert(id, made);
+        made
     }
 
     fn emit_chain(&mut self, id: Id) -> usize {

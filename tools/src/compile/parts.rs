@@ -1,6 +1,6 @@
 //! Parts of a formula in one form each, equal ones once.
 
-use crate::formula::Variable;
+use crate::formula::{Sign, Variable};
 use crate::widths::Widths;
 use crate::written::{Field, Written};
 use std::collections::{BTreeSet, HashMap};
@@ -16,28 +16,6 @@ pub(super) enum Tricks {
     /// That, and two fields are the same if each is among the other's bits. That relation is its
     /// own closure, so that the closure turned round is the relation turned round.
     Order,
-}
-
-#[derive(Clone, Copy, Debug, PartialEq, Eq, Hash, PartialOrd, Ord)]
-pub(super) enum Sign {
-    And,
-    Or,
-}
-
-impl Sign {
-    pub(super) fn other(self) -> Sign {
-        match self {
-            Sign::And => Sign::Or,
-            Sign::Or => Sign::And,
-        }
-    }
-
-    pub(super) fn kind(self) -> u8 {
-        match self {
-            Sign::And => 4,
-            Sign::Or => 5,
-        }
-    }
 }
 
 /// The number of a part.

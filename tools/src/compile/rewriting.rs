@@ -1,7 +1,7 @@
 //! Parts of a formula in other forms, which may have fewer nodes.
 
-use super::parts::{Id, Part, Parts, Sign};
-use crate::formula::Variable;
+use super::parts::{Id, Part, Parts};
+use crate::formula::{Sign, Variable};
 use std::collections::{BTreeMap, HashMap};
 
 impl Parts {
