@@ -464,6 +464,27 @@ fn commands_in_words_are_read_back() {
     }
 }
 
+/// Every part of a record goes by its name: switch, port, header and group.
+#[test]
+fn records_by_their_names() {
+    let statements = [
+        "link icu:up - icu:line",
+        "miss icu: group all",
+        "rule icu priority 7 port line header alarm: set alarm, output up, output controller",
+        "group icu/all: set alarm, output line; output drop",
+        "group icu/3: group all",
+    ];
+    let text = format!(
+        "widths H 1 P 3 W 0\nname switch 0 icu\nname port 0:2 line\nname port 4 up\n\
+         name header 1 alarm\nname group 0/1 all\n{}\n",
+        statements.join("\n")
+    );
+    let source = Source::of_text(parse(&text).unwrap());
+    let standing = Standing { source: &source, book: &Book::default() };
+    let words = source.network[1..].iter().map(|record| standing.record_words(record));
+    assert_eq!(words.collect::<Vec<String>>(), statements);
+}
+
 /// A group in words, with the names of its text.
 #[test]
 fn groups_in_words() {
