@@ -1,7 +1,7 @@
 -- Row 16 on a small network with groups, by computation: what each change of one byte of it is refused with, how many groups there may be, which rows come before, and
 -- commands.
 use mathlib.Core.Path.{_≡_, refl}
-use mathlib.Core.List.{[], _∷_, _++_, map}
+use mathlib.Core.List.{List, [], _∷_, _++_, map}
 use mathlib.Core.Option.{none, some}
 use Prim.Native.Nat.{ℕ}
 use lib.ListN.{take, drop, replicate}
@@ -72,6 +72,19 @@ named : map answer ((2, 10, 3) ∷ (3, 10, 2) ∷ (5, 2, 3) ∷ (5, 8, 0) ∷ (3
     ≡ some (16, 2) ∷ some (16, 3) ∷ some (16, 3) ∷ some (16, 5) ∷ some (5, 3) ∷ some (5, 3) ∷ some (3, 8) ∷ []
 unfolding trying
 named = refl
+
+-- a rule's bytes 0 to 7, and four actions, of which the last runs group g
+unfoldable fourth : List ℕ → ℕ → Rec
+fourth front g = record24 (front ++ (4 ∷ 1 ∷ 1 ∷ 3 ∷ 1 ∷ 2 ∷ 3 ∷ 1 ∷ 0 ∷ 3 ∷ 4 ∷ g ∷ 0 ∷ []))
+
+-- the last of four actions, in a rule and in a command, and the last of three buckets, each naming a group that is there and one that is not
+last-named :
+    map (λ g. fileRow [] (take 4 sound ++ (fourth (4 ∷ 0 ∷ 2 ∷ 0 ∷ 0 ∷ 0 ∷ 0 ∷ 0 ∷ []) g ∷ drop 4 sound))) (1 ∷ 2 ∷ [])
+    ++ map (λ g. commandRow sound (fourth (6 ∷ 0 ∷ 2 ∷ 0 ∷ 0 ∷ 0 ∷ 0 ∷ 0 ∷ []) g)) (1 ∷ 2 ∷ [])
+    ++ map (λ g. fileRow [] (altered (altered (altered sound 7 8 3) 7 19 2) 7 20 g)) (0 ∷ 1 ∷ [])
+    ≡ none ∷ some (16, 4) ∷ none ∷ some (16, 0) ∷ none ∷ some (16, 7) ∷ []
+unfolding trying fourth
+last-named = refl
 
 -- sixteen groups pass, and a 17th does not; at a group the misses are incomplete
 many : fileRow [] (front ++ map (toDrop 1) (from 0 16)) ∷ fileRow [] (front ++ (toDrop 0 7 ∷ map (toDrop 1) (from 0 16))) ∷ fileRow [] (take 2 front ++ (toDrop 0 0 ∷ [])) ∷ []

@@ -38,9 +38,13 @@ policy p = record24 (5 ∷ p ∷ 2 ∷ [])
 unfoldable changed : Rec → ℕ → ℕ → Rec
 changed c k v = flat (altered (c ∷ []) 0 k v)
 
+-- a rule's bytes 0 to 7, and four actions: OUTPUT 1, SET 1, OUTPUT 2 and OUTPUT 0, with which byte 20 is not zero
+unfoldable fourActions : List ℕ → Rec
+fourActions front = record24 (front ++ (4 ∷ 1 ∷ 1 ∷ 3 ∷ 2 ∷ 1 ∷ 1 ∷ 1 ∷ 2 ∷ 3 ∷ 1 ∷ 0 ∷ 3 ∷ []))
+
 -- all that these cases compute with
 unfoldable trying : Unit {0}
-unfolding refusing flat record24 node A B policy0 K inStore altered addAny addDrop deleteD answer with front rule filled policy changed
+unfolding refusing flat record24 node A B policy0 K inStore altered addAny addDrop deleteD answer with front rule filled policy changed fourActions
 trying = tt
 
 -- rows 1, 2 and 11, place 0: no record, 658 of them, and 657, of which the 21st has no kind; a byte less of store, also with no record; a byte less of work
@@ -123,6 +127,19 @@ passes :
     ≡ replicate 9 none
 unfolding trying
 passes = refl
+
+-- a miss, a rule, an add and a modify with four actions pass; with SET as the fourth they do not
+four-actions :
+    fileRow [] (take 2 K ++ (fourActions (3 ∷ 0 ∷ 0 ∷ 0 ∷ 0 ∷ 0 ∷ 0 ∷ 0 ∷ []) ∷ drop 3 K))
+    ∷ with 6 (fourActions (4 ∷ 0 ∷ 11 ∷ 0 ∷ 1 ∷ 3 ∷ 0 ∷ 1 ∷ []))
+    ∷ commandRow K (fourActions (6 ∷ 0 ∷ 11 ∷ 0 ∷ 1 ∷ 3 ∷ 0 ∷ 1 ∷ []))
+    ∷ commandRow K (fourActions (7 ∷ 0 ∷ 11 ∷ 0 ∷ 1 ∷ 3 ∷ 0 ∷ 1 ∷ []))
+    ∷ with 6 (changed (changed (fourActions (4 ∷ 0 ∷ 11 ∷ 0 ∷ 1 ∷ 3 ∷ 0 ∷ 1 ∷ [])) 18 2) 20 1)
+    ∷ commandRow K (changed (changed (fourActions (6 ∷ 0 ∷ 11 ∷ 0 ∷ 1 ∷ 3 ∷ 0 ∷ 1 ∷ [])) 18 2) 20 1)
+    ∷ []
+    ≡ none ∷ none ∷ none ∷ none ∷ some (5, 6) ∷ some (12, 0) ∷ []
+unfolding trying
+four-actions = refl
 
 -- row 6: each end at drop and at the controller, and both ends the same point; a second link at each end of the first, by either of its own
 row-6 :
