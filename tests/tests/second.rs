@@ -421,7 +421,7 @@ fn every_bucket_is_generated() {
     let mut targets = BTreeSet::new();
     let mut switches = BTreeSet::new();
     let mut counts = BTreeSet::new();
-    for _ in 0..400 {
+    for _ in 0..1_200 {
         let records = random_network(&mut random, of, MODEST);
         let groups: Vec<Record> = records.into_iter().filter(|record| record[0] == 9).collect();
         counts.insert(groups.len());
