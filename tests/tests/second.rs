@@ -331,6 +331,13 @@ fn commands_without_their_group_are_refused() {
 }
 
 #[test]
+fn other_inputs_by_another_number() {
+    let drawn = |number: &str| Random::with(1, Some(number)).word();
+    assert_eq!(Random::with(1, None).word(), drawn("0"));
+    assert_eq!(BTreeSet::from(["0", "1", "2"].map(drawn)).len(), 3);
+}
+
+#[test]
 fn wishes_are_met() {
     let mut random = Random::new(14);
     let of = Widths { h: 2, p: 3, w: 1 };
