@@ -10,18 +10,19 @@ pub struct Random {
 /// each draws those of its own seed.
 pub const SEED: &str = "WEGBARO_SEED";
 
-/// The number of the environment variable.
-fn seed_of_all() -> u64 {
-    match env::var(SEED) {
-        Ok(text) => text.parse().unwrap_or_else(|_| panic!("{SEED} is no number: {text}")),
-        Err(_) => 0,
-    }
-}
-
 impl Random {
     /// The generator of a test's seed.
     pub fn new(seed: u64) -> Random {
-        Random { state: seed.wrapping_add(seed_of_all() << 32) }
+        Random::with(seed, env::var(SEED).ok().as_deref())
+    }
+
+    /// The same, with what the environment variable has.
+    pub fn with(seed: u64, number: Option<&str>) -> Random {
+        let number: u64 = match number {
+            Some(text) => text.parse().unwrap_or_else(|_| panic!("{SEED} is no number: {text}")),
+            None => 0,
+        };
+        Random { state: seed.wrapping_add(number << 32) }
     }
 
     /// The next 64 bits.

@@ -331,6 +331,13 @@ fn commands_without_their_group_are_refused() {
 }
 
 #[test]
+fn other_inputs_by_another_number() {
+    let drawn = |number: &str| Random::with(1, Some(number)).word();
+    assert_eq!(Random::with(1, None).word(), drawn("0"));
+    assert_eq!(BTreeSet::from(["0", "1", "2"].map(drawn)).len(), 3);
+}
+
+#[test]
 fn wishes_are_met() {
     let mut random = Random::new(14);
     let of = Widths { h: 2, p: 3, w: 1 };
@@ -421,7 +428,7 @@ fn every_bucket_is_generated() {
     let mut targets = BTreeSet::new();
     let mut switches = BTreeSet::new();
     let mut counts = BTreeSet::new();
-    for _ in 0..400 {
+    for _ in 0..1_200 {
         let records = random_network(&mut random, of, MODEST);
         let groups: Vec<Record> = records.into_iter().filter(|record| record[0] == 9).collect();
         counts.insert(groups.len());
