@@ -1,6 +1,6 @@
 //! Verdicts by decision diagrams on BuDDy, and their times.
 
-use crate::gate::{Answer, Call, Gate, Lent};
+use crate::gate::{Call, Gate, Lent};
 use crate::library::Library;
 use crate::records::Record;
 use std::fs;
@@ -53,9 +53,5 @@ impl Diagrams {
 
 /// The library's verdict on a sound network, in the program's words.
 fn verdict_on(records: &[Record]) -> String {
-    match Library.answer(&Call::Check, &mut Lent::just(records)) {
-        Answer::Holds => "holds".to_string(),
-        Answer::Violated { policy, state } => format!("violated {policy} {state}"),
-        refused => panic!("{refused:?}"),
-    }
+    Library.answer(&Call::Check, &mut Lent::just(records)).to_string()
 }

@@ -2,6 +2,7 @@
 
 use crate::networks::{work_needed, Widths};
 use crate::records::Record;
+use std::fmt;
 
 /// Bytes of a record.
 pub const RECORD: usize = 24;
@@ -69,6 +70,21 @@ impl Answer {
 
     pub fn is_refused(self) -> bool {
         matches!(self, Answer::Refused { .. })
+    }
+}
+
+/// The words for it, as the program prints them: its case and its numbers.
+impl fmt::Display for Answer {
+    fn fmt(&self, f: &mut fmt::Formatter) -> fmt::Result {
+        let case = self.case();
+        match self {
+            Answer::Holds | Answer::NoRoute => write!(f, "{case}"),
+            Answer::Violated { policy, state } | Answer::Blocked { policy, state } => {
+                write!(f, "{case} {policy} {state}")
+            }
+            Answer::Forwarded { count } | Answer::Found { count } => write!(f, "{case} {count}"),
+            Answer::Refused { place, .. } => write!(f, "{case} {place}"),
+        }
     }
 }
 

@@ -41,18 +41,6 @@ fn listing(document: &str) -> Vec<Record> {
     found
 }
 
-/// The words for an answer.
-fn words(answer: Answer) -> String {
-    match answer {
-        Answer::Violated { policy, state } => format!("violated {policy} {state}"),
-        Answer::Forwarded { count } => format!("forwarded {count}"),
-        Answer::Blocked { policy, state } => format!("blocked {policy} {state}"),
-        Answer::Found { count } => format!("found {count}"),
-        Answer::Refused { number, place } => format!("refused {number} {place}"),
-        Answer::Holds | Answer::NoRoute => answer.case(),
-    }
-}
-
 /// The check call's answer to network K changed as the words say.
 fn answer_to(changes: &str) -> String {
     let mut lent = Lent::just(&k());
@@ -73,14 +61,15 @@ fn answer_to(changes: &str) -> String {
         }
     }
     lent.store.resize(store_len, 0);
-    words(Library.answer(&Call::Check, &mut lent))
+    Library.answer(&Call::Check, &mut lent).to_string()
 }
 
 /// The command call's answer on network K with a version.
 fn answer_on_k(version: u8, command: &str) -> String {
     let mut lent = Lent::just(&k());
     lent.store[4] = version;
-    words(Library.answer(&Call::Command(record(&bytes(command)).to_vec()), &mut lent))
+    let given = record(&bytes(command)).to_vec();
+    Library.answer(&Call::Command(given), &mut lent).to_string()
 }
 
 /// The route call's answer on network K, and the route.
@@ -90,7 +79,7 @@ fn route_in_k(start: &str, end: &str) -> [String; 2] {
     let answer = Library.answer(&Call::Route { start, end }, &mut lent);
     let written = &lent.list[..answer.count().unwrap_or(0)];
     let states: Vec<String> = written.iter().map(u16::to_string).collect();
-    [words(answer), states.join(", ")]
+    [answer.to_string(), states.join(", ")]
 }
 
 #[test]

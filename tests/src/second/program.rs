@@ -12,7 +12,7 @@ pub fn program(input: &[u8]) -> Vec<u8> {
     let whole = network.len() / RECORD;
     let cut = network.len() % RECORD != 0;
     let text = if whole > MOST_RECORDS {
-        format!("start {}\n", words(Answer::Refused { number: 1, place: 0 }))
+        format!("start {}\n", Answer::Refused { number: 1, place: 0 })
     } else if cut {
         END_SHORT.to_string()
     } else {
@@ -36,7 +36,7 @@ fn run(network: &[u8], commands: &[u8]) -> String {
     let n = network.len() / RECORD;
     let mut lent = Lent { store, n, work: vec![0; WORK], ..Lent::default() };
     let start = Second.answer(&Call::Check, &mut lent);
-    let mut text = format!("start {}\n", words(start));
+    let mut text = format!("start {start}\n");
     if start != Answer::Holds {
         return text;
     }
@@ -46,20 +46,8 @@ fn run(network: &[u8], commands: &[u8]) -> String {
         } else {
             let answer = Second.answer(&Call::Command(given.to_vec()), &mut lent);
             lent.go_on(answer);
-            text += &format!("{number} {}\n", words(answer));
+            text += &format!("{number} {answer}\n");
         }
     }
     text
-}
-
-/// The words for an answer to a check or a command.
-fn words(answer: Answer) -> String {
-    match answer {
-        Answer::Holds => "holds".to_string(),
-        Answer::Violated { policy, state } => format!("violated {policy} {state}"),
-        Answer::Forwarded { count } => format!("forwarded {count}"),
-        Answer::Blocked { policy, state } => format!("blocked {policy} {state}"),
-        Answer::Refused { number, place } => format!("refused {number} {place}"),
-        other => unreachable!("no answer to a check or a command: {other:?}"),
-    }
 }
