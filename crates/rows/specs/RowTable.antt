@@ -4,9 +4,10 @@ use mathlib.Core.List.{List, [], _∷_, _++_, map}
 use mathlib.Core.Option.{none, some}
 use Prim.Native.Nat.{ℕ, _/_, _%_}
 use lib.ListN.{take, drop, replicate}
-use Rattle.records.specs.Lists.{from}
+use Rattle.records.specs.Lists.{keep, from}
 use Rattle.records.specs.Record.{Rec, Net, flat}
 use Rattle.records.specs.NetK.{record24, node, A, B, policy0, K, inStore, altered, addAny, addDrop, deleteD}
+use Rattle.rows.specs.Rows.{operandsGood}
 use Rattle.rows.specs.Refusal.{Refusal, recordRow, fileRow, networkRow, checkRefusal, commandRow}
 use Rattle.rows.specs.Computing.{refusing}
 
@@ -176,6 +177,13 @@ row-9-operands :
     ≡ some (9, 8) ∷ some (9, 8) ∷ some (9, 9) ∷ some (9, 9) ∷ some (9, 11) ∷ some (9, 18) ∷ some (9, 8) ∷ []
 unfolding trying
 row-9-operands = refl
+
+-- row 9, bytes 3 and 4 of each node kind, and of none, as number 2 of its policy: an operand is 0 or 1, and what is none may be any byte
+operands :
+    (map (λ k. keep (λ a. operandsGood k a 0 2) (from 0 4)) (from 0 10) ≡ replicate 3 (from 0 4) ++ replicate 6 (from 0 2) ++ ([] ∷ []))
+    × (map (λ k. keep (λ b. operandsGood k 0 b 2) (from 0 4)) (from 0 10) ≡ replicate 4 (from 0 4) ++ replicate 2 (from 0 2) ++ replicate 3 (from 0 4) ++ ([] ∷ []))
+unfolding trying
+operands = (refl, refl)
 
 -- row 9, the policy: the first is 1, and after policy 0 come 2 and 8
 row-9-policy : map answer ((6, 1, 1) ∷ (8, 1, 2) ∷ (8, 1, 8) ∷ []) ≡ some (9, 6) ∷ some (9, 8) ∷ some (9, 8) ∷ []
