@@ -129,7 +129,7 @@ passes :
 unfolding trying
 passes = refl
 
--- a miss, a rule, an add and a modify with four actions pass; with SET as the fourth they do not
+-- a miss, a rule, an add and a modify with four actions pass; a rule and an add with SET as the fourth do not
 four-actions :
     fileRow [] (take 2 K ++ (fourActions (3 ∷ 0 ∷ 0 ∷ 0 ∷ 0 ∷ 0 ∷ 0 ∷ 0 ∷ []) ∷ drop 3 K))
     ∷ with 6 (fourActions (4 ∷ 0 ∷ 11 ∷ 0 ∷ 1 ∷ 3 ∷ 0 ∷ 1 ∷ []))
@@ -141,6 +141,11 @@ four-actions :
     ≡ none ∷ none ∷ none ∷ none ∷ some (5, 6) ∷ some (12, 0) ∷ []
 unfolding trying
 four-actions = refl
+
+-- nor does a rule in which the value of one of them, each in its turn, is beyond its care
+each-action : map (λ k. with 6 (changed (fourActions (4 ∷ 0 ∷ 11 ∷ 0 ∷ 1 ∷ 3 ∷ 0 ∷ 1 ∷ [])) k 4)) (10 ∷ 13 ∷ 16 ∷ 19 ∷ []) ≡ replicate 4 (some (5, 6))
+unfolding trying
+each-action = refl
 
 -- row 6: each end at drop and at the controller, and both ends the same point; a second link at each end of the first, by either of its own
 row-6 :
