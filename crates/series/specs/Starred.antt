@@ -21,7 +21,7 @@ use Rattle.truth.specs.Computed.{allBelow, truth}
 use Rattle.verdict.specs.Computed.{tableOf}
 use Rattle.verdict.specs.Judgement.{verdict, verdict-meant}
 use Rattle.verdict.specs.Computing.{judging}
-use Rattle.truth.specs.Laws.Tables.{all-iff}
+use Rattle.truth.specs.Laws.Tables.{beq-same, all-iff}
 use Rattle.calls.specs.Answer.{CheckAnswer, CommandAnswer, forwarded, blocked}
 use Rattle.commands.specs.Apply.{asRule, withActions, changed, inserted, removed, added, applied, wouldLeave}
 use Rattle.calls.specs.Check.{checkAnswer}
@@ -126,12 +126,6 @@ count-K = refl
 
 below-32 : (s : ℕ) → s < 32 → s < states (widthsOf K)
 below-32 s h = subst⁻¹ (λ (n : ℕ). s < n) count-K h
-
-beq-same : (a b : Bool) → Bool·beq a b ≡ true → a ≡ b
-beq-same true true e = refl
-beq-same true false e = sym e
-beq-same false true e = e
-beq-same false false e = refl
 
 -- a test of the closure of K's steps at every state, against a list
 reach-test : allBelow 32 (λ t. Bool·beq (truth (tableOf K) (TC (R X Y) X Y) 2 t) (member t (10 ∷ 20 ∷ 28 ∷ []))) ≡ true

@@ -13,7 +13,7 @@ use Rattle.records.specs.Policy.{formula}
 use Rattle.records.specs.NodeTable.{nodes, nodeCount, reading}
 use Rattle.truth.specs.Truth.{Model, Truth}
 use Rattle.truth.specs.Computed.{Table, anyBelow, allBelow, truth}
-use Rattle.truth.specs.Laws.Tables.{Agrees, all-iff, truth-at}
+use Rattle.truth.specs.Laws.Tables.{Agrees, beq-same, all-iff, truth-at}
 
 -- 0 steps to 1, 1 to 2, 2 to 1 and to itself, and 3 nowhere: neither symmetric nor transitive; the point of 1 alone is external
 unfoldable four : Table
@@ -89,12 +89,6 @@ each-computed = refl
 four-agrees : Agrees model four
 unfolding four
 four-agrees = record { counts = refl; steps-agree = λ x y hx hy. (λ e. e, λ e. e); externals-agree = λ x hx. (λ e. e, λ e. e) }
-
-beq-same : (a b : Bool) → Bool·beq a b ≡ true → a ≡ b
-beq-same true true e = refl
-beq-same true false e = sym e
-beq-same false true e = e
-beq-same false false e = refl
 
 -- a node is true with X and Y exactly if the table has Y
 as-table : (i x y : ℕ) → i < nodeCount → x < 4 → y < 4 → Truth model (formula nodes i) x y ↔ listed i x y ≡ true

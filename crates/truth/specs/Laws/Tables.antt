@@ -1,6 +1,6 @@
 -- The computed truth of a formula is true exactly where the formula is.
 use mathlib.Core.Path.{_≡_, refl, sym, ap, subst, subst⁻¹, _∙_}
-use mathlib.Core.Bool.{Bool, true, false, not, false≢true}
+use mathlib.Core.Bool.{Bool, true, false, not, Bool·beq, false≢true}
 use mathlib.Core.Logic.{_↔_, _⊎_, inl, inr, ⊎-elim}
 use Prim.Native.Nat.{ℕ, zero, suc, _<_}
 use native.Mathlib.Nat.{not-suc-le-zero}
@@ -45,6 +45,13 @@ and-iff false b e f = (λ t. absurd (false≢true t), λ p. e .1 (p .0))
 or-iff : {P Q : Type 0} (a b : Bool) → a ≡ true ↔ P → b ≡ true ↔ Q → _≡_ {A = Bool} (elim a [ true ↦ true | false ↦ b ]) true ↔ (P ⊎ Q)
 or-iff true b e f = (λ t. inl (e .0 refl), λ p. refl)
 or-iff false b e f = (λ t. inr (f .0 t), λ p. ⊎-elim (λ u. absurd (false≢true (e .1 u))) (λ u. f .1 u) p)
+
+-- two tests that are found to be the same
+pub beq-same : (a b : Bool) → Bool·beq a b ≡ true → a ≡ b
+beq-same true true e = refl
+beq-same true false e = sym e
+beq-same false true e = e
+beq-same false false e = refl
 
 -- a number below suc k is k, or is below k
 below : {P : Type 0} (z k : ℕ) → z < suc k → (z ≡ k → P) → (z < k → P) → P
