@@ -1,6 +1,6 @@
 # Builds and installs Wegbaro. README.md says what has to be there first.
 #
-#   make             proves and builds everything that has changed
+#   make             proves and builds everything, and does nothing where nothing has changed
 #   make install     installs it under PREFIX, /usr/local if not given; DESTDIR is put in front
 #   make uninstall   removes what `make install` installs
 #   make test        the whole gate, .ci/run
@@ -34,15 +34,32 @@ shared := target/sharedlib/libwegbaro.so.$(VERSION)
 gate := target/bin/gate
 program := target/rust/release/wegbaro
 
-.PHONY: all proved program shared install uninstall test
+# Written when both are proved and built; it has the version of rt.
+made := target/made
 
-all: proved
-	$(MAKE) program shared
+# What is proved. A folder counts too: it is newer when a file of it is gone.
+sources := crates.txt $(shell find crates -name must-fail -prune -o -print)
 
-# rt finds out itself which crates have changed since they were proved.
-proved:
-	$(RT) staticlib wegbaro
-	$(RT) check gate
+.PHONY: all there anew program shared install uninstall test
+
+all: there
+	$(MAKE) --no-print-directory $(made)
+	$(MAKE) --no-print-directory program shared
+
+# What has to be there, told at once before a proof is begun.
+there:
+	@absent=; \
+	for program in $(firstword $(RT)) cargo $(firstword $(CC)); do \
+	    command -v $$program > /dev/null || absent="$$absent $$program"; \
+	done; \
+	test -z "$$absent" || { echo "not installed:$$absent; README.md says where to get it" >&2; exit 1; }
+
+# rt would prove the library's own crate again each time. So it is asked only if a source or rt itself is another one, or
+# if something is not there.
+known := $(shell test -f $(static) && test -f $(gate) && $(RT) version 2> /dev/null | cmp -s - $(made) && echo yes)
+$(made): $(sources) $(if $(known),,anew)
+	packaging/prove $(RT)
+	$(RT) version > $@
 
 # The program is linked with the static library.
 program: $(static)
@@ -51,11 +68,11 @@ program: $(static)
 shared: $(shared)
 
 $(static):
-	$(RT) staticlib wegbaro
+	$(MAKE) --no-print-directory $(made)
 
-# One after the other: both prove the same crates.
+# Both are built at once.
 $(gate): | $(static)
-	$(RT) check gate
+	$(MAKE) --no-print-directory $(made)
 
 $(program):
 	$(MAKE) program

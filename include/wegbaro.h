@@ -139,6 +139,287 @@ static __inline__ unsigned int wegbaro_second(wegbaro_answer answer)
     return (unsigned int)(answer >> 18 & 65535);
 }
 
+/* ---- Records ---- */
+
+/* A record, or a command. An array of them is laid out as a store is.
+ *
+ * The functions below make records of their parts. They take every number: one that has no room in its field, as a fifth
+ * action has none, makes a record that the calls refuse, and never one that means something else. */
+typedef struct {
+    unsigned char bytes[WEGBARO_RECORD_BYTES];
+} wegbaro_record;
+
+/* A set of numbers: where a bit of `care` is 1 the bit must be that of `value`, and where it is 0 any bit matches. */
+typedef struct {
+    unsigned char value;
+    unsigned char care;
+} wegbaro_pattern;
+
+/* What a rule, or a miss, does with a frame. */
+typedef struct {
+    unsigned char bytes[3];
+} wegbaro_action;
+
+/* What a group does with one copy of a frame. */
+typedef struct {
+    unsigned char bytes[4];
+} wegbaro_bucket;
+
+/* The variables of a policy. */
+#define WEGBARO_X 0
+#define WEGBARO_Y 1
+
+/* For the functions below: a number as a byte. No field goes up to 255, so that 255 is refused. */
+static __inline__ unsigned char wegbaro_byte(unsigned int number)
+{
+    return (unsigned char)(number < 255 ? number : 255);
+}
+
+/* For the functions below: a record from its first bytes; the others are zero. */
+static __inline__ wegbaro_record wegbaro_laid_out(unsigned int kind, unsigned int one, unsigned int two, unsigned int three,
+                                                  unsigned int four)
+{
+    wegbaro_record record = {{0}};
+
+    record.bytes[0] = wegbaro_byte(kind);
+    record.bytes[1] = wegbaro_byte(one);
+    record.bytes[2] = wegbaro_byte(two);
+    record.bytes[3] = wegbaro_byte(three);
+    record.bytes[4] = wegbaro_byte(four);
+    return record;
+}
+
+/* For the functions below: the record with a part of `size` bytes more, at most `most` of which have room. One more is
+ * counted alone, which is refused. */
+static __inline__ wegbaro_record wegbaro_with_part(wegbaro_record record, const unsigned char *part, unsigned int size,
+                                                   unsigned int most)
+{
+    unsigned int count = record.bytes[8];
+    unsigned int i;
+
+    for (i = 0; i < size && count < most; i++)
+        record.bytes[9 + count * size + i] = part[i];
+    if (count <= most)
+        record.bytes[8] = (unsigned char)(count + 1);
+    return record;
+}
+
+/* The pattern with these bits. */
+static __inline__ wegbaro_pattern wegbaro_bits(unsigned int value, unsigned int care)
+{
+    wegbaro_pattern pattern;
+
+    pattern.value = wegbaro_byte(value);
+    pattern.care = wegbaro_byte(care);
+    return pattern;
+}
+
+/* The pattern of every number; as what is set, of nothing. */
+static __inline__ wegbaro_pattern wegbaro_any(void)
+{
+    return wegbaro_bits(0, 0);
+}
+
+/* The pattern of one number of so many bits. */
+static __inline__ wegbaro_pattern wegbaro_exactly(unsigned int number, unsigned int width)
+{
+    return wegbaro_bits(number, width < 8 ? (1u << width) - 1 : 255);
+}
+
+/* The widths H, P and W, and the version: 1 for OpenFlow 1.0, 4 for OpenFlow 1.3, and 0 reads as 4. */
+static __inline__ wegbaro_record wegbaro_widths(unsigned int header, unsigned int port, unsigned int switch_bits,
+                                                unsigned int version)
+{
+    return wegbaro_laid_out(1, header, port, switch_bits, version);
+}
+
+/* A link between two points. */
+static __inline__ wegbaro_record wegbaro_link(unsigned int of_switch, unsigned int port, unsigned int other_switch,
+                                              unsigned int other_port)
+{
+    return wegbaro_laid_out(2, of_switch, port, other_switch, other_port);
+}
+
+/* The miss of a switch, without its actions: wegbaro_with_action gives it 1 to 4. */
+static __inline__ wegbaro_record wegbaro_miss(unsigned int of_switch)
+{
+    return wegbaro_laid_out(3, of_switch, 0, 0, 0);
+}
+
+/* A rule for the frames of a port and a header pattern, without its actions, as above. */
+static __inline__ wegbaro_record wegbaro_rule(unsigned int of_switch, unsigned int priority, wegbaro_pattern port,
+                                              wegbaro_pattern header)
+{
+    wegbaro_record record = wegbaro_laid_out(4, of_switch, priority & 255, priority >> 8 & 255, port.value);
+
+    record.bytes[5] = port.care;
+    record.bytes[6] = header.value;
+    record.bytes[7] = header.care;
+    /* A byte that must be zero: no priority is refused by itself. */
+    record.bytes[WEGBARO_RECORD_BYTES - 1] = priority >> 16 != 0;
+    return record;
+}
+
+/* The command that adds a rule, with its actions. */
+static __inline__ wegbaro_record wegbaro_add(wegbaro_record rule)
+{
+    rule.bytes[0] = 6;
+    return rule;
+}
+
+/* The command that gives these actions to a rule that is there. */
+static __inline__ wegbaro_record wegbaro_modify(wegbaro_record rule)
+{
+    rule.bytes[0] = 7;
+    return rule;
+}
+
+/* The command that deletes a rule; its actions do not matter. */
+static __inline__ wegbaro_record wegbaro_delete(wegbaro_record rule)
+{
+    unsigned int i;
+
+    rule.bytes[0] = 8;
+    for (i = 8; i < 21; i++)
+        rule.bytes[i] = 0;
+    return rule;
+}
+
+/* For the functions below: an action by its kind. */
+static __inline__ wegbaro_action wegbaro_action_of(unsigned char kind, wegbaro_pattern pattern)
+{
+    wegbaro_action action;
+
+    action.bytes[0] = kind;
+    action.bytes[1] = pattern.value;
+    action.bytes[2] = pattern.care;
+    return action;
+}
+
+/* Sends a copy to the ports of a pattern, but not to the port of arrival. */
+static __inline__ wegbaro_action wegbaro_output(wegbaro_pattern ports)
+{
+    return wegbaro_action_of(1, ports);
+}
+
+/* Writes the bits of a pattern into the header. */
+static __inline__ wegbaro_action wegbaro_set(wegbaro_pattern header)
+{
+    return wegbaro_action_of(2, header);
+}
+
+/* Sends a copy back to the port of arrival. */
+static __inline__ wegbaro_action wegbaro_in_port(void)
+{
+    return wegbaro_action_of(3, wegbaro_any());
+}
+
+/* Runs a group of the same switch. */
+static __inline__ wegbaro_action wegbaro_run_group(unsigned int number)
+{
+    return wegbaro_action_of(4, wegbaro_bits(number, 0));
+}
+
+/* A miss, a rule, an add or a modify with an action more, behind those that it has. */
+static __inline__ wegbaro_record wegbaro_with_action(wegbaro_record record, wegbaro_action action)
+{
+    return wegbaro_with_part(record, action.bytes, 3, 4);
+}
+
+/* A group of a switch, without its buckets: wegbaro_with_bucket gives it 1 to 3. */
+static __inline__ wegbaro_record wegbaro_group(unsigned int of_switch, unsigned int number)
+{
+    return wegbaro_laid_out(9, of_switch, number, 0, 0);
+}
+
+/* For the functions below: a bucket by the kind of its target. */
+static __inline__ wegbaro_bucket wegbaro_bucket_of(wegbaro_pattern set, unsigned char kind, unsigned int number)
+{
+    wegbaro_bucket bucket;
+
+    bucket.bytes[0] = set.value;
+    bucket.bytes[1] = set.care;
+    bucket.bytes[2] = kind;
+    bucket.bytes[3] = wegbaro_byte(number);
+    return bucket;
+}
+
+/* Sets the header and sends the copy to a port, unless the frame arrived there. */
+static __inline__ wegbaro_bucket wegbaro_to_port(wegbaro_pattern set, unsigned int port)
+{
+    return wegbaro_bucket_of(set, 1, port);
+}
+
+/* Sets the header and runs a lower group of the same switch. */
+static __inline__ wegbaro_bucket wegbaro_to_group(wegbaro_pattern set, unsigned int number)
+{
+    return wegbaro_bucket_of(set, 2, number);
+}
+
+/* A group with a bucket more, behind those that it has. */
+static __inline__ wegbaro_record wegbaro_with_bucket(wegbaro_record group, wegbaro_bucket bucket)
+{
+    return wegbaro_with_part(group, bucket.bytes, 4, 3);
+}
+
+/* The nodes of a policy, each the policy's number and what it is. An operand is the number of an earlier node of the same
+ * policy, from 0. The last node is what the policy forbids.
+ *
+ * A bit of the state's number is 1. */
+static __inline__ wegbaro_record wegbaro_node_bit(unsigned int policy, unsigned int variable, unsigned int bit)
+{
+    return wegbaro_laid_out(5, policy, 0, variable, bit);
+}
+
+/* The first state steps to the second. */
+static __inline__ wegbaro_record wegbaro_node_r(unsigned int policy, unsigned int from, unsigned int to)
+{
+    return wegbaro_laid_out(5, policy, 1, from, to);
+}
+
+/* The state's point is external. */
+static __inline__ wegbaro_record wegbaro_node_e(unsigned int policy, unsigned int variable)
+{
+    return wegbaro_laid_out(5, policy, 2, variable, 0);
+}
+
+/* The operand is false. */
+static __inline__ wegbaro_record wegbaro_node_not(unsigned int policy, unsigned int operand)
+{
+    return wegbaro_laid_out(5, policy, 3, operand, 0);
+}
+
+/* Both operands are true. */
+static __inline__ wegbaro_record wegbaro_node_and(unsigned int policy, unsigned int one, unsigned int other)
+{
+    return wegbaro_laid_out(5, policy, 4, one, other);
+}
+
+/* At least one operand is true. */
+static __inline__ wegbaro_record wegbaro_node_or(unsigned int policy, unsigned int one, unsigned int other)
+{
+    return wegbaro_laid_out(5, policy, 5, one, other);
+}
+
+/* The operand is true for some state as that variable. */
+static __inline__ wegbaro_record wegbaro_node_some(unsigned int policy, unsigned int operand, unsigned int variable)
+{
+    return wegbaro_laid_out(5, policy, 6, operand, variable);
+}
+
+/* The operand is true for every state as that variable. */
+static __inline__ wegbaro_record wegbaro_node_all(unsigned int policy, unsigned int operand, unsigned int variable)
+{
+    return wegbaro_laid_out(5, policy, 7, operand, variable);
+}
+
+/* A walk over pairs that make the operand true leads from the first state to the second. */
+static __inline__ wegbaro_record wegbaro_node_tc(unsigned int policy, unsigned int operand, unsigned int from,
+                                                 unsigned int to)
+{
+    return wegbaro_laid_out(5, policy, 8, operand, from < 2 && to < 2 ? 2 * from + to : 255);
+}
+
 /* ---- Calls ---- */
 
 /* The check call: judges the network of the first n records of the store.

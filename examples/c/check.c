@@ -8,34 +8,46 @@
 
 #define COUNT(array) (sizeof(array) / sizeof(array)[0])
 
-/* The records of network K. Bytes left out are zero. */
-static const unsigned char network[][WEGBARO_RECORD_BYTES] = {
-    {1, 1, 2, 1}, /* widths: H 1, P 2, W 1 */
-    {2, 0, 2, 1, 1}, /* link (switch 0, port 2) to (1, 1) */
-    {3, 0, 0, 0, 0, 0, 0, 0, 1, 1, 0, 3}, /* miss of switch 0: OUTPUT 0 */
-    {3, 1, 0, 0, 0, 0, 0, 0, 1, 1, 0, 3}, /* miss of switch 1: OUTPUT 0 */
-    {4, 0, 10, 0, 1, 3, 0, 1, 1, 1, 2, 3}, /* rule A: switch 0, priority 10, port 1, header 0, OUTPUT 2 */
-    {4, 1, 10, 0, 1, 3, 0, 0, 1, 1, 2, 3}, /* rule B: switch 1, priority 10, port 1, any header, OUTPUT 2 */
-    {5, 0, 2, 0, 0}, /* policy 0, node 0: E X */
-    {5, 0, 0, 0, 4}, /* 1: BIT X 4 */
-    {5, 0, 3, 1, 0}, /* 2: NOT 1 */
-    {5, 0, 4, 0, 2}, /* 3: AND 0 2 */
-    {5, 0, 1, 0, 1}, /* 4: R X Y */
-    {5, 0, 8, 4, 1}, /* 5: TC 4 (X,Y) */
-    {5, 0, 2, 1, 0}, /* 6: E Y */
-    {5, 0, 0, 1, 4}, /* 7: BIT Y 4 */
-    {5, 0, 0, 1, 0}, /* 8: BIT Y 0 */
-    {5, 0, 4, 6, 7}, /* 9: AND 6 7 */
-    {5, 0, 4, 9, 8}, /* 10: AND 9 8 */
-    {5, 0, 4, 5, 10}, /* 11: AND 5 10 */
-    {5, 0, 6, 11, 1}, /* 12: SOME 11 Y */
-    {5, 0, 4, 3, 12}, /* 13: AND 3 12 */
-};
+/* A rule that sends to port 2; K has two bits for a port's number. */
+static wegbaro_record to_2(wegbaro_record rule)
+{
+    return wegbaro_with_action(rule, wegbaro_output(wegbaro_exactly(2, 2)));
+}
 
-static const unsigned char commands[][WEGBARO_RECORD_BYTES] = {
-    {6, 0, 5, 0, 0, 0, 0, 0, 1, 1, 2, 3}, /* add: switch 0, priority 5, any port, any header, OUTPUT 2 */
-    {6, 0, 5, 0, 0, 0, 0, 1, 1, 1, 2, 3}, /* the same with header 0 */
-};
+/* The miss of a switch that drops what no rule matches. */
+static wegbaro_record dropping(unsigned int of_switch)
+{
+    return wegbaro_with_action(wegbaro_miss(of_switch), wegbaro_output(wegbaro_exactly(0, 2)));
+}
+
+/* Puts the records of network K in place; their count. */
+static size_t build(wegbaro_record *network)
+{
+    const wegbaro_pattern port_1 = wegbaro_exactly(1, 2), header_0 = wegbaro_exactly(0, 1), any = wegbaro_any();
+    size_t n = 0;
+
+    network[n++] = wegbaro_widths(1, 2, 1, 0);
+    network[n++] = wegbaro_link(0, 2, 1, 1);
+    network[n++] = dropping(0);
+    network[n++] = dropping(1);
+    network[n++] = to_2(wegbaro_rule(0, 10, port_1, header_0));
+    network[n++] = to_2(wegbaro_rule(1, 10, port_1, any));
+    network[n++] = wegbaro_node_e(0, WEGBARO_X); /* 0 */
+    network[n++] = wegbaro_node_bit(0, WEGBARO_X, 4); /* 1 */
+    network[n++] = wegbaro_node_not(0, 1); /* 2 */
+    network[n++] = wegbaro_node_and(0, 0, 2); /* 3: X arrives at an external point */
+    network[n++] = wegbaro_node_r(0, WEGBARO_X, WEGBARO_Y); /* 4 */
+    network[n++] = wegbaro_node_tc(0, 4, WEGBARO_X, WEGBARO_Y); /* 5: X gets to Y */
+    network[n++] = wegbaro_node_e(0, WEGBARO_Y); /* 6 */
+    network[n++] = wegbaro_node_bit(0, WEGBARO_Y, 4); /* 7 */
+    network[n++] = wegbaro_node_bit(0, WEGBARO_Y, 0); /* 8 */
+    network[n++] = wegbaro_node_and(0, 6, 7); /* 9: Y departs at an external point */
+    network[n++] = wegbaro_node_and(0, 9, 8); /* 10: with header 1 */
+    network[n++] = wegbaro_node_and(0, 5, 10); /* 11 */
+    network[n++] = wegbaro_node_some(0, 11, WEGBARO_Y); /* 12 */
+    network[n++] = wegbaro_node_and(0, 3, 12); /* 13: what policy 0 forbids */
+    return n;
+}
 
 static unsigned char store[WEGBARO_STORE_BYTES];
 
@@ -99,19 +111,23 @@ static void print_route(wegbaro_answer answer)
 
 int main(void)
 {
-    size_t n = COUNT(network);
+    wegbaro_record network[20], commands[2];
+    size_t n = build(network);
     unsigned int i;
 
     if (!wegbaro_is_compatible()) {
         fprintf(stderr, "built for Wegbaro %s, and the library is %lu\n", WEGBARO_VERSION, wegbaro_version());
         return 1;
     }
-    memcpy(store, network, sizeof network);
+    commands[0] = wegbaro_add(to_2(wegbaro_rule(0, 5, wegbaro_any(), wegbaro_any())));
+    commands[1] = wegbaro_add(to_2(wegbaro_rule(0, 5, wegbaro_any(), wegbaro_exactly(0, 1))));
+    memcpy(store, network, n * sizeof *network);
     if (!print_check(wegbaro_check(store, sizeof store, n, work, sizeof work)))
         return 1;
 
     for (i = 0; i < COUNT(commands); i++) {
-        wegbaro_answer answer = wegbaro_command(store, sizeof store, n, work, sizeof work, commands[i], sizeof commands[i]);
+        wegbaro_answer answer = wegbaro_command(store, sizeof store, n, work, sizeof work, commands[i].bytes,
+                                                sizeof commands[i].bytes);
         print_command(i + 1, answer);
         if (wegbaro_case(answer) == WEGBARO_FORWARDED)
             n = wegbaro_first(answer);

@@ -8,6 +8,10 @@ use wegbaro_tests::build::{version_number, Folder};
 use wegbaro_tests::cases::{self, Case};
 use wegbaro_tests::gate::Answer;
 use wegbaro_tests::in_c::InC;
+use wegbaro_tests::records::{
+    add, delete, group, link, miss, modify, output, record, rule, run as run_group,
+};
+use wegbaro_tests::records::{set, to_group, to_port, with, Record, ANY, IN_PORT};
 
 fn folder(name: &str) -> Folder {
     Folder::new(env!("CARGO_TARGET_TMPDIR"), name)
@@ -37,6 +41,50 @@ fn the_example_in_cpp() {
     assert!(there, "a C++ compiler is not installed: on Debian, apt-get install g++");
     for standard in ["-std=c++98", "-std=c++17"] {
         example_by(&["c++", "-x", "c++", standard]);
+    }
+}
+
+/// The records that `tests/c/records.c` makes of their parts.
+fn records_in_c() -> Vec<Record> {
+    let actions = [set(1, 3), run_group(15), IN_PORT, output(4, 6)];
+    let acting = rule(9, 0x1234, [5, 7], [8, 25], &actions);
+    let sending = group(2, 14, &[to_port([1, 3], 5), to_group(ANY, 6), to_port([8, 12], 7)]);
+    let (fifth, fourth) = (with(acting, 8, 5), with(sending, 8, 4));
+    let mut records = vec![record(&[1, 6, 2, 1, 4]), link(1, 2, 3, 4), miss(9, &[output(2, 7)])];
+    records.extend([acting, add(acting), modify(acting), delete(acting), fifth, fifth]);
+    records.extend([sending, fourth]);
+    let nodes = [
+        [0, 1, 9],
+        [1, 1, 0],
+        [2, 1, 0],
+        [3, 7, 0],
+        [4, 5, 6],
+        [5, 5, 6],
+        [6, 5, 1],
+        [7, 5, 0],
+        [8, 5, 2],
+    ];
+    records.extend(nodes.map(|[kind, one, other]| record(&[5, 3, kind, one, other])));
+    let unnamed = |record| with(record, 23, 1);
+    let too_large = rule(0, 0, [255, 255], ANY, &[]);
+    records.extend([link(255, 2, 3, 255), unnamed(too_large)]);
+    records.extend([unnamed(record(&[8])), record(&[5, 3, 8, 5, 255])]);
+    records
+}
+
+/// The header's functions lay out the same bytes in C and in C++.
+#[test]
+fn records_of_their_parts() {
+    let hexadecimal = |record: &Record| -> String {
+        record.iter().map(|byte| format!("{byte:02x}")).chain(["\n".to_owned()]).collect()
+    };
+    let expected: String = records_in_c().iter().map(hexadecimal).collect();
+    let folder = folder("records");
+    for compiler in [&["cc", "-std=c89"][..], &["cc", "-std=c99"], &["c++", "-x", "c++"]] {
+        let built = folder.path().join("records");
+        let strict = [compiler, &["-Wconversion"]].concat();
+        compile(&strict, "tests/c/records.c", &library(), &built);
+        assert_eq!(printed(&mut Command::new(&built)), expected, "{compiler:?}");
     }
 }
 

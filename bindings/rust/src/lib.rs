@@ -9,47 +9,61 @@
 //!
 //! [`Gate`] judges a network and keeps it; [`Buffers`] owns the buffers of the calls, sized to their
 //! network, and judges nothing unasked. Where no heap is wanted, [`check`], [`command`] and [`route`]
-//! are the same calls over lent buffers.
+//! are the same calls over lent buffers. [`records`] puts records together from their parts.
 //!
 //! Network K has two switches and one policy, that header 1 never leaves. Its first add would let
 //! header 1 out; the second lets header 0 alone pass. Header 0 gets from port 1 of switch 0, where
 //! it arrives, to port 2 of switch 1, where it leaves, but not back:
 //!
 //! ```
-//! use wegbaro::{Checked, Commanded, Gate, Record};
+//! use wegbaro::records::{Action, Command, Link, Match, Miss, Node, Pattern, Point, PolicyNode};
+//! use wegbaro::records::{Rule, Variable::*, Widths};
+//! use wegbaro::{Checked, Commanded, Gate};
 //!
-//! fn record(bytes: &[u8]) -> Record {
-//!     let mut record = [0; 24];
-//!     record[..bytes.len()].copy_from_slice(bytes);
-//!     record
-//! }
-//!
+//! let port = |number| Pattern::exactly(number, 2);
+//! let header = |number| Pattern::exactly(number, 1);
+//! let (dropped, to_2) = ([Action::Output(port(0))], [Action::Output(port(2))]);
+//! let a = Match { switch: 0, priority: 10, port: port(1), header: header(0) };
+//! let b = Match { switch: 1, priority: 10, port: port(1), header: Pattern::ANY };
+//! let ends = [Point { switch: 0, port: 2 }, Point { switch: 1, port: 1 }];
 //! let mut k = vec![
-//!     record(&[1, 1, 2, 1]),                          // widths: header 1, port 2, switch 1
-//!     record(&[2, 0, 2, 1, 1]),                       // link 0:2 - 1:1
-//!     record(&[3, 0, 0, 0, 0, 0, 0, 0, 1, 1, 0, 3]),  // miss 0: output drop
-//!     record(&[3, 1, 0, 0, 0, 0, 0, 0, 1, 1, 0, 3]),  // miss 1: output drop
-//!     record(&[4, 0, 10, 0, 1, 3, 0, 1, 1, 1, 2, 3]), // rule 0 priority 10 port 1 header 0: output 2
-//!     record(&[4, 1, 10, 0, 1, 3, 0, 0, 1, 1, 2, 3]), // rule 1 priority 10 port 1: output 2
+//!     Widths { header: 1, port: 2, switch: 1, version: 0 }.record(),
+//!     Link { ends }.record(),
+//!     Miss { switch: 0, actions: &dropped }.record(),
+//!     Miss { switch: 1, actions: &dropped }.record(),
+//!     Rule { of: a, actions: &to_2 }.record(),
+//!     Rule { of: b, actions: &to_2 }.record(),
 //! ];
-//! // Policy 0: E(X) & !bit(X,4) & exists Y. tc(R(X,Y))(X,Y) & (E(Y) & bit(Y,4) & bit(Y,0))
+//! // E(X) & !bit(X,4) & exists Y. tc(R(X,Y))(X,Y) & (E(Y) & bit(Y,4) & bit(Y,0))
 //! let nodes = [
-//!     [2, 0, 0], [0, 0, 4], [3, 1, 0], [4, 0, 2], [1, 0, 1], [8, 4, 1], [2, 1, 0],
-//!     [0, 1, 4], [0, 1, 0], [4, 6, 7], [4, 9, 8], [4, 5, 10], [6, 11, 1], [4, 3, 12],
+//!     Node::E(X),           // 0
+//!     Node::Bit(X, 4),      // 1
+//!     Node::Not(1),         // 2
+//!     Node::And(0, 2),      // 3: X arrives at an external point
+//!     Node::R(X, Y),        // 4
+//!     Node::Tc(4, X, Y),    // 5: X gets to Y
+//!     Node::E(Y),           // 6
+//!     Node::Bit(Y, 4),      // 7
+//!     Node::Bit(Y, 0),      // 8
+//!     Node::And(6, 7),      // 9: Y departs at an external point
+//!     Node::And(9, 8),      // 10: with header 1
+//!     Node::And(5, 10),     // 11
+//!     Node::Some(11, Y),    // 12
+//!     Node::And(3, 12),     // 13
 //! ];
-//! k.extend(nodes.map(|[kind, one, other]| record(&[5, 0, kind, one, other])));
+//! k.extend(nodes.map(|node| PolicyNode { policy: 0, node }.record()));
 //!
 //! let mut gate = Gate::new(&k)?;
 //! assert_eq!(gate.check(), Checked::Holds);
 //!
-//! // add 0 priority 5: output 2
-//! let first = record(&[6, 0, 5, 0, 0, 0, 0, 0, 1, 1, 2, 3]);
-//! assert_eq!(gate.command(&first)?, Commanded::Blocked { policy: 0, state: 3 });
+//! let all = Match { switch: 0, priority: 5, port: Pattern::ANY, header: Pattern::ANY };
+//! let first = Command::Add(Rule { of: all, actions: &to_2 });
+//! assert_eq!(gate.command(&first.record())?, Commanded::Blocked { policy: 0, state: 3 });
 //! assert_eq!(gate.count(), 20);
 //!
-//! // add 0 priority 5 header 0: output 2
-//! let second = record(&[6, 0, 5, 0, 0, 0, 0, 1, 1, 1, 2, 3]);
-//! assert_eq!(gate.command(&second)?, Commanded::Forwarded { count: 21 });
+//! let header_0 = Match { header: header(0), ..all };
+//! let second = Command::Add(Rule { of: header_0, actions: &to_2 });
+//! assert_eq!(gate.command(&second.record())?, Commanded::Forwarded { count: 21 });
 //! assert_eq!(gate.records().len(), 21);
 //!
 //! assert_eq!(gate.route(2, 28)?, Some(vec![2, 20, 10, 28]));
@@ -71,6 +85,7 @@
 mod buffers;
 mod calls;
 mod gate;
+pub mod records;
 mod refusal;
 mod version;
 
