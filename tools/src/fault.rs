@@ -58,11 +58,16 @@ impl Fault {
             shown += &format!("  hint: {hint}\n");
         }
         if let Some(earlier) = self.earlier {
-            let line = line_of(text, earlier).map(|line| excerpt(line, 1).0).unwrap_or_default();
+            let line = shown_line(text, earlier);
             shown += &format!("  earlier: {file}:{earlier}:\n    {line}\n");
         }
         shown
     }
+}
+
+/// A line of a text, cut if it is long, without effects on a screen.
+pub fn shown_line(text: &str, number: usize) -> String {
+    line_of(text, number).map(|line| excerpt(line, 1).0).unwrap_or_default()
 }
 
 /// The line of a number, from 1.

@@ -1,5 +1,6 @@
 //! Names for switches, ports, groups, headers, wards and policies.
 
+use crate::fault::quoted;
 use crate::steps::DROP;
 use crate::widths::Widths;
 use std::collections::BTreeMap;
@@ -77,6 +78,26 @@ impl Names {
         name.map_or_else(|| header.to_string(), String::from)
     }
 
+    /// A switch by its number, and its name if it has one.
+    pub fn switch_words(&self, switch: u8) -> String {
+        both(&self.switch(switch), switch)
+    }
+
+    /// The same of a port of a switch.
+    pub fn port_words(&self, switch: u8, port: u8) -> String {
+        both(&self.port(switch, port), port)
+    }
+
+    /// The same of a group of a switch.
+    pub fn group_words(&self, switch: u8, group: u8) -> String {
+        both(&self.group(switch, group), group)
+    }
+
+    /// The same of a header.
+    pub fn header_words(&self, header: u8) -> String {
+        both(&self.header(header), header)
+    }
+
     /// The name of a policy.
     pub fn policy(&self, policy: u8) -> Option<&str> {
         self.policies.get(&policy).map(String::as_str)
@@ -134,5 +155,13 @@ impl Names {
 
     fn find(&self, is_it: impl Fn(&Named) -> bool) -> Option<&str> {
         self.given.iter().find(|(_, (named, _))| is_it(named)).map(|(name, _)| name.as_str())
+    }
+}
+
+/// A name with the number that it stands for, or the number alone.
+fn both(name: &str, number: u8) -> String {
+    match name == number.to_string() {
+        true => name.to_string(),
+        false => format!("{} ({number})", quoted(name)),
     }
 }

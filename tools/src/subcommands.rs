@@ -182,8 +182,8 @@ fields: `0:1 in header 0` arrives at port 1 of switch 0, and `0:1 out header 0` 
 {options}  --help, --version
 
 Exit status: 0 the network holds and every command is forwarded, or there is a route; 1 violated,
-blocked, no route, or refused by a row; 2 the text or the call is faulty; 3 reading or writing
-failed; 4 an internal error, which is told.
+blocked, a command refused by a row, or no route; 2 the text or the call is faulty, or the network
+is refused by a row; 3 reading or writing failed; 4 an internal error, which is told.
 
 tools/README.md describes the text and the answers; docs/FORMAT.md the records, what a state, a
 step, a policy and a route are, and the rows by which a call is refused.

@@ -350,12 +350,13 @@ fn faulty_calls() {
 fn refused_networks() {
     let words = "route: refused: row 7, switch 1 has no miss, at the end of the network, after 3 \
                  records\n";
-    expect(&["route", "-", "2", "28"], &k()[..3].concat(), 1, words);
+    expect(&["route", "-", "2", "28"], &k()[..3].concat(), 2, words);
     let object = r#"{"subject":"route","answer":"refused","row":7,"place":3,"cause":"switch 1 has no miss"}"#;
-    expect(&["route", "--json", "-", "2", "28"], &k()[..3].concat(), 1, &format!("{object}\n"));
+    expect(&["route", "--json", "-", "2", "28"], &k()[..3].concat(), 2, &format!("{object}\n"));
     let refused = "no picture, as the network is refused; `wegbaro check` tells why\n";
-    complains(&["route", "--dot", "-", "2", "28"], &k()[..3].concat(), 1, refused);
-    expect(&["route", "-", "2", "x"], b"", 1, "route: refused: row 1, there are no records\n");
+    complains(&["route", "--dot", "-", "2", "28"], &k()[..3].concat(), 2, refused);
+    let none = "route: refused: row 1, there are no records\n  standard input\n";
+    expect(&["route", "-", "2", "x"], b"", 2, none);
     let cut = &k().concat()[..470];
     expect(&["route", "-", "2", "28"], cut, 2, "end: the input ends within a record\n");
     let short = "no picture, as the input ends within a record\n";

@@ -1,5 +1,6 @@
 //! The route call's answer, told and drawn.
 
+use super::refused::refused_status;
 use super::short::ShortAnswer;
 use super::taken::part_words;
 use super::{note, told, Answer, Standing};
@@ -93,7 +94,8 @@ impl Answer for RouteAnswer {
     fn status(&self) -> Status {
         match self.found {
             Ok(Some(_)) => Status::Good,
-            _ => Status::Bad,
+            Ok(None) => Status::Bad,
+            Err(refusal) => refused_status(refusal),
         }
     }
 }
