@@ -1,6 +1,7 @@
 //! The program `wegbaro`: networks and commands as text, judged by the proved library, with answers
 //! in words. `README.md` describes the text and the program.
 
+pub mod advice;
 pub mod answers;
 pub mod arguments;
 pub mod book;

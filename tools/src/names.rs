@@ -23,6 +23,24 @@ pub enum Named {
     Ward(Vec<Area>),
 }
 
+impl Named {
+    /// Whether both are names of things of one kind.
+    pub fn is_like(&self, other: &Named) -> bool {
+        self.words() == other.words()
+    }
+
+    /// What it is, in words.
+    pub fn words(&self) -> &'static str {
+        match self {
+            Named::Switch(_) => "a switch",
+            Named::Port(_) | Named::Points(_) => "a port",
+            Named::Groups(_) => "a group",
+            Named::Header(_) => "a header",
+            Named::Ward(_) => "a ward",
+        }
+    }
+}
+
 /// A part of the network.
 #[derive(Clone, Copy, Debug, PartialEq, Eq)]
 pub enum Area {
@@ -74,8 +92,12 @@ impl Names {
     /// A header by name or number.
     pub fn header(&self, header: u8) -> String {
         let full = self.widths.map_or(u8::MAX, |of| of.last_header());
-        let name = self.find(|named| *named == Named::Header([header, full]));
-        name.map_or_else(|| header.to_string(), String::from)
+        self.header_pattern([header, full]).map_or_else(|| header.to_string(), String::from)
+    }
+
+    /// The name of a header pattern.
+    pub fn header_pattern(&self, pattern: [u8; 2]) -> Option<&str> {
+        self.find(|named| *named == Named::Header(pattern))
     }
 
     /// A switch by its number, and its name if it has one.
@@ -129,9 +151,10 @@ impl Names {
         self.given.keys().map(String::as_str)
     }
 
-    /// Every name given to a group.
-    pub fn groups(&self) -> impl Iterator<Item = &str> {
-        self.all().filter(|name| matches!(self.named(name), Some(Named::Groups(_))))
+    /// Every name given to such a thing.
+    pub fn all_such(&self, is_such: impl Fn(&Named) -> bool) -> impl Iterator<Item = &str> {
+        let such = self.given.iter().filter(move |(_, (named, _))| is_such(named));
+        such.map(|(name, _)| name.as_str())
     }
 
     pub(crate) fn give(&mut self, name: &str, named: Named, line: usize) {

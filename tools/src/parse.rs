@@ -286,9 +286,9 @@ impl Reader {
         }
         self.widths_line = WidthsLine::Faulty;
         statement.expect("H")?;
-        let h = statement.byte("the header width", 6)?;
+        let h = statement.byte_within("the header width", 1..=6)?;
         statement.expect("P")?;
-        let p = statement.byte("the port width", 4)?;
+        let p = statement.byte_within("the port width", 2..=4)?;
         statement.expect("W")?;
         let w = statement.byte("the switch width", 4)?;
         let version = read_version(statement)?;

@@ -179,7 +179,7 @@ wegbaro: judges a ward's network and the commands to its switches
 FILE is a text or has records, and `-` is standard input. FROM and TO are states, by number or by
 fields: `0:1 in header 0` arrives at port 1 of switch 0, and `0:1 out header 0` departs there.
 
-{options}  --help, --version
+{options}  --help, -h, help; --version
 
 Exit status: 0 the network holds and every command is forwarded, or there is a route; 1 violated,
 blocked, a command refused by a row, or no route; 2 the text or the call is faulty, or the network

@@ -69,7 +69,13 @@ fn faulty_calls() {
     complains(&["chekc", K], b"", 2, "`chekc` is no command, did you mean `check`?");
     complains(&["check"], b"", 2, "`check` takes one FILE");
     complains(&["check", K, K], b"", 2, "`check` takes one FILE");
-    complains(&["check", "--rules", K], b"", 2, "`check` has no option `--rules`");
+    complains(&["check", "--rules", K], b"", 2, "`check` has no option `--rules` (");
+    complains(&["check", "--jsno", K], b"", 2, "no option `--jsno`, did you mean `--json`? (");
+    complains(&["--hlep"], b"", 2, "there is no option `--hlep`, did you mean `--help`? (");
+    complains(&["--json=1"], b"", 2, "`--json` takes no value");
+    for words in [&["-h"][..], &["help"], &["help", "check"], &["check", "-h"]] {
+        expect(words, b"", 0, wegbaro(&["--help"], b"").text());
+    }
     complains(&["check", "--json=1", K], b"", 2, "`--json` takes no value");
     let both = wegbaro(&["check", "--json", "--gate", K], b"");
     assert!(both.status == Some(2) && both.said.contains("exclude each other"), "{both:?}");

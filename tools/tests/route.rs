@@ -278,7 +278,7 @@ fn faulty_states() {
     let k = "a state is its number, 0 to 31, or as `0:1 in header 0`, `0:1 out header 0`";
     for (states, column, message, hint) in [
         (["2", "32"], 3, "expected a state (0 to 31), found `32`", k),
-        (["02", "28"], 1, "expected a state (0 to 31), found `02`", k),
+        (["02", "28"], 1, "expected a state (0 to 31), found `02`", "a number has no leading zero"),
         (
             ["99999999999999999999", "28"],
             1,
