@@ -5,6 +5,7 @@
 
 pub mod broken;
 pub mod command;
+pub mod now;
 pub mod refused;
 pub mod route;
 pub mod short;

@@ -77,7 +77,7 @@ impl<'a> Judging<'a> {
         self.gate.is_some()
     }
 
-    fn standing(&self) -> Standing<'_> {
+    pub fn standing(&self) -> Standing<'_> {
         Standing { source: self.source, book: &self.book }
     }
 

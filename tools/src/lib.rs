@@ -2,6 +2,7 @@
 //! in words. `README.md` describes the text and the program.
 
 pub mod advice;
+pub mod after;
 pub mod answers;
 pub mod arguments;
 pub mod book;
@@ -26,6 +27,7 @@ mod policies;
 pub mod print;
 pub mod priorities;
 pub mod program;
+pub mod questions;
 pub mod route;
 pub mod session;
 pub mod source;

@@ -9,6 +9,7 @@ use crate::formula::Formula;
 use crate::kind::{self, action};
 use crate::names::{Names, Point};
 use crate::policies::Split;
+use crate::questions::QUESTIONS;
 use crate::tokens::{statements, Place, Statement, Token};
 use crate::version::read_version;
 use crate::widths::Widths;
@@ -123,7 +124,11 @@ pub fn parse_command(text: &str, widths: Widths, names: &Names) -> Result<Comman
     let keyword = statement.peek();
     if !COMMANDS.contains(&keyword.text) {
         let fault = statement.expected(&format!("a command ({})", list(&COMMANDS)));
-        return Err(vec![fault.with_nearest(keyword.text, COMMANDS)]);
+        let known = COMMANDS.into_iter().chain(QUESTIONS);
+        return Err(vec![match STATEMENTS.contains(&keyword.text) {
+            true => fault,
+            false => fault.with_nearest(keyword.text, known),
+        }]);
     }
     match reader.statement(statement) {
         Ok(bytes) if bytes.len() == RECORD => {

@@ -66,6 +66,8 @@ pub const RECORDS: ProgramOption =
     flag("--records", "commands come in as records of 24 bytes, not as lines of text");
 pub const RULES: ProgramOption = flag("--rules", "with the rules of each switch");
 pub const DOT: ProgramOption = flag("--dot", "a picture of it for Graphviz");
+pub const AFTER: ProgramOption =
+    number("--after", "in the network after so many of the file's commands");
 pub const SWITCHES: ProgramOption = number("--switches", "2 to 16 switches, 4 if not given");
 pub const FLOWS: ProgramOption = number("--flows", "at most 64 random flows, 4 if not given");
 pub const GROUPS: ProgramOption =
@@ -75,7 +77,7 @@ pub const SEED: ProgramOption =
 
 /// All options, in the order of the help.
 pub const OPTIONS: &[ProgramOption] =
-    &[JSON, GATE, RECORDS, RULES, DOT, SWITCHES, FLOWS, GROUPS, SEED];
+    &[JSON, GATE, RECORDS, RULES, DOT, AFTER, SWITCHES, FLOWS, GROUPS, SEED];
 
 /// Options of which at most one is given.
 pub const EXCLUSIVE: &[ProgramOption] = &[JSON, GATE, DOT];
@@ -149,7 +151,7 @@ pub static SUBCOMMANDS: &[Subcommand] = &[
     Subcommand {
         name: "route",
         operands: FILE_FROM_TO,
-        options: &[JSON, DOT],
+        options: &[JSON, DOT, AFTER],
         help: "how a frame gets from one state to another",
         reads: None,
         run: route,

@@ -15,7 +15,7 @@ use wegbaro_tools::steps::Network;
 /// What is noted of a file with commands, as an object.
 const BEFORE_COMMANDS: &str =
     "{\"answer\":\"note\",\"message\":\"the route is that of the network \
-                               before the file's commands\"}\n";
+                               before the file's commands; `--after` takes a later one\"}\n";
 
 const K_ROUTE: &str = "\
 route: found, 3 steps
@@ -60,7 +60,9 @@ fn the_route_of_k() {
     ] {
         let ran = wegbaro(&[&["route", K], states].concat(), b"");
         assert_eq!((ran.status, ran.text()), (Some(0), K_ROUTE), "{states:?}: {}", ran.said);
-        assert_eq!(ran.said, "note: the route is that of the network before the file's commands\n");
+        let note = "note: the route is that of the network before the file's commands; `--after` \
+                    takes a later one\n";
+        assert_eq!(ran.said, note);
     }
     let of_records = K_ROUTE.replace("line 8", "record 4").replace("line 3", "record 1");
     let of_records = of_records.replace("line 9", "record 5");
