@@ -5,6 +5,7 @@
 
 pub mod broken;
 pub mod command;
+pub mod now;
 pub mod refused;
 pub mod route;
 pub mod short;
@@ -12,7 +13,6 @@ pub mod start;
 pub mod taken;
 
 use crate::book::Book;
-use crate::fault::quoted;
 use crate::json::Object;
 use crate::print::print_record;
 use crate::source::Source;
@@ -109,14 +109,10 @@ impl<'a> Standing<'a> {
     pub fn field_words(self, state: State) -> [String; 3] {
         let names = &self.source.names;
         let [switch, port] = state.point;
-        let both = |name: String, number: u8| match name == number.to_string() {
-            true => name,
-            false => format!("{} ({number})", quoted(&name)),
-        };
         [
-            both(names.switch(switch), switch),
-            both(names.port(switch, port), port),
-            both(names.header(state.header), state.header),
+            names.switch_words(switch),
+            names.port_words(switch, port),
+            names.header_words(state.header),
         ]
     }
 

@@ -3,7 +3,7 @@
 use crate::answers::Format;
 use crate::fault::{nearest, quoted};
 use crate::source::is_input;
-use crate::subcommands::{Subcommand, EXCLUSIVE, GATE, JSON, OPTIONS, SUBCOMMANDS};
+use crate::subcommands::{ProgramOption, Subcommand, EXCLUSIVE, GATE, JSON, OPTIONS, SUBCOMMANDS};
 use crate::trouble::Trouble;
 use std::ffi::OsString;
 
@@ -27,10 +27,11 @@ pub enum Asked {
 /// Reads the arguments.
 pub fn read(given: impl IntoIterator<Item = OsString>) -> Result<Asked, Trouble> {
     let arguments = sort(given)?;
-    for (option, asked) in [("--help", Asked::Help), ("--version", Asked::Version)] {
-        if arguments.has(option) {
-            return Ok(asked);
-        }
+    if arguments.has("--help") || arguments.has("-h") || arguments.is_help() {
+        return Ok(Asked::Help);
+    }
+    if arguments.has("--version") {
+        return Ok(Asked::Version);
     }
     let subcommand = arguments.subcommand()?;
     arguments.fit(subcommand)?;
@@ -49,6 +50,13 @@ pub fn format_of(given: &[OsString]) -> Format {
 /// A fault of the arguments.
 pub fn fault(message: impl std::fmt::Display) -> Trouble {
     Trouble::faulty(format!("{message} (`wegbaro --help` has the calls)"))
+}
+
+/// The fault of an option that is none of the known ones, with the nearest of them.
+fn unknown_option(who: &str, given: &str, known: &[ProgramOption]) -> Trouble {
+    let known = known.iter().map(|option| option.name).chain(["--help", "--version"]);
+    let hint = nearest(given, known).map(|near| format!(", did you mean `{near}`?"));
+    fault(format!("{who} no option `{}`{}", quoted(given), hint.unwrap_or_default()))
 }
 
 /// Tells options from the rest; behind `--` there are none.
@@ -92,7 +100,14 @@ fn sort(given: impl IntoIterator<Item = OsString>) -> Result<Arguments, Trouble>
 
 impl Arguments {
     fn subcommand(&self) -> Result<&'static Subcommand, Trouble> {
-        let Some(name) = self.plain.first() else { return Err(fault("expected a command")) };
+        let Some(name) = self.plain.first() else {
+            let is_known = |given: &str| OPTIONS.iter().any(|option| option.name == given);
+            let unknown = self.options.iter().find(|(given, _)| !is_known(given));
+            return Err(match unknown {
+                Some((given, _)) => unknown_option("there is", given, OPTIONS),
+                None => fault("expected a command"),
+            });
+        };
         let name = name.to_string_lossy();
         let row = SUBCOMMANDS.iter().find(|subcommand| subcommand.name == name);
         row.ok_or_else(|| {
@@ -100,6 +115,11 @@ impl Arguments {
             let hint = nearest(&name, known).map(|near| format!(", did you mean `{near}`?"));
             fault(format!("`{}` is no command{}", quoted(&name), hint.unwrap_or_default()))
         })
+    }
+
+    /// Whether help is asked for by the word.
+    fn is_help(&self) -> bool {
+        self.plain.first().is_some_and(|first| first == "help")
     }
 
     /// The operands and options are such as the subcommand has.
@@ -114,7 +134,7 @@ impl Arguments {
         }
         let is_known = |given: &str| options.iter().any(|option| option.name == given);
         if let Some((given, _)) = self.options.iter().find(|(given, _)| !is_known(given)) {
-            return Err(fault(format!("`{name}` has no option `{}`", quoted(given))));
+            return Err(unknown_option(&format!("`{name}` has"), given, options));
         }
         let mut exclusive = EXCLUSIVE.iter().filter(|option| self.has(option.name));
         match (exclusive.next(), exclusive.next()) {

@@ -4,6 +4,8 @@ use std::fmt;
 
 /// The most characters of a word that a message repeats.
 const MOST_WORD: usize = 40;
+/// The most names that a hint lists.
+const MOST_NAMES: usize = 6;
 /// The most characters of a line that are shown, and how many of them stand before the column.
 const MOST_LINE: usize = 100;
 const BEFORE: usize = 60;
@@ -40,6 +42,25 @@ impl Fault {
         }
     }
 
+    /// The fault with those of the known names that are near to the one found; if none is, with the
+    /// first of them.
+    pub fn with_near<'a>(self, found: &str, known: impl IntoIterator<Item = &'a str>) -> Fault {
+        let known: Vec<&str> = known.into_iter().collect();
+        let list = |names: &[&str], joint: &str| {
+            let names = names.iter().take(MOST_NAMES).map(|name| format!("`{}`", quoted(name)));
+            names.collect::<Vec<String>>().join(joint)
+        };
+        let near = near(found, known.iter().copied());
+        match (&near[..], &known[..]) {
+            ([], []) => self.hint("no such names are given before this line"),
+            ([], [..]) if known.len() > MOST_NAMES => {
+                self.hint(format!("the names are {} and more", list(&known, ", ")))
+            }
+            ([], [..]) => self.hint(format!("the names are {}", list(&known, ", "))),
+            ([..], _) => self.hint(format!("did you mean {}?", list(&near, " or "))),
+        }
+    }
+
     pub fn earlier(self, line: usize) -> Fault {
         Fault { earlier: Some(line), ..self }
     }
@@ -58,11 +79,16 @@ impl Fault {
             shown += &format!("  hint: {hint}\n");
         }
         if let Some(earlier) = self.earlier {
-            let line = line_of(text, earlier).map(|line| excerpt(line, 1).0).unwrap_or_default();
+            let line = shown_line(text, earlier);
             shown += &format!("  earlier: {file}:{earlier}:\n    {line}\n");
         }
         shown
     }
+}
+
+/// A line of a text, cut if it is long, without effects on a screen.
+pub fn shown_line(text: &str, number: usize) -> String {
+    line_of(text, number).map(|line| excerpt(line, 1).0).unwrap_or_default()
 }
 
 /// The line of a number, from 1.
@@ -126,14 +152,31 @@ pub fn whole(text: &str) -> String {
 
 /// The known word that is nearest to one that is not known, if one is near.
 pub fn nearest<'a>(word: &str, known: impl IntoIterator<Item = &'a str>) -> Option<&'a str> {
+    near(word, known).first().copied()
+}
+
+/// The known words that are near to one that is not known, the nearest first.
+fn near<'a>(word: &str, known: impl IntoIterator<Item = &'a str>) -> Vec<&'a str> {
+    let mut near: Vec<&str> = known.into_iter().filter(|other| is_near(word, other)).collect();
+    near.sort_by_key(|other| far(word, other));
+    near
+}
+
+/// Whether a word may be meant by another one.
+fn is_near(word: &str, other: &str) -> bool {
     let length = word.chars().count();
-    if length > MOST_WORD {
-        return None;
-    }
-    let far = |other: &&str| distance(&word.to_lowercase(), &other.to_lowercase());
-    let best = known.into_iter().min_by_key(far)?;
     let most = if length < 3 { 0 } else { 1 + length / 4 };
-    (far(&best) <= most).then_some(best)
+    length <= MOST_WORD && far(word, other) <= most
+}
+
+/// Whether a word is another one with at most one slip in it, which only a longer word may have.
+pub fn is_slip(word: &str, other: &str) -> bool {
+    far(word, other) <= usize::from(word.chars().count() > 3)
+}
+
+/// The distance of two words, in whatever letters.
+fn far(word: &str, other: &str) -> usize {
+    distance(&word.to_lowercase(), &other.to_lowercase())
 }
 
 /// How many characters are to be put in, left out, changed or swapped with the next.

@@ -24,6 +24,8 @@ pub struct Judging<'a> {
     /// What is said of rules that act together.
     noted: Noted,
     pub status: Status,
+    /// Why commands are not judged, once that is known.
+    unjudged: Option<&'static str>,
 }
 
 /// What is done with an answer: it is told, or held against another.
@@ -66,6 +68,7 @@ impl<'a> Judging<'a> {
             answered: 0,
             noted: Noted::default(),
             status: Status::Good,
+            unjudged: None,
         }
     }
 
@@ -74,7 +77,7 @@ impl<'a> Judging<'a> {
         self.gate.is_some()
     }
 
-    fn standing(&self) -> Standing<'_> {
+    pub fn standing(&self) -> Standing<'_> {
         Standing { source: self.source, book: &self.book }
     }
 
@@ -86,6 +89,7 @@ impl<'a> Judging<'a> {
     /// Judges the network. The gate is kept if the network holds.
     fn start(&mut self, tell: Told) -> Result<(), Trouble> {
         if self.source.is_network_cut() {
+            self.unjudged = Some("the input ends within a record");
             return self.answer(&ShortAnswer::Record, tell);
         }
         let gate = match self.work {
@@ -94,6 +98,11 @@ impl<'a> Judging<'a> {
         };
         let verdict = gate.as_ref().map(Gate::check).map_err(|refusal| *refusal);
         self.gate = gate.ok().filter(|gate| gate.check() == Checked::Holds);
+        self.unjudged = match verdict {
+            Ok(Checked::Holds) => None,
+            Ok(Checked::Violated { .. }) => Some("the network does not hold"),
+            Err(_) => Some("the network is refused"),
+        };
         self.answer(&StartAnswer { verdict, work: self.work }, tell)?;
         match verdict {
             Ok(verdict) => self.note_equals(verdict == Checked::Holds),
@@ -116,11 +125,11 @@ impl<'a> Judging<'a> {
         }
     }
 
-    /// Says that commands are left alone, where the network does not hold.
+    /// Says that commands are left alone, where the network does not hold or was not judged.
     pub fn note_unjudged(&self) -> Result<(), Trouble> {
-        match !self.holds() && !self.source.commands.is_empty() {
-            true => note(self.format, "the commands are not judged, as the network does not hold"),
-            false => Ok(()),
+        match self.unjudged.filter(|_| !self.source.commands.is_empty()) {
+            Some(why) => note(self.format, &format!("the commands are not judged, as {why}")),
+            None => Ok(()),
         }
     }
 

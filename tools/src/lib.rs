@@ -1,6 +1,8 @@
 //! The program `wegbaro`: networks and commands as text, judged by the proved library, with answers
 //! in words. `README.md` describes the text and the program.
 
+pub mod advice;
+pub mod after;
 pub mod answers;
 pub mod arguments;
 pub mod book;
@@ -25,6 +27,7 @@ mod policies;
 pub mod print;
 pub mod priorities;
 pub mod program;
+pub mod questions;
 pub mod route;
 pub mod session;
 pub mod source;

@@ -1,5 +1,6 @@
 //! Names for switches, ports, groups, headers, wards and policies.
 
+use crate::fault::quoted;
 use crate::steps::DROP;
 use crate::widths::Widths;
 use std::collections::BTreeMap;
@@ -20,6 +21,24 @@ pub enum Named {
     /// Value and care of a header pattern.
     Header([u8; 2]),
     Ward(Vec<Area>),
+}
+
+impl Named {
+    /// Whether both are names of things of one kind.
+    pub fn is_like(&self, other: &Named) -> bool {
+        self.words() == other.words()
+    }
+
+    /// What it is, in words.
+    pub fn words(&self) -> &'static str {
+        match self {
+            Named::Switch(_) => "a switch",
+            Named::Port(_) | Named::Points(_) => "a port",
+            Named::Groups(_) => "a group",
+            Named::Header(_) => "a header",
+            Named::Ward(_) => "a ward",
+        }
+    }
 }
 
 /// A part of the network.
@@ -73,8 +92,32 @@ impl Names {
     /// A header by name or number.
     pub fn header(&self, header: u8) -> String {
         let full = self.widths.map_or(u8::MAX, |of| of.last_header());
-        let name = self.find(|named| *named == Named::Header([header, full]));
-        name.map_or_else(|| header.to_string(), String::from)
+        self.header_pattern([header, full]).map_or_else(|| header.to_string(), String::from)
+    }
+
+    /// The name of a header pattern.
+    pub fn header_pattern(&self, pattern: [u8; 2]) -> Option<&str> {
+        self.find(|named| *named == Named::Header(pattern))
+    }
+
+    /// A switch by its number, and its name if it has one.
+    pub fn switch_words(&self, switch: u8) -> String {
+        both(&self.switch(switch), switch)
+    }
+
+    /// The same of a port of a switch.
+    pub fn port_words(&self, switch: u8, port: u8) -> String {
+        both(&self.port(switch, port), port)
+    }
+
+    /// The same of a group of a switch.
+    pub fn group_words(&self, switch: u8, group: u8) -> String {
+        both(&self.group(switch, group), group)
+    }
+
+    /// The same of a header.
+    pub fn header_words(&self, header: u8) -> String {
+        both(&self.header(header), header)
     }
 
     /// The name of a policy.
@@ -108,9 +151,10 @@ impl Names {
         self.given.keys().map(String::as_str)
     }
 
-    /// Every name given to a group.
-    pub fn groups(&self) -> impl Iterator<Item = &str> {
-        self.all().filter(|name| matches!(self.named(name), Some(Named::Groups(_))))
+    /// Every name given to such a thing.
+    pub fn all_such(&self, is_such: impl Fn(&Named) -> bool) -> impl Iterator<Item = &str> {
+        let such = self.given.iter().filter(move |(_, (named, _))| is_such(named));
+        such.map(|(name, _)| name.as_str())
     }
 
     pub(crate) fn give(&mut self, name: &str, named: Named, line: usize) {
@@ -134,5 +178,13 @@ impl Names {
 
     fn find(&self, is_it: impl Fn(&Named) -> bool) -> Option<&str> {
         self.given.iter().find(|(_, (named, _))| is_it(named)).map(|(name, _)| name.as_str())
+    }
+}
+
+/// A name with the number that it stands for, or the number alone.
+fn both(name: &str, number: u8) -> String {
+    match name == number.to_string() {
+        true => name.to_string(),
+        false => format!("{} ({number})", quoted(name)),
     }
 }

@@ -5,7 +5,7 @@ use crate::groups::LAST_GROUP;
 use crate::names::{Area, Named, Point};
 use crate::parse::{Reader, STATEMENTS};
 use crate::steps::{State, DROP};
-use crate::tokens::{Statement, Token};
+use crate::tokens::{without_zeros, Statement, Token};
 use crate::widths::{read_pattern, Widths};
 
 impl Reader {
@@ -106,7 +106,10 @@ impl Reader {
                 statement.take();
                 Ok(areas.clone())
             }
-            _ if by_word => Err(self.with_nearest(statement, statement.expected("a ward's name"))),
+            _ if by_word => {
+                let wards = self.names.all_such(|named| matches!(named, Named::Ward(_)));
+                Err(self.at_name(statement, statement.expected("a ward's name"), wards))
+            }
             Some(Named::Switch(switch)) if behind != ":" => {
                 statement.take();
                 Ok(vec![Area::Switch(*switch)])
@@ -122,7 +125,7 @@ impl Reader {
             return Ok(*switch);
         }
         let read = statement.byte("a switch", of.last_switch());
-        read.map_err(|fault| self.with_nearest(statement, fault))
+        read.map_err(|fault| self.at_name(statement, fault, self.names.all()))
     }
 
     /// Reads a point: a switch and a port, or the name of one point.
@@ -152,7 +155,7 @@ impl Reader {
             return Ok(port);
         }
         let read = statement.byte("a port", of.controller());
-        read.map_err(|fault| self.with_nearest(statement, fault))
+        read.map_err(|fault| self.at_name(statement, fault, self.names.all()))
     }
 
     /// Reads the word or the name of a port, if there is one.
@@ -225,7 +228,8 @@ impl Reader {
             return Ok(*group);
         }
         let read = statement.byte("a group", LAST_GROUP);
-        read.map_err(|fault| fault.with_nearest(token.text, self.names.groups()))
+        let groups = || self.names.all_such(|named| matches!(named, Named::Groups(_)));
+        read.map_err(|fault| self.at_name(statement, fault, groups()))
     }
 
     /// Value and care of a switch: a number, a name, or a pattern with a star.
@@ -275,7 +279,7 @@ impl Reader {
             return Ok(*header);
         }
         let read = statement.byte("a header", of.last_header());
-        read.map_err(|fault| self.with_nearest(statement, fault))
+        read.map_err(|fault| self.at_name(statement, fault, self.names.all()))
     }
 
     /// Reads a packet state: its number, or its point, its direction and its header.
@@ -320,7 +324,8 @@ impl Reader {
         let Some(pattern) = read_pattern(token.text, width) else {
             let most = (1u8 << width) - 1;
             let form = format!("a {what} pattern (0, 1 or *, {width} long) or a number to {most}");
-            return Err(self.with_nearest(statement, statement.expected(&form)));
+            let fault = without_zeros(statement.expected(&form), token.text);
+            return Err(self.at_name(statement, fault, self.names.all()));
         };
         statement.take();
         // These two words alone are bits in one ward and a number in another.
@@ -336,9 +341,32 @@ impl Reader {
         Ok(pattern)
     }
 
-    /// The fault at a word, with the name that is nearest.
-    fn with_nearest(&self, statement: &Statement, fault: Fault) -> Fault {
-        fault.with_nearest(statement.peek().text, self.names.all())
+    /// The fault at a word that may be a name: what it is the name of, or that there is no such name,
+    /// with those of the known ones that are near.
+    fn at_name<'n>(
+        &self,
+        statement: &Statement,
+        fault: Fault,
+        known: impl IntoIterator<Item = &'n str>,
+    ) -> Fault {
+        let word = statement.peek().text;
+        let saying = |words: &str| format!("{}; {words}", fault.message);
+        match self.names.named(word) {
+            Some(named) => {
+                let message = saying(&format!("this is {}", named.words()));
+                let line = self.names.line(word).unwrap_or_default();
+                let fault = Fault { message, ..fault };
+                let is_other =
+                    |name: &&str| self.names.named(name).is_some_and(|it| !it.is_like(named));
+                fault
+                    .hint(format!("the name is given in line {line}"))
+                    .with_nearest(word, known.into_iter().filter(is_other))
+            }
+            None if is_name(word) && reserved(word).is_none() => {
+                Fault { message: saying("there is no such name"), ..fault }.with_near(word, known)
+            }
+            None => fault,
+        }
     }
 }
 

@@ -9,6 +9,7 @@ use crate::formula::Formula;
 use crate::kind::{self, action};
 use crate::names::{Names, Point};
 use crate::policies::Split;
+use crate::questions::QUESTIONS;
 use crate::tokens::{statements, Place, Statement, Token};
 use crate::version::read_version;
 use crate::widths::Widths;
@@ -123,7 +124,11 @@ pub fn parse_command(text: &str, widths: Widths, names: &Names) -> Result<Comman
     let keyword = statement.peek();
     if !COMMANDS.contains(&keyword.text) {
         let fault = statement.expected(&format!("a command ({})", list(&COMMANDS)));
-        return Err(vec![fault.with_nearest(keyword.text, COMMANDS)]);
+        let known = COMMANDS.into_iter().chain(QUESTIONS);
+        return Err(vec![match STATEMENTS.contains(&keyword.text) {
+            true => fault,
+            false => fault.with_nearest(keyword.text, known),
+        }]);
     }
     match reader.statement(statement) {
         Ok(bytes) if bytes.len() == RECORD => {
@@ -286,9 +291,9 @@ impl Reader {
         }
         self.widths_line = WidthsLine::Faulty;
         statement.expect("H")?;
-        let h = statement.byte("the header width", 6)?;
+        let h = statement.byte_within("the header width", 1..=6)?;
         statement.expect("P")?;
-        let p = statement.byte("the port width", 4)?;
+        let p = statement.byte_within("the port width", 2..=4)?;
         statement.expect("W")?;
         let w = statement.byte("the switch width", 4)?;
         let version = read_version(statement)?;

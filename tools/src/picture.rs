@@ -1,5 +1,6 @@
 //! A network as a graph for Graphviz.
 
+use crate::answers::refused::refused_status;
 use crate::answers::Standing;
 use crate::arguments::Arguments;
 use crate::book::Book;
@@ -19,9 +20,9 @@ pub type Line = (u8, String);
 /// `wegbaro picture`: the picture of a network that no row refuses.
 pub fn picture(arguments: &Arguments) -> Result<Status, Trouble> {
     let source = Source::noted(arguments.file(), arguments.format())?;
-    if Gate::new(&source.network).is_err() {
+    if let Err(refusal) = Gate::new(&source.network) {
         say("no picture, as the network is refused; `wegbaro check` tells why\n");
-        return Ok(Status::Bad);
+        return Ok(refused_status(refusal));
     }
     let book = Book::new(&source.network, &source.lines);
     let standing = Standing { source: &source, book: &book };

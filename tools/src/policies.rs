@@ -1,5 +1,6 @@
 //! Reads policies, and puts the parts of those that are too long behind the last one.
 
+use crate::advice::advised;
 use crate::compile::{compile, Compiled};
 use crate::fault::Fault;
 use crate::formula::{read_nodes, Formula, Node, MOST_NODES, MOST_POLICIES};
@@ -65,11 +66,10 @@ impl Reader {
     ) -> Result<Vec<Node>, Fault> {
         let start = statement.peek();
         let source = statement.rest();
-        let forms = match read_sentence(self, statement, of)? {
-            Some(forms) => forms,
-            None => vec![read_formula(self, statement, of)?],
-        };
-        statement.finish()?;
+        let forms = self.forms(of, statement).map_err(|fault| {
+            let place = Place { line: fault.line, column: fault.column };
+            advised(fault, statement.word_at(place), &source)
+        })?;
         if forms[0].free()[1] {
             return Err(start.fault("Y is free in this policy; only X may be"));
         }
@@ -93,6 +93,16 @@ impl Reader {
                 Err(start.fault(message).hint(hint))
             }
         }
+    }
+
+    /// The formula of a policy, and a second one that is shorter where there is one.
+    fn forms(&mut self, of: Widths, statement: &mut Statement) -> Result<Vec<Written>, Fault> {
+        let forms = match read_sentence(self, statement, of)? {
+            Some(forms) => forms,
+            None => vec![read_formula(self, statement, of)?],
+        };
+        statement.finish()?;
+        Ok(forms)
     }
 
     /// The parts of policies behind the last policy, each with its line, if there is room.

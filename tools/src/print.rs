@@ -231,11 +231,12 @@ impl Printer<'_> {
         }
     }
 
-    /// A header pattern; one without stars is a header.
+    /// A header pattern, by its name if it has one; one without stars is a header.
     fn headers(self, [value, care]: [u8; 2]) -> String {
-        match care == self.of.last_header() {
-            true => self.named(value, |names| names.header(value)),
-            false => pattern(value, care, self.of.h),
+        match self.names.and_then(|names| names.header_pattern([value, care])) {
+            Some(name) => quoted(name),
+            None if care == self.of.last_header() => value.to_string(),
+            None => pattern(value, care, self.of.h),
         }
     }
 }

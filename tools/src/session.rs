@@ -7,6 +7,7 @@ use crate::fault::Fault;
 use crate::json::Object;
 use crate::judging::{tell, Judging};
 use crate::parse::{parse_command, CommandText};
+use crate::questions::answered;
 use crate::source::{fault_trouble, Command, Source};
 use crate::standard;
 use crate::subcommands::RECORDS;
@@ -84,9 +85,13 @@ impl Role {
     }
 }
 
-/// Judges a command, if there is one, or tells its faults.
+/// Answers a question or judges a command, if there is one, or tells its faults.
 fn command(judging: &mut Judging, text: &str) -> Result<(), Trouble> {
     let Some(widths) = judging.source.widths().filter(|_| !text.is_empty()) else { return Ok(()) };
+    // The gate answers commands alone, and a reader of its lines counts them.
+    if judging.format != Format::Gate && answered(judging, text)? {
+        return Ok(());
+    }
     match parse_command(text, widths, &judging.source.names) {
         Ok(CommandText { record, notes }) => {
             let number = judging.answered + 1;

@@ -126,10 +126,18 @@ pub struct Command {
     pub line: Option<usize>,
 }
 
+/// A text and the file that it is from, as messages name it.
+#[derive(Clone, Debug, PartialEq, Eq)]
+pub struct TextFile {
+    pub file: String,
+    pub text: String,
+}
+
 /// A network and commands, and what a text says about them.
 #[derive(Clone, Debug, Default)]
 pub struct Source {
     pub network: Vec<Record>,
+    pub text: Option<TextFile>,
     /// The line of each record of the network, if it is a text's.
     pub lines: Vec<usize>,
     pub commands: Vec<Command>,
@@ -144,7 +152,10 @@ impl Source {
     /// The network and commands of a file that is a text or has records.
     pub fn of(file: &OsString) -> Result<Source, Trouble> {
         match content(file)? {
-            Content::Text(text) => Ok(Source::of_text(parsed(file, &text)?)),
+            Content::Text(text) => {
+                let source = Source::of_text(parsed(file, &text)?);
+                Ok(Source { text: Some(TextFile { file: name(file), text }), ..source })
+            }
             Content::Records(bytes) => Ok(Source::of_records(&bytes)),
             Content::Other(_, why) => {
                 let name = name(file);

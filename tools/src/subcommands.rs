@@ -66,6 +66,8 @@ pub const RECORDS: ProgramOption =
     flag("--records", "commands come in as records of 24 bytes, not as lines of text");
 pub const RULES: ProgramOption = flag("--rules", "with the rules of each switch");
 pub const DOT: ProgramOption = flag("--dot", "a picture of it for Graphviz");
+pub const AFTER: ProgramOption =
+    number("--after", "in the network after so many of the file's commands");
 pub const SWITCHES: ProgramOption = number("--switches", "2 to 16 switches, 4 if not given");
 pub const FLOWS: ProgramOption = number("--flows", "at most 64 random flows, 4 if not given");
 pub const GROUPS: ProgramOption =
@@ -75,7 +77,7 @@ pub const SEED: ProgramOption =
 
 /// All options, in the order of the help.
 pub const OPTIONS: &[ProgramOption] =
-    &[JSON, GATE, RECORDS, RULES, DOT, SWITCHES, FLOWS, GROUPS, SEED];
+    &[JSON, GATE, RECORDS, RULES, DOT, AFTER, SWITCHES, FLOWS, GROUPS, SEED];
 
 /// Options of which at most one is given.
 pub const EXCLUSIVE: &[ProgramOption] = &[JSON, GATE, DOT];
@@ -149,7 +151,7 @@ pub static SUBCOMMANDS: &[Subcommand] = &[
     Subcommand {
         name: "route",
         operands: FILE_FROM_TO,
-        options: &[JSON, DOT],
+        options: &[JSON, DOT, AFTER],
         help: "how a frame gets from one state to another",
         reads: None,
         run: route,
@@ -179,11 +181,11 @@ wegbaro: judges a ward's network and the commands to its switches
 FILE is a text or has records, and `-` is standard input. FROM and TO are states, by number or by
 fields: `0:1 in header 0` arrives at port 1 of switch 0, and `0:1 out header 0` departs there.
 
-{options}  --help, --version
+{options}  --help, -h, help; --version
 
 Exit status: 0 the network holds and every command is forwarded, or there is a route; 1 violated,
-blocked, no route, or refused by a row; 2 the text or the call is faulty; 3 reading or writing
-failed; 4 an internal error, which is told.
+blocked, a command refused by a row, or no route; 2 the text or the call is faulty, or the network
+is refused by a row; 3 reading or writing failed; 4 an internal error, which is told.
 
 tools/README.md describes the text and the answers; docs/FORMAT.md the records, what a state, a
 step, a policy and a route are, and the rows by which a call is refused.

@@ -58,11 +58,7 @@ impl Sentence<'_, '_, '_> {
         }
         if self.statement.accept("route") {
             self.statement.expect_all(&["of", "more", "than"])?;
-            let start = self.statement.peek();
-            let hops = self.statement.number("a number of hops", MOST_HOPS)?;
-            if hops == 0 {
-                return Err(start.fault(format!("a route has 1 to {MOST_HOPS} hops here")));
-            }
+            let hops = self.statement.number_within("a number of hops", 1..=MOST_HOPS)?;
             self.statement.expect_all(&[if hops == 1 { "hop" } else { "hops" }])?;
             return Ok(longer_than(hops));
         }

@@ -1,6 +1,7 @@
 //! Statements as words and symbols with their places.
 
 use crate::fault::{is_hidden, quoted, Fault};
+use std::ops::RangeInclusive;
 
 /// A line and a column, both from 1.
 #[derive(Clone, Copy, Debug, PartialEq, Eq)]
@@ -134,6 +135,7 @@ fn line_tokens(line: usize, text: &str) -> (Vec<Token<'_>>, Option<Fault>) {
             _ if is_word(first) => rest.find(|c| !is_word(c)).unwrap_or(rest.len()),
             _ if DOUBLE.iter().any(|double| rest.starts_with(double)) => 2,
             ':' | ';' | ',' | '.' | '-' | '/' | '(' | ')' | '!' | '&' | '|' | '=' => 1,
+            _ if first.is_whitespace() => return (tokens, Some(other_space(place, first))),
             _ => {
                 let message = format!("`{}` has no meaning here", quoted(&first.to_string()));
                 return (tokens, Some(place.fault(1, message)));
@@ -147,6 +149,25 @@ fn line_tokens(line: usize, text: &str) -> (Vec<Token<'_>>, Option<Fault>) {
         rest = behind;
     }
     (tokens, None)
+}
+
+/// The fault at a word that is a number with leading zeros says so.
+pub fn without_zeros(fault: Fault, word: &str) -> Fault {
+    let is_number = word.len() > 1 && word.bytes().all(|byte| byte.is_ascii_digit());
+    match is_number && word.starts_with('0') {
+        true => fault.hint("a number has no leading zero"),
+        false => fault,
+    }
+}
+
+/// The fault of a space that is not the plain one, which looks like it.
+fn other_space(place: Place, space: char) -> Fault {
+    let name = match space {
+        '\u{a0}' | '\u{202f}' => "a no-break space",
+        _ => "a space of another kind",
+    };
+    let message = format!("this is {name} (U+{:04X}), not a plain one", u32::from(space));
+    place.fault(1, message).hint("write a plain space")
 }
 
 impl<'a> Statement<'a> {
@@ -265,13 +286,28 @@ impl<'a> Statement<'a> {
 
     /// Reads a decimal number from 0 to the most, which has no leading zero.
     pub fn number(&mut self, what: &str, most: u16) -> Result<u16, Fault> {
-        match self.peek().text.parse::<u16>() {
-            Ok(number) if number <= most && number.to_string() == self.peek().text => {
+        self.number_within(what, 0..=most)
+    }
+
+    /// Reads a decimal number within limits, which has no leading zero.
+    pub fn number_within(&mut self, what: &str, limits: RangeInclusive<u16>) -> Result<u16, Fault> {
+        let text = self.peek().text;
+        match text.parse::<u16>() {
+            Ok(number) if limits.contains(&number) && number.to_string() == text => {
                 self.read += 1;
                 Ok(number)
             }
-            _ => Err(self.expected(&format!("{what} (0 to {most})"))),
+            _ => {
+                let what = format!("{what} ({} to {})", limits.start(), limits.end());
+                Err(without_zeros(self.expected(&what), text))
+            }
         }
+    }
+
+    /// Reads a decimal number within limits that are below 256.
+    pub fn byte_within(&mut self, what: &str, limits: RangeInclusive<u8>) -> Result<u8, Fault> {
+        let limits = u16::from(*limits.start())..=u16::from(*limits.end());
+        Ok(self.number_within(what, limits)? as u8)
     }
 
     /// Reads a decimal number from 0 to the most, which is below 256.

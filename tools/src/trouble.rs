@@ -7,9 +7,9 @@ use crate::json::Object;
 pub enum Status {
     /// The network holds, all commands are forwarded.
     Good = 0,
-    /// Violated, blocked, or refused by a row.
+    /// Violated or blocked, a command refused by a row, or no route.
     Bad = 1,
-    /// A text, or an argument, is faulty.
+    /// A text, or an argument, is faulty, or the network is refused by a row.
     Faulty = 2,
     /// Reading or writing failed.
     Failed = 3,

@@ -28,10 +28,9 @@ fn statements() {
     );
     fault("link 0:1 - 0:2", "line 1, column 1: expected `widths` before this statement");
     fault("widths H 1 P 2", "line 1, column 15: expected `W`, found the end of the statement");
-    fault("widths H 7", "line 1, column 10: expected the header width (0 to 6), found `7`");
+    fault("widths H 7", "line 1, column 10: expected the header width (1 to 6), found `7`");
     let limits = "the limits are H 1 to 6, P 2 to 4, W 0 to 4, and 1 + H + P + W at most 10";
     fault("widths H 4 P 4 W 2", &format!("line 1, column 1: {limits}"));
-    fault("widths H 0 P 4 W 2", &format!("line 1, column 1: {limits}"));
     second_line("link 0:1 @ 1:1", "line 2, column 10: `@` has no meaning here");
     second_line("link 0:1 1:1", "line 2, column 10: expected `-`, found `1`");
     second_line("link 0:1 - 2:1", "line 2, column 12: expected a switch (0 to 1), found `2`");

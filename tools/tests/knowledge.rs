@@ -19,8 +19,9 @@ use wegbaro_tests::records::{ANY, VERSIONS};
 use wegbaro_tests::second::{self, Second};
 use wegbaro_tools::answers::Standing;
 use wegbaro_tools::book::{Book, Origin};
-use wegbaro_tools::causes::{command_cause, network_cause};
+use wegbaro_tools::causes::{command_cause, network_cause, Telling};
 use wegbaro_tools::formula::Node;
+use wegbaro_tools::names::Names;
 use wegbaro_tools::parse::{parse, parse_command};
 use wegbaro_tools::print::whole_records;
 use wegbaro_tools::route::find;
@@ -406,6 +407,7 @@ fn every_refusal_has_a_cause() {
             words.push(form);
         }
     };
+    let telling = Telling { at: &|place| format!("record {place}"), names: &Names::default() };
     for round in 0..20_000 {
         let mut records = match round % 40 {
             0 => crowded(&mut random, SMALL),
@@ -422,13 +424,13 @@ fn every_refusal_has_a_cause() {
         let mut work = vec![0; work_bytes(&records)];
         let n = records.len();
         if let Err(refusal) = check(&store, n, &mut work) {
-            let cause = network_cause(&records, refusal, &|place| format!("record {place}"));
+            let cause = network_cause(&records, refusal, telling);
             count(refusal, cause, &format!("{records:?}"));
             continue;
         }
         let given = random_command(&mut random, &records);
         if let Err(refusal) = command(&mut store, n, &mut work, &given) {
-            let cause = command_cause(&records, &given, refusal);
+            let cause = command_cause(&records, &given, refusal, telling);
             count(refusal, cause, &format!("{given:?}"));
         }
     }

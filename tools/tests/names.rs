@@ -97,12 +97,12 @@ fn names_that_do_not_fit() {
     );
     fault(
         "miss cor: output drop",
-        "column 6: expected a switch (0 to 3), found `cor`",
+        "column 6: expected a switch (0 to 3), found `cor`; there is no such name",
         Some("did you mean `core`?"),
     );
     fault(
         "policy 0: ward nea and switch 2 never meet",
-        "column 16: expected a ward's name, found `nea`",
+        "column 16: expected a ward's name, found `nea`; there is no such name",
         Some("did you mean `near`?"),
     );
     fault(
@@ -117,12 +117,12 @@ fn names_that_do_not_fit() {
     );
     fault(
         "group core/uplink: output 1",
-        "column 12: expected a group (0 to 15), found `uplink`",
+        "column 12: expected a group (0 to 15), found `uplink`; this is a port",
         Some("did you mean `uplinks`?"),
     );
     fault(
         "miss core: group uplnks",
-        "column 18: expected a group (0 to 15), found `uplnks`",
+        "column 18: expected a group (0 to 15), found `uplnks`; there is no such name",
         Some("did you mean `uplinks`?"),
     );
     fault(

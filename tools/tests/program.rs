@@ -69,7 +69,13 @@ fn faulty_calls() {
     complains(&["chekc", K], b"", 2, "`chekc` is no command, did you mean `check`?");
     complains(&["check"], b"", 2, "`check` takes one FILE");
     complains(&["check", K, K], b"", 2, "`check` takes one FILE");
-    complains(&["check", "--rules", K], b"", 2, "`check` has no option `--rules`");
+    complains(&["check", "--rules", K], b"", 2, "`check` has no option `--rules` (");
+    complains(&["check", "--jsno", K], b"", 2, "no option `--jsno`, did you mean `--json`? (");
+    complains(&["--hlep"], b"", 2, "there is no option `--hlep`, did you mean `--help`? (");
+    complains(&["--json=1"], b"", 2, "`--json` takes no value");
+    for words in [&["-h"][..], &["help"], &["help", "check"], &["check", "-h"]] {
+        expect(words, b"", 0, wegbaro(&["--help"], b"").text());
+    }
     complains(&["check", "--json=1", K], b"", 2, "`--json` takes no value");
     let both = wegbaro(&["check", "--json", "--gate", K], b"");
     assert!(both.status == Some(2) && both.said.contains("exclude each other"), "{both:?}");
@@ -107,7 +113,12 @@ fn check_judges_the_network_alone() {
     - switch 1: in at port 1, out at port 2, header 1 (record 5: rule 1 priority 10 port 1 header *: output 2)\n";
     expect(&["check", "-"], &broken.concat(), 1, words);
     expect(&["check", "--gate", "-"], &broken.concat(), 1, "start violated 0 3\n");
-    expect(&["check", "-"], b"", 1, "start: refused: row 1, there are no records\n");
+    expect(
+        &["check", "-"],
+        b"",
+        2,
+        "start: refused: row 1, there are no records\n  standard input\n",
+    );
     let none = "start: the network holds, as it has no policies\n";
     expect(&["check", "-"], &k()[..6].concat(), 0, none);
     let cut = &k().concat()[..470];
@@ -124,9 +135,9 @@ fn run_judges_the_commands_too() {
     expect(&["run", "--gate", "-"], &cut, 2, &format!("{K_LINES}end short\n"));
     // A command that no text can say is refused by a row, and the next is judged.
     let strange = [k(), vec![[10; 24], second_add()]].concat().concat();
-    expect(&["run", "--gate", "-"], &strange[..21 * 24], 1, "start refused 3 20\n");
+    expect(&["run", "--gate", "-"], &strange[..21 * 24], 2, "start refused 3 20\n");
     let strange = [k(), vec![[9; 24], second_add()]].concat().concat();
-    expect(&["run", "--gate", "-"], &strange, 1, "start refused 16 20\n");
+    expect(&["run", "--gate", "-"], &strange, 2, "start refused 16 20\n");
     let strange = [k(), vec![second_add(), [9; 24], second_add()]].concat().concat();
     let words = "start holds\n1 forwarded 21\n2 refused 12 0\n3 forwarded 21\n";
     expect(&["run", "--gate", "-"], &strange, 1, words);
@@ -209,8 +220,8 @@ fn answers_as_json() {
     expect(&["check", "--json", "-"], &grouped, 0, &format!("{holds}\n"));
 
     let twice = b"widths H 1 P 2 W 0\nmiss 0: output drop\nrule 0 priority 1: output 1\nrule 0 priority 1: output 2\n";
-    let refused = r#"{"subject":"start","answer":"refused","row":8,"place":3,"cause":"a rule with this switch, priority, port and header is there already, line 3","line":4,"other":2,"other_line":3}"#;
-    expect(&["check", "--json", "-"], twice, 1, &format!("{refused}\n"));
+    let refused = r#"{"subject":"start","answer":"refused","row":8,"place":3,"cause":"a rule with this switch, priority, port and header is there already, line 3","file":"standard input","line":4,"other":2,"other_line":3}"#;
+    expect(&["check", "--json", "-"], twice, 2, &format!("{refused}\n"));
     let broken = b"widths H 1 P 2 W 0\nmiss 0: output drop\npolicy 0 \"nothing \\ here\": E(X)\n";
     let ran = wegbaro(&["check", "--json", "-"], broken);
     let named =
@@ -333,7 +344,7 @@ fn the_lines_of_the_gate() {
         assert_eq!(ran.bytes, lines, "{}", ran.said);
         let lines = String::from_utf8(lines).unwrap();
         let status = match lines.as_str() {
-            lines if lines.contains("end short") => 2,
+            lines if lines.contains("end short") || lines.starts_with("start refused") => 2,
             lines if ["violated", "blocked", "refused"].iter().any(|w| lines.contains(w)) => 1,
             _ => 0,
         };
@@ -577,7 +588,7 @@ fn as_much_as_is_read() {
 fn first_bytes_of_records() {
     let none = "start refused 1 0\n";
     for kind in 6..=8 {
-        expect(&["check", "--gate", "-"], &[&[kind][..], &[0; 23]].concat(), 1, none);
+        expect(&["check", "--gate", "-"], &[&[kind][..], &[0; 23]].concat(), 2, none);
         let cut = [&k().concat()[..], &[kind]].concat();
         expect(&["run", "--gate", "-"], &cut, 2, "start holds\nend short\n");
     }
@@ -587,7 +598,7 @@ fn first_bytes_of_records() {
     }
     let many = |count: usize| [vec![1; 24 * count], vec![1]].concat();
     expect(&["run", "--gate", "-"], &many(657), 2, "end short\n");
-    expect(&["run", "--gate", "-"], &many(658), 1, none);
+    expect(&["run", "--gate", "-"], &many(658), 2, none);
 }
 
 /// A program with standard input or output closed from the start.
@@ -692,7 +703,7 @@ fn pictures() {
     let ran = wegbaro(&["picture", "--rules", "-"], &back);
     let label = "\\lrule priority 10 port 1 header 0: in_port\\l\"]";
     assert!(ran.text().contains(label), "{}", ran.text());
-    complains(&["picture", "-"], &records[..48], 1, "the network is refused");
+    complains(&["picture", "-"], &records[..48], 2, "the network is refused");
     let named = b"widths H 1 P 2 W 1\nname switch 1 core\nname port 1:1 up\nlink 0:2 - 1:1\n\
                   miss 0: output drop\nmiss 1: output drop\n";
     let ran = wegbaro(&["picture", "-"], named);

@@ -18,12 +18,71 @@ use wegbaro_tools::source::Source;
 
 /// Checks what is said of records that a row refuses.
 fn refused(records: &[Record], words: &str) {
-    expect(&["check", "-"], &records.concat(), 1, &format!("start: refused: row {words}\n"));
+    let file = if records.is_empty() { "  standard input\n" } else { "" };
+    let words = format!("start: refused: row {words}\n{file}");
+    expect(&["check", "-"], &records.concat(), 2, &words);
 }
 
-/// Checks what is said of a text that a row refuses.
+/// Checks what is said of a text that a row refuses, without the statements that are shown below.
 fn refused_text(text: &str, words: &str) {
-    expect(&["check", "-"], text.as_bytes(), 1, &format!("start: refused: row {words}\n"));
+    let ran = wegbaro(&["check", "-"], text.as_bytes());
+    let (first, shown) = ran.text().split_once('\n').unwrap();
+    assert_eq!((ran.status, first), (Some(2), format!("start: refused: row {words}").as_str()));
+    assert!(shown.starts_with("  standard input:"), "{shown}");
+}
+
+/// Checks all that is said of a text with names that a row refuses; line 5 is the first behind them.
+fn refused_statement(statements: &str, words: &str) {
+    let names = "widths H 1 P 2 W 1\nname switch 0 icu\nname port icu:1 pump\n\
+                 name group icu/3 uplinks\n";
+    let text = format!("{names}{statements}");
+    expect(&["check", "-"], text.as_bytes(), 2, &format!("start: refused: row {words}"));
+}
+
+/// A refusal of a text shows file, line and statement as a fault does, and tells names.
+#[test]
+fn statements_are_shown() {
+    refused_statement(
+        "link icu:1 - 1:1\nlink 1:2\n    - icu:pump  # again\n",
+        "6, port pump (1) of switch icu (0) is linked already, line 5, at record 2 (link 1), line 6\n  \
+         standard input:6:\n    link 1:2\n  earlier: standard input:5:\n    link icu:1 - 1:1\n",
+    );
+    refused_statement(
+        "miss 1: output drop\n",
+        "7, the miss of switch icu (0) comes before that of switch 1, at record 1 (miss of switch \
+         1), line 5\n  standard input:5:\n    miss 1: output drop\n",
+    );
+    refused_statement(
+        "miss icu: output drop\n# nothing more\n",
+        "7, switch 1 has no miss, at the end of the network, after 2 records\n  \
+         standard input:5:\n    miss icu: output drop\n",
+    );
+    refused_statement(
+        "miss icu: group uplinks\nmiss 1: output drop\n",
+        "16, action 1 is group uplinks (3), which switch icu (0) does not have, at record 1 (miss \
+         of switch icu (0)), line 5\n  standard input:5:\n    miss icu: group uplinks\n",
+    );
+    // Where no record is to blame, the file alone is told.
+    let empty = "start: refused: row 1, there are no records\n  standard input\n";
+    expect(&["check", "-"], b"# nothing\n", 2, empty);
+}
+
+/// Where the network as such is refused nothing was judged, and the status is that of a faulty text;
+/// no note says that it does not hold.
+#[test]
+fn statuses() {
+    let refused = "widths H 1 P 2 W 0\nadd 0 priority 1: output 1\n";
+    for subcommand in ["check", "run"] {
+        assert_eq!(wegbaro(&[subcommand, "-"], refused.as_bytes()).status, Some(2));
+    }
+    for arguments in [&["route", "-", "0", "1"][..], &["picture", "-"]] {
+        assert_eq!(wegbaro(arguments, refused.as_bytes()).status, Some(2), "{arguments:?}");
+    }
+    let ran = wegbaro(&["run", "-"], refused.as_bytes());
+    assert_eq!(ran.said, "note: the commands are not judged, as the network is refused\n");
+    // A command is refused by a network that was judged.
+    let judged = "widths H 1 P 2 W 0\nmiss 0: output 1\nadd 0 priority 1: group 1\n";
+    assert_eq!(wegbaro(&["run", "-"], judged.as_bytes()).status, Some(1));
 }
 
 /// A network of one switch without rules and policies.
@@ -96,9 +155,9 @@ fn row_5_of_a_version() {
     let cause = format!("the version is 2, and {VERSION_MUST_BE}");
     refused_text(&text, &format!("5, {cause}, at record 0 (widths), line 2"));
     let object = format!(
-        r#"{{"subject":"start","answer":"refused","row":5,"place":0,"cause":"{cause}","line":2}}"#
+        r#"{{"subject":"start","answer":"refused","row":5,"place":0,"cause":"{cause}","file":"standard input","line":2}}"#
     );
-    expect(&["check", "--json", "-"], text.as_bytes(), 1, &format!("{object}\n"));
+    expect(&["check", "--json", "-"], text.as_bytes(), 2, &format!("{object}\n"));
     let sound = |version| [with(widths(1, 2, 0), 4, version), miss(0, &[output(0, 3)])].concat();
     for version in VERSIONS {
         expect(&["check", "--gate", "-"], &sound(version), 0, "start holds\n");
@@ -390,8 +449,8 @@ fn row_16_between_records() {
     );
     // As objects, with the other record and its line.
     let twice = format!("{TWO}group 0/2: output 1\ngroup 0/2: output 2\n");
-    let object = r#"{"subject":"start","answer":"refused","row":16,"place":4,"cause":"group 2 of switch 0 is there already, line 4","line":5,"other":3,"other_line":4}"#;
-    expect(&["check", "--json", "-"], twice.as_bytes(), 1, &format!("{object}\n"));
+    let object = r#"{"subject":"start","answer":"refused","row":16,"place":4,"cause":"group 2 of switch 0 is there already, line 4","file":"standard input","line":5,"other":3,"other_line":4}"#;
+    expect(&["check", "--json", "-"], twice.as_bytes(), 2, &format!("{object}\n"));
 }
 
 /// Checks what is said of a command to K that a row refuses.

@@ -15,7 +15,7 @@ use wegbaro_tools::steps::Network;
 /// What is noted of a file with commands, as an object.
 const BEFORE_COMMANDS: &str =
     "{\"answer\":\"note\",\"message\":\"the route is that of the network \
-                               before the file's commands\"}\n";
+                               before the file's commands; `--after` takes a later one\"}\n";
 
 const K_ROUTE: &str = "\
 route: found, 3 steps
@@ -60,7 +60,9 @@ fn the_route_of_k() {
     ] {
         let ran = wegbaro(&[&["route", K], states].concat(), b"");
         assert_eq!((ran.status, ran.text()), (Some(0), K_ROUTE), "{states:?}: {}", ran.said);
-        assert_eq!(ran.said, "note: the route is that of the network before the file's commands\n");
+        let note = "note: the route is that of the network before the file's commands; `--after` \
+                    takes a later one\n";
+        assert_eq!(ran.said, note);
     }
     let of_records = K_ROUTE.replace("line 8", "record 4").replace("line 3", "record 1");
     let of_records = of_records.replace("line 9", "record 5");
@@ -278,7 +280,7 @@ fn faulty_states() {
     let k = "a state is its number, 0 to 31, or as `0:1 in header 0`, `0:1 out header 0`";
     for (states, column, message, hint) in [
         (["2", "32"], 3, "expected a state (0 to 31), found `32`", k),
-        (["02", "28"], 1, "expected a state (0 to 31), found `02`", k),
+        (["02", "28"], 1, "expected a state (0 to 31), found `02`", "a number has no leading zero"),
         (
             ["99999999999999999999", "28"],
             1,
@@ -350,12 +352,13 @@ fn faulty_calls() {
 fn refused_networks() {
     let words = "route: refused: row 7, switch 1 has no miss, at the end of the network, after 3 \
                  records\n";
-    expect(&["route", "-", "2", "28"], &k()[..3].concat(), 1, words);
+    expect(&["route", "-", "2", "28"], &k()[..3].concat(), 2, words);
     let object = r#"{"subject":"route","answer":"refused","row":7,"place":3,"cause":"switch 1 has no miss"}"#;
-    expect(&["route", "--json", "-", "2", "28"], &k()[..3].concat(), 1, &format!("{object}\n"));
+    expect(&["route", "--json", "-", "2", "28"], &k()[..3].concat(), 2, &format!("{object}\n"));
     let refused = "no picture, as the network is refused; `wegbaro check` tells why\n";
-    complains(&["route", "--dot", "-", "2", "28"], &k()[..3].concat(), 1, refused);
-    expect(&["route", "-", "2", "x"], b"", 1, "route: refused: row 1, there are no records\n");
+    complains(&["route", "--dot", "-", "2", "28"], &k()[..3].concat(), 2, refused);
+    let none = "route: refused: row 1, there are no records\n  standard input\n";
+    expect(&["route", "-", "2", "x"], b"", 2, none);
     let cut = &k().concat()[..470];
     expect(&["route", "-", "2", "28"], cut, 2, "end: the input ends within a record\n");
     let short = "no picture, as the input ends within a record\n";

@@ -210,7 +210,10 @@ fn sentences_that_say_nothing() {
         "what enters leaves only by way of 0:1",
         "column 45: a way leads over switches, not over a point alone",
     );
-    fault("no route of more than 0 hops", "column 33: a route has 1 to 7 hops here");
+    fault(
+        "no route of more than 0 hops",
+        "column 33: expected a number of hops (1 to 7), found `0`",
+    );
     fault("no routes", "column 14: expected `loops`, `loop`, `frame` or `route`, found `routes`");
     fault(
         "what enters vanishes",

@@ -244,7 +244,7 @@ fn a_network_that_does_not_hold_and_a_cut_file_have_no_session() {
     let broken = file("broken", &broken.concat());
     expect(&["session", "--gate", &broken], add, 1, "start violated 0 3\n");
     let refused = file("refused", &k().concat()[..48]);
-    expect(&["session", "--gate", &refused], add, 1, "start refused 7 2\n");
+    expect(&["session", "--gate", &refused], add, 2, "start refused 7 2\n");
     let cut = file("cut-network", &k().concat()[..50]);
     expect(&["session", "--gate", &cut], add, 2, "end short\n");
     let cut = file("cut-command", &[&k().concat()[..], &[6]].concat());

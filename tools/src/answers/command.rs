@@ -3,7 +3,7 @@
 use super::refused::{refused_object, refused_words};
 use super::{Answer, Standing};
 use crate::book::{Book, Change, Origin};
-use crate::causes::command_cause;
+use crate::causes::{command_cause, Cause, Telling};
 use crate::json::Object;
 use crate::kind;
 use crate::source::Command;
@@ -34,7 +34,7 @@ impl Answer for CommandAnswer {
                 format!("blocked: {}", after.broken_words(policy, state)?)
             }
             Err(refusal) => {
-                let cause = command_cause(&standing.book.records, &self.command.record, refusal);
+                let cause = self.cause(standing, refusal);
                 refused_words(refusal, cause.as_ref())
             }
         };
@@ -58,7 +58,7 @@ impl Answer for CommandAnswer {
                 after.broken_object(object.text("answer", "blocked"), policy, state)?
             }
             Err(refusal) => {
-                let cause = command_cause(&standing.book.records, &self.command.record, refusal);
+                let cause = self.cause(standing, refusal);
                 refused_object(object, refusal, cause.as_ref())
             }
         })
@@ -91,6 +91,12 @@ impl CommandAnswer {
             None => Origin::Command(self.number),
         };
         book.after(&self.command.record, origin)
+    }
+
+    fn cause(&self, standing: Standing, refusal: Refusal) -> Option<Cause> {
+        let at = |place: usize| standing.book.origin(place).to_string();
+        let telling = Telling { at: &at, names: &standing.source.names };
+        command_cause(&standing.book.records, &self.command.record, refusal, telling)
     }
 
     /// What a forwarded command does, where it is not what its word says alone.

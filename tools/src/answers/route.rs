@@ -1,10 +1,11 @@
 //! The route call's answer, told and drawn.
 
+use super::refused::refused_status;
 use super::short::ShortAnswer;
 use super::taken::part_words;
 use super::{note, told, Answer, Standing};
+use crate::after::network_after;
 use crate::arguments::Arguments;
-use crate::book::Book;
 use crate::fault::quoted;
 use crate::json::Object;
 use crate::parse::parse_states;
@@ -21,10 +22,8 @@ use wegbaro::Refusal;
 pub fn route(arguments: &Arguments) -> Result<Status, Trouble> {
     let format = arguments.format();
     let source = Source::noted(arguments.file(), format)?;
-    if !source.commands.is_empty() {
-        note(format, "the route is that of the network before the file's commands")?;
-    }
-    let book = Book::new(&source.network, &source.lines);
+    let (book, which) = network_after(arguments, &source)?;
+    which.iter().try_for_each(|message| note(format, message))?;
     let standing = Standing { source: &source, book: &book };
     let states = arguments.joined(1);
     match arguments.has(DOT.name) {
@@ -50,7 +49,7 @@ pub struct RouteAnswer {
 
 impl RouteAnswer {
     /// The library's answer for the states that an argument names.
-    fn of(standing: Standing, states: &str) -> Result<RouteAnswer, Trouble> {
+    pub fn of(standing: Standing, states: &str) -> Result<RouteAnswer, Trouble> {
         let ends = ends(standing.source, states)?;
         Ok(RouteAnswer { ends, found: find(&standing.book.records, ends) })
     }
@@ -93,7 +92,8 @@ impl Answer for RouteAnswer {
     fn status(&self) -> Status {
         match self.found {
             Ok(Some(_)) => Status::Good,
-            _ => Status::Bad,
+            Ok(None) => Status::Bad,
+            Err(refusal) => refused_status(refusal),
         }
     }
 }

@@ -1,6 +1,6 @@
 //! The check call's answer about the network at the start.
 
-use super::refused::{refused_object, refused_words};
+use super::refused::{refused_object, refused_status, refused_words};
 use super::{Answer, Standing};
 use crate::causes::Cause;
 use crate::json::Object;
@@ -29,7 +29,7 @@ impl Answer for StartAnswer {
             }
             Err(refusal) => {
                 let cause = self.cause(standing, refusal);
-                let place = standing.place_words(refusal);
+                let place = standing.place_words(refusal, cause.as_ref());
                 format!("start: {}{place}", refused_words(refusal, cause.as_ref()))
             }
         })
@@ -57,7 +57,8 @@ impl Answer for StartAnswer {
     fn status(&self) -> Status {
         match self.verdict {
             Ok(Checked::Holds) => Status::Good,
-            _ => Status::Bad,
+            Ok(Checked::Violated { .. }) => Status::Bad,
+            Err(refusal) => refused_status(refusal),
         }
     }
 
