@@ -25,6 +25,7 @@ mod policies;
 pub mod print;
 pub mod priorities;
 pub mod program;
+pub mod reach;
 pub mod route;
 pub mod session;
 pub mod source;
