@@ -60,6 +60,18 @@ pub fn compile(written: &Written, of: Widths) -> Compiled {
     }
 }
 
+/// The most nodes that operands can name.
+const MOST_NAMED: usize = 256;
+
+/// The nodes of a formula that has too many of them without closures that are there to save some. Its
+/// truth is explained by these, as such a closure is no walk. None beyond what operands can name.
+pub fn without_tricks(written: &Written, of: Widths) -> Option<Vec<Node>> {
+    let mut parts = Parts::with(Tricks::None);
+    let whole = parts.take(written, of);
+    let is_shortened = |nodes: &Vec<Node>| (MOST_NODES + 1..=MOST_NAMED).contains(&nodes.len());
+    Some(fewest(&mut parts, whole)).filter(is_shortened)
+}
+
 /// The nodes of a formula of raw forms.
 fn as_it_stands(written: &Written) -> Vec<Node> {
     let mut nodes = Nodes::default();

@@ -28,6 +28,7 @@ pub mod print;
 pub mod priorities;
 pub mod program;
 pub mod questions;
+pub mod reach;
 pub mod route;
 pub mod session;
 pub mod source;

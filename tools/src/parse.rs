@@ -5,7 +5,7 @@
 //! as a point linked twice, is left to the gate, which refuses it by a row.
 
 use crate::fault::{quoted, Fault};
-use crate::formula::Formula;
+use crate::formula::{Formula, Node};
 use crate::kind::{self, action};
 use crate::names::{Names, Point};
 use crate::policies::Split;
@@ -49,6 +49,8 @@ pub struct PolicyText {
     /// The policy as written, on one line.
     pub source: String,
     pub formula: Formula,
+    /// The nodes of the policy as written, where those of its records are a shorter form or a part.
+    pub whole: Option<Vec<Node>>,
 }
 
 /// The records of a text, or its first twenty faults.

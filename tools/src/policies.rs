@@ -1,7 +1,7 @@
 //! Reads policies, and puts the parts of those that are too long behind the last one.
 
 use crate::advice::advised;
-use crate::compile::{compile, Compiled};
+use crate::compile::{compile, without_tricks, Compiled};
 use crate::fault::Fault;
 use crate::formula::{read_nodes, Formula, Node, MOST_NODES, MOST_POLICIES};
 use crate::kind::{self, node};
@@ -22,6 +22,8 @@ pub(crate) struct Split {
     parts: Vec<Vec<Node>>,
     /// The nodes that the policy has in one.
     nodes: usize,
+    /// Those of the policy as written.
+    whole: Option<Vec<Node>>,
     place: Place,
     source: String,
 }
@@ -42,8 +44,8 @@ impl Reader {
         let as_nodes = statement.accept("nodes");
         statement.expect(":")?;
         let source = statement.rest();
-        let nodes = match as_nodes {
-            true => read_nodes(statement, of.bits())?,
+        let (nodes, whole) = match as_nodes {
+            true => (read_nodes(statement, of.bits())?, None),
             false => self.formula(of, policy, statement)?,
         };
         statement.finish()?;
@@ -52,18 +54,19 @@ impl Reader {
             self.note(format!("line {line}: policy {policy} {what}"));
         }
         if let Some(formula) = Formula::of(&nodes) {
-            self.policies.push(PolicyText { number: policy, name, line, source, formula });
+            self.policies.push(PolicyText { number: policy, name, line, source, formula, whole });
         }
         Ok(policy_bytes(policy, &nodes))
     }
 
-    /// The nodes of a sentence or a formula; parts that have no room in one policy are kept.
+    /// The nodes of a sentence or a formula, and those of it as written where they are others; parts
+    /// that have no room in one policy are kept.
     fn formula(
         &mut self,
         of: Widths,
         policy: u8,
         statement: &mut Statement,
-    ) -> Result<Vec<Node>, Fault> {
+    ) -> Result<(Vec<Node>, Option<Vec<Node>>), Fault> {
         let start = statement.peek();
         let source = statement.rest();
         let forms = self.forms(of, statement).map_err(|fault| {
@@ -80,12 +83,21 @@ impl Reader {
                     let line = start.place.line;
                     self.note(format!("line {line}: policy {policy} {what}, in any network"));
                 }
-                Ok(nodes)
+                Ok((nodes, without_tricks(&forms[0], of)))
             }
             Compiled::Split(mut parts, nodes) => {
                 let first = parts.remove(0);
-                self.parts.push(Split { policy, parts, nodes, place: start.place, source });
-                Ok(first)
+                let whole = without_tricks(&forms[0], of);
+                let place = start.place;
+                self.parts.push(Split {
+                    policy,
+                    parts,
+                    nodes,
+                    whole: whole.clone(),
+                    place,
+                    source,
+                });
+                Ok((first, whole))
             }
             Compiled::TooLong(nodes) => {
                 let message = format!("the policy has {nodes} nodes; the most is {MOST_NODES}");
@@ -109,7 +121,7 @@ impl Reader {
     pub(crate) fn rest_of_policies(&mut self) -> Result<Vec<(Vec<u8>, usize)>, Fault> {
         let mut records = vec![];
         for split in std::mem::take(&mut self.parts) {
-            let Split { policy, parts, nodes, place, source } = split;
+            let Split { policy, parts, nodes, whole, place, source } = split;
             let line = place.line;
             let count = parts.len() + 1;
             let name = self.names.policy(policy).map(String::from);
@@ -129,8 +141,8 @@ impl Reader {
                     self.names.give_policy(number, name);
                 }
                 if let Some(formula) = Formula::of(&part) {
-                    let (name, source) = (name.clone(), source.clone());
-                    self.policies.push(PolicyText { number, name, line, source, formula });
+                    let (name, source, whole) = (name.clone(), source.clone(), whole.clone());
+                    self.policies.push(PolicyText { number, name, line, source, formula, whole });
                 }
                 self.open = Some(number);
                 records.push((policy_bytes(number, &part), line));

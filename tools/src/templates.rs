@@ -1,5 +1,7 @@
 //! Policies as sentences. Each says what shall be so; its formula is what is then forbidden.
 
+mod idle;
+
 use crate::fault::Fault;
 use crate::formula::Variable::{self, X, Y};
 use crate::names::Area;
@@ -45,21 +47,25 @@ impl Sentence<'_, '_, '_> {
     fn no(&mut self) -> Result<Written, Fault> {
         self.statement.take();
         if self.statement.accept("loops") {
+            self.note_no_loops();
             return Ok(Written::reaches(X, X));
         }
         if self.statement.accept("loop") {
             self.statement.expect_all(&["over", "states"])?;
+            self.note_no_links();
             let walk = Written::And(vec![Written::reaches(X, Y), Written::reaches(Y, Y)]);
             return Ok(Written::And(vec![Written::External(X), walk.exists(Y)]));
         }
         if self.statement.accept("frame") {
             self.statement.expect_all(&["comes", "back", "to", "a", "switch", "it", "left"])?;
+            self.note_no_links();
             return Ok(comes_back());
         }
         if self.statement.accept("route") {
             self.statement.expect_all(&["of", "more", "than"])?;
             let hops = self.statement.number_within("a number of hops", 1..=MOST_HOPS)?;
             self.statement.expect_all(&[if hops == 1 { "hop" } else { "hops" }])?;
+            self.note_no_links();
             return Ok(longer_than(hops));
         }
         Err(self.statement.expected("`loops`, `loop`, `frame` or `route`"))
@@ -70,6 +76,7 @@ impl Sentence<'_, '_, '_> {
         self.statement.take();
         let (frames, _) = self.frames("from")?;
         self.statement.expect_all(&["is", "dropped"])?;
+        self.note_closed();
         let dropped = Written::Fits(Field::Port, Y, [DROP, self.of.controller()]);
         let walk = Written::And(vec![Written::reaches(X, Y), dropped]);
         Ok(Written::And([&frames[..], &[walk.exists(Y)]].concat()))
@@ -86,6 +93,7 @@ impl Sentence<'_, '_, '_> {
             out.extend(self.at(Y, &areas));
         }
         out.push(Written::Fits(Field::Header, Y, pattern));
+        self.note_closed();
         let enters = [Written::External(X), arriving(X)];
         Ok(Written::And([&enters[..], &[Written::And(out).exists(Y)]].concat()))
     }
@@ -102,11 +110,13 @@ impl Sentence<'_, '_, '_> {
             // A departing state at an external point gets nowhere, and is not meant.
             frames.push(arriving(X));
             let there = self.reader.areas(self.of, self.statement)?;
+            self.note_there(&from, &there);
             let walks = self.walks(Written::Steps(X, Y), &from, &there);
             walks.into_iter().map(Written::negated).collect()
         } else if self.statement.accept("never") {
             self.statement.expect_all(&["reaches"])?;
             let there = self.reader.areas(self.of, self.statement)?;
+            self.note_ways(&from, &there, &[]);
             self.walks(Written::Steps(X, Y), &from, &there)
         } else if self.statement.accept("leaves") {
             self.leaves(&from)?
@@ -121,6 +131,7 @@ impl Sentence<'_, '_, '_> {
     fn leaves(&mut self, from: &[Area]) -> Result<Vec<Written>, Fault> {
         if self.statement.accept_all(&["only", "at"]) {
             let areas = self.outside()?;
+            self.note_elsewhere(from, &areas);
             let elsewhere = Written::And(self.at(Y, &areas)).negated();
             let out = vec![Written::reaches(X, Y), Written::External(Y), elsewhere];
             return Ok(vec![Written::And(out).exists(Y)]);
@@ -135,6 +146,7 @@ impl Sentence<'_, '_, '_> {
         if switches.iter().any(|area| matches!(area, Area::Point(_))) {
             return Err(start.fault("a way leads over switches, not over a point alone"));
         }
+        self.note_ways(from, &there, &switches);
         // A walk to a departing state ends at the switch of the state before, so the first state of
         // each pair is enough.
         let passed = Written::within(X, &switches, self.of).negated();
@@ -175,6 +187,7 @@ impl Sentence<'_, '_, '_> {
             let message = format!("{} is in both", self.area_name(area));
             return Err(start.fault(message));
         }
+        self.note_apart(&one, &other);
         let within = |variable, areas| Written::within(variable, areas, self.of);
         let there = Written::And(vec![within(X, &one), within(Y, &other)]);
         let back = Written::And(vec![within(X, &other), within(Y, &one)]);

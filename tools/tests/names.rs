@@ -230,18 +230,19 @@ fn one_command() {
 #[test]
 fn policies_that_are_split() {
     let misses: String = (0..8).map(|switch| format!("miss {switch}: output drop\n")).collect();
-    let ward = format!("widths H 1 P 3 W 3\n{misses}");
+    let links: String = (0..7).map(|it| format!("link {it}:2 - {}:4\n", it + 1)).collect();
+    let ward = format!("widths H 1 P 3 W 3\n{links}{misses}");
     let long = "what enters at 0:1, 6:3 never reaches 7:1, 3:6, 4:5, 2:3";
     let text =
         format!("{ward}policy 0 \"apart\": {long}\npolicy 1: no loops\ndelete 0 priority 1\n");
     let whole = parsed(&text);
     let policies: Vec<(u8, Option<&str>, usize)> =
         whole.policies.iter().map(|it| (it.number, it.name.as_deref(), it.line)).collect();
-    assert_eq!(policies[..3], [(0, Some("apart"), 10), (1, None, 11), (2, Some("apart"), 10)]);
-    assert!(policies[3..].iter().all(|(_, name, line)| *name == Some("apart") && *line == 10));
+    assert_eq!(policies[..3], [(0, Some("apart"), 17), (1, None, 18), (2, Some("apart"), 17)]);
+    assert!(policies[3..].iter().all(|(_, name, line)| *name == Some("apart") && *line == 17));
     assert_eq!(whole.names.policy(2), Some("apart"));
     assert_eq!(whole.notes.len(), 1);
-    let note = "line 10: policy 0 has ";
+    let note = "line 17: policy 0 has ";
     assert!(
         whole.notes[0].starts_with(note) && whole.notes[0].contains("policy 2"),
         "{:?}",
@@ -252,10 +253,10 @@ fn policies_that_are_split() {
     assert_eq!(records.len(), whole.lines.len());
     for (record, line) in records.iter().zip(&whole.lines) {
         match record[..2] {
-            [5, 1] => assert_eq!(*line, 11),
-            [5, _] => assert_eq!(*line, 10),
-            [8, _] => assert_eq!(*line, 12),
-            _ => assert!(*line < 10),
+            [5, 1] => assert_eq!(*line, 18),
+            [5, _] => assert_eq!(*line, 17),
+            [8, _] => assert_eq!(*line, 19),
+            _ => assert!(*line < 17),
         }
     }
     assert_eq!(records[records.len() - 1][0], 8);
@@ -265,7 +266,7 @@ fn policies_that_are_split() {
     // Without room for the parts it is a fault at the policy, and so is one that cannot be split.
     let others: String = (1..8).map(|number| format!("policy {number}: E(X)\n")).collect();
     let faults = parse(&format!("{ward}policy 0: {long}\n{others}")).unwrap_err();
-    assert_eq!((faults.len(), faults[0].line, faults[0].column), (1, 10, 11));
+    assert_eq!((faults.len(), faults[0].line, faults[0].column), (1, 17, 11));
     assert!(faults[0].message.contains("there would be more than 8"), "{}", faults[0]);
     let never = "what enters at 0:1, 6:3 reaches 7:1, 3:6, 4:5, 2:3, 1:6, 0:4, 5:5";
     let faults = parse(&format!("{ward}policy 0: {never}\n")).unwrap_err();

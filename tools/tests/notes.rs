@@ -7,8 +7,9 @@ use running::{file, wegbaro, K};
 /// A ward with a policy that becomes two, and an output that sends nothing.
 fn ward() -> String {
     let misses: String = (0..8).map(|switch| format!("miss {switch}: output drop\n")).collect();
+    let links: String = (0..7).map(|it| format!("link {it}:2 - {}:4\n", it + 1)).collect();
     format!(
-        "widths H 1 P 3 W 3\n{misses}rule 0 priority 1 port 1: output 1\n\
+        "widths H 1 P 3 W 3\n{links}{misses}rule 0 priority 1 port 1: output 1\n\
          policy 0: what enters at 0:1, 6:3 never reaches 7:1, 3:6, 4:5, 2:3\n"
     )
 }
@@ -43,8 +44,8 @@ fn a_policy_that_is_split() {
         assert_eq!(ran.status, Some(status), "{subcommand}: {}", ran.said);
         let notes = said(&ran.said);
         assert_eq!(notes.len(), 2, "{subcommand}: {}", ran.said);
-        assert!(notes[0].starts_with("line 10: `output 1` sends nothing here"), "{}", ran.said);
-        assert!(notes[1].starts_with("line 11: policy 0 has "), "{}", ran.said);
+        assert!(notes[0].starts_with("line 17: `output 1` sends nothing here"), "{}", ran.said);
+        assert!(notes[1].starts_with("line 18: policy 0 has "), "{}", ran.said);
     }
     for call in [&["check"][..], &["run"], &["session"]] {
         let ran = wegbaro(&[call, &["--json", &file]].concat(), b"");

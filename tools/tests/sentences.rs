@@ -158,7 +158,9 @@ fn wards_of_ten_bits() {
         let nodes = |policy: &str| {
             let parsed = parsed(&format!("{ward}policy 0: {policy}\n"));
             assert_eq!(parsed.policies.len(), 1, "{policy}");
-            assert_eq!(parsed.notes, Vec::<String>::new());
+            // Without links, rules cannot break what is said of several switches.
+            let is_told = |note: &String| note.contains("whatever the rules are");
+            assert!(parsed.notes.iter().all(is_told), "{:?}", parsed.notes);
             whole_records(&parsed.bytes).0.iter().filter(|record| record[0] == 5).count()
         };
         assert!(nodes("header 1 never leaves") <= 25);

@@ -22,7 +22,7 @@ impl Standing<'_> {
             self.policy_words(policy),
             self.numbered_words(network.widths, state)
         );
-        for reason in reasons(network, policy, state)? {
+        for reason in self.reasons(network, policy, state)? {
             words += &self.reason_words(network, state, &reason)?;
         }
         Ok(words)
@@ -103,7 +103,7 @@ impl Standing<'_> {
         let text = self.source.policy(policy);
         let name = text.and_then(|policy| policy.name.as_deref());
         let of = network.widths;
-        let reasons = reasons(network, policy, state)?;
+        let reasons = self.reasons(network, policy, state)?;
         let first = reasons.first().cloned().unwrap_or_default();
         let objects: Result<Vec<Object>, Trouble> =
             reasons.iter().map(|reason| self.reason_object(network, reason)).collect();
@@ -123,19 +123,27 @@ impl Standing<'_> {
         let y = reason.y.map(|y| self.state_object(network.widths, y));
         Ok(Object::new().maybe(y, |object, y| object.object("y", y)).objects("walks", &walks?))
     }
-}
 
-/// Why a state breaks a policy. Walks are told only if they are the network's: a closure may be about
-/// other pairs of states than steps.
-fn reasons(network: Network, policy: usize, state: usize) -> Result<Vec<Reason>, Trouble> {
-    let nodes = nodes_of(network.records, policy);
-    let is_way = |walk: &Vec<usize>| walk.windows(2).all(|pair| network.steps(pair[0], pair[1]));
-    let mut reasons = Truth::of(network, &nodes).reasons(state)?;
-    for reason in &mut reasons {
-        reason.walks.retain(is_way);
+    /// Why a state breaks a policy, by its nodes as written: its records may have a shorter form, whose
+    /// closures are no walks. Walks are told only if they are the network's: a closure may be about other
+    /// pairs of states than steps.
+    fn reasons(
+        self,
+        network: Network,
+        policy: usize,
+        state: usize,
+    ) -> Result<Vec<Reason>, Trouble> {
+        let whole = self.source.policy(policy).and_then(|policy| policy.whole.clone());
+        let nodes = whole.unwrap_or_else(|| nodes_of(network.records, policy));
+        let is_way =
+            |walk: &Vec<usize>| walk.windows(2).all(|pair| network.steps(pair[0], pair[1]));
+        let mut reasons = Truth::of(network, &nodes).reasons(state)?;
+        for reason in &mut reasons {
+            reason.walks.retain(is_way);
+        }
+        reasons.retain(|reason| reason.y.is_some() || !reason.walks.is_empty());
+        Ok(reasons)
     }
-    reasons.retain(|reason| reason.y.is_some() || !reason.walks.is_empty());
-    Ok(reasons)
 }
 
 /// The nodes of a policy.
