@@ -21,13 +21,20 @@ pub struct Arguments {
 pub enum Asked {
     Help,
     Version,
+    Manual,
+    Completion,
     Done(&'static Subcommand, Arguments),
 }
 
 /// Reads the arguments.
 pub fn read(given: impl IntoIterator<Item = OsString>) -> Result<Asked, Trouble> {
     let arguments = sort(given)?;
-    for (option, asked) in [("--help", Asked::Help), ("--version", Asked::Version)] {
+    for (option, asked) in [
+        ("--help", Asked::Help),
+        ("--version", Asked::Version),
+        ("--man", Asked::Manual),
+        ("--completion", Asked::Completion),
+    ] {
         if arguments.has(option) {
             return Ok(asked);
         }
