@@ -24,6 +24,12 @@ includedir := $(prefix)/include
 libdir := $(prefix)/lib
 pcdir := $(libdir)/pkgconfig
 docdir := $(prefix)/share/doc/wegbaro
+mandir := $(prefix)/share/man/man1
+completiondir := $(prefix)/share/bash-completion/completions
+folders := $(bindir) $(includedir) $(pcdir) $(docdir) $(mandir) $(completiondir)
+
+# Which of the folders were not there before `make install`, so that `make uninstall` removes them.
+made_folders := $(DESTDIR)$(docdir)/made-folders
 
 RT ?= rt
 CC ?= cc
@@ -84,11 +90,15 @@ $(shared): $(static) packaging/libwegbaro.map Makefile
 	    -Wl,--whole-archive $(static) -Wl,--no-whole-archive
 
 install: $(static) $(shared) $(gate) $(program)
-	$(INSTALL) -d $(DESTDIR)$(bindir) $(DESTDIR)$(includedir) $(DESTDIR)$(pcdir) $(DESTDIR)$(docdir)
+	packaging/make-folders "$(DESTDIR)" "$(made_folders)" $(folders)
 	$(INSTALL) -m 755 $(gate) $(DESTDIR)$(bindir)/gate
 	$(INSTALL) -m 755 $(program) $(DESTDIR)$(bindir)/wegbaro
 	$(INSTALL) -m 644 include/wegbaro.h $(DESTDIR)$(includedir)/wegbaro.h
-	$(INSTALL) -m 644 docs/FORMAT.md CHANGELOG.md $(DESTDIR)$(docdir)
+	$(INSTALL) -m 644 docs/FORMAT.md docs/answers.schema.json CHANGELOG.md $(DESTDIR)$(docdir)
+	sed 's|(\.\./docs/|(|g' tools/README.md > $(DESTDIR)$(docdir)/README.md
+	$(program) --man > $(DESTDIR)$(mandir)/wegbaro.1
+	$(program) --completion > $(DESTDIR)$(completiondir)/wegbaro
+	chmod 644 $(DESTDIR)$(docdir)/README.md $(DESTDIR)$(mandir)/wegbaro.1 $(DESTDIR)$(completiondir)/wegbaro
 	$(INSTALL) -m 644 $(static) $(DESTDIR)$(libdir)/libwegbaro.a
 	$(INSTALL) -m 755 $(shared) $(DESTDIR)$(libdir)/$(notdir $(shared))
 	ln -sf $(notdir $(shared)) $(DESTDIR)$(libdir)/$(SONAME)
@@ -101,9 +111,12 @@ uninstall:
 	rm -f $(DESTDIR)$(bindir)/gate $(DESTDIR)$(bindir)/wegbaro
 	rm -f $(DESTDIR)$(includedir)/wegbaro.h
 	rm -f $(DESTDIR)$(docdir)/FORMAT.md $(DESTDIR)$(docdir)/CHANGELOG.md
+	rm -f $(DESTDIR)$(docdir)/README.md $(DESTDIR)$(docdir)/answers.schema.json
+	rm -f $(DESTDIR)$(mandir)/wegbaro.1 $(DESTDIR)$(completiondir)/wegbaro
 	rm -f $(DESTDIR)$(libdir)/libwegbaro.a $(DESTDIR)$(libdir)/libwegbaro.so
 	rm -f $(DESTDIR)$(libdir)/$(SONAME) $(DESTDIR)$(libdir)/$(notdir $(shared))
 	rm -f $(DESTDIR)$(pcdir)/wegbaro.pc
+	packaging/remove-folders "$(DESTDIR)" "$(made_folders)"
 
 test:
 	sh .ci/run

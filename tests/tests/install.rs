@@ -100,8 +100,13 @@ fn in_a_staging_folder() {
         &named,
         &versioned,
         "usr/lib/pkgconfig/wegbaro.pc",
+        "usr/share/bash-completion/completions/wegbaro",
         "usr/share/doc/wegbaro/CHANGELOG.md",
         "usr/share/doc/wegbaro/FORMAT.md",
+        "usr/share/doc/wegbaro/README.md",
+        "usr/share/doc/wegbaro/answers.schema.json",
+        "usr/share/doc/wegbaro/made-folders",
+        "usr/share/man/man1/wegbaro.1",
     ];
     assert_eq!(files(stage.path()), expected);
     let description =
@@ -109,7 +114,51 @@ fn in_a_staging_folder() {
     assert!(description.starts_with("prefix=/usr\n"), "{description}");
 
     make(&["uninstall", "PREFIX=/usr", &to]);
-    assert_eq!(files(stage.path()), Vec::<String>::new());
+    assert_eq!(fs::read_dir(stage.path()).unwrap().count(), 0);
+}
+
+/// Folders that were there stay, and so do those in which something else is now.
+#[test]
+fn folders_are_removed_by_whom_they_were_made() {
+    let prefix = folder("folders");
+    let prefix = prefix.path();
+    fs::create_dir_all(prefix.join("include")).unwrap();
+    for _ in 0..2 {
+        install(prefix);
+    }
+    fs::write(prefix.join("bin/other"), "").unwrap();
+    make(&["uninstall", &format!("PREFIX={}", prefix.display())]);
+    let left = fs::read_dir(prefix).unwrap().map(|entry| entry.unwrap().file_name());
+    let mut left: Vec<_> = left.collect();
+    left.sort();
+    assert_eq!(left, ["bin", "include"]);
+}
+
+/// What is installed for readers says what the program itself says, and its links lead somewhere.
+#[test]
+fn the_installed_documents() {
+    let prefix = folder("documents");
+    install(prefix.path());
+    let share = prefix.path().join("share");
+    let read = |name: &str| fs::read_to_string(share.join(name)).unwrap();
+    let wegbaro = |word| printed(Command::new(prefix.path().join("bin/wegbaro")).arg(word));
+    assert_eq!(read("man/man1/wegbaro.1"), wegbaro("--man"));
+    assert_eq!(read("bash-completion/completions/wegbaro"), wegbaro("--completion"));
+    let readme = read("doc/wegbaro/README.md");
+    let links = readme.split("](").skip(1).filter_map(|rest| Some(rest.split_once(')')?.0));
+    let links: Vec<&str> = links.filter(|link| !link.starts_with('#')).collect();
+    assert!(links.contains(&"answers.schema.json"), "{links:?}");
+    assert!(links.iter().all(|link| share.join("doc/wegbaro").join(link).exists()), "{links:?}");
+}
+
+/// `cargo doc` in the crate's folder writes to `target/` of the project alone.
+#[test]
+fn documents_of_the_crate_leave_nothing_behind() {
+    let crate_folder = root().join("bindings/rust");
+    let before = files(&crate_folder);
+    let mut cargo = Command::new("cargo");
+    run(cargo.args(["doc", "--offline", "--no-deps"]).current_dir(&crate_folder));
+    assert_eq!(files(&crate_folder), before);
 }
 
 #[test]

@@ -21,17 +21,27 @@ pub struct Arguments {
 pub enum Asked {
     Help,
     Version,
+    Manual,
+    Completion,
     Done(&'static Subcommand, Arguments),
 }
 
 /// Reads the arguments.
 pub fn read(given: impl IntoIterator<Item = OsString>) -> Result<Asked, Trouble> {
     let arguments = sort(given)?;
-    if arguments.has("--help") || arguments.has("-h") || arguments.is_help() {
+    if arguments.is_help() {
         return Ok(Asked::Help);
     }
-    if arguments.has("--version") {
-        return Ok(Asked::Version);
+    for (option, asked) in [
+        ("--help", Asked::Help),
+        ("-h", Asked::Help),
+        ("--version", Asked::Version),
+        ("--man", Asked::Manual),
+        ("--completion", Asked::Completion),
+    ] {
+        if arguments.has(option) {
+            return Ok(asked);
+        }
     }
     let subcommand = arguments.subcommand()?;
     arguments.fit(subcommand)?;

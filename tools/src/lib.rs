@@ -19,6 +19,7 @@ pub mod groups;
 pub mod json;
 pub mod judging;
 pub mod kind;
+pub mod manual;
 pub mod names;
 mod naming;
 pub mod parse;

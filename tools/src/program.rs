@@ -2,6 +2,7 @@
 
 use crate::answers::Format;
 use crate::arguments::{self, Asked};
+use crate::manual;
 use crate::standard::{self, say};
 use crate::subcommands::help;
 use crate::trouble::{Status, Trouble};
@@ -16,6 +17,8 @@ pub fn run(given: impl IntoIterator<Item = OsString>) -> Status {
             let version = concat!("wegbaro ", env!("CARGO_PKG_VERSION"), "\n");
             (Format::Words, written(version))
         }
+        Ok(Asked::Manual) => (Format::Words, written(&manual::page())),
+        Ok(Asked::Completion) => (Format::Words, written(&manual::completion())),
         Ok(Asked::Done(subcommand, arguments)) => {
             (arguments.format(), (subcommand.run)(&arguments))
         }

@@ -182,6 +182,7 @@ FILE is a text or has records, and `-` is standard input. FROM and TO are states
 fields: `0:1 in header 0` arrives at port 1 of switch 0, and `0:1 out header 0` departs there.
 
 {options}  --help, -h, help; --version
+  --man, --completion: the page for man, and what completes a call in bash
 
 Exit status: 0 the network holds and every command is forwarded, or there is a route; 1 violated,
 blocked, a command refused by a row, or no route; 2 the text or the call is faulty, or the network
