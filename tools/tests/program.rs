@@ -73,6 +73,11 @@ fn faulty_calls() {
     complains(&["check", "--jsno", K], b"", 2, "no option `--jsno`, did you mean `--json`? (");
     complains(&["--hlep"], b"", 2, "there is no option `--hlep`, did you mean `--help`? (");
     complains(&["--json=1"], b"", 2, "`--json` takes no value");
+    for misspelt in
+        [&["generate", "--switchs", "3", "tree"][..], &["generate", "--switchs=3", "tree"]]
+    {
+        complains(misspelt, b"", 2, "no option `--switchs`, did you mean `--switches`? (");
+    }
     for words in [&["-h"][..], &["help"], &["help", "check"], &["check", "-h"]] {
         expect(words, b"", 0, wegbaro(&["--help"], b"").text());
     }
