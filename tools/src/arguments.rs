@@ -91,14 +91,16 @@ fn sort(given: impl IntoIterator<Item = OsString>) -> Result<Arguments, Trouble>
             Some((name, value)) => (name.to_string(), Some(value.to_string())),
             None => (text, None),
         };
-        let has_value = OPTIONS.iter().any(|option| option.name == name && option.value.is_some());
+        // What is no option is told later, with the nearest one.
+        let option = OPTIONS.iter().find(|option| option.name == name);
+        let has_value = option.is_some_and(|option| option.value.is_some());
         let value = match value {
             None if has_value => {
                 let next = given.next();
                 let next = next.ok_or_else(|| fault(format!("{name} needs a number")))?;
                 Some(next.to_string_lossy().into_owned())
             }
-            Some(_) if !has_value => {
+            Some(_) if !has_value && option.is_some() => {
                 return Err(fault(format!("`{}` takes no value", quoted(&name))));
             }
             value => value,
@@ -135,16 +137,16 @@ impl Arguments {
     /// The operands and options are such as the subcommand has.
     fn fit(&self, subcommand: &Subcommand) -> Result<(), Trouble> {
         let Subcommand { name, operands, options, reads, .. } = subcommand;
+        let is_known = |given: &str| options.iter().any(|option| option.name == given);
+        if let Some((given, _)) = self.options.iter().find(|(given, _)| !is_known(given)) {
+            return Err(unknown_option(&format!("`{name}` has"), given, options));
+        }
         if !operands.count.contains(&self.operands().len()) {
             return Err(fault(format!("`{name}` takes {}", operands.told)));
         }
         if let Some(what) = reads.filter(|_| is_input(self.file())) {
             let message = format!("`{name}` reads {what} from standard input, so FILE is not `-`");
             return Err(fault(message));
-        }
-        let is_known = |given: &str| options.iter().any(|option| option.name == given);
-        if let Some((given, _)) = self.options.iter().find(|(given, _)| !is_known(given)) {
-            return Err(unknown_option(&format!("`{name}` has"), given, options));
         }
         let mut exclusive = EXCLUSIVE.iter().filter(|option| self.has(option.name));
         match (exclusive.next(), exclusive.next()) {

@@ -341,6 +341,16 @@ impl Reader {
         Ok(pattern)
     }
 
+    /// The fault at the first word of a policy that may be meant as a name, and is none.
+    pub(crate) fn at_first(&self, word: &str, fault: Fault) -> Fault {
+        let is_taken = self.names.named(word).is_some() || reserved(word).is_some();
+        if is_taken || !is_name(word) || fault.hint.is_some() {
+            return fault;
+        }
+        let message = format!("{}; there is no such name", fault.message);
+        Fault { message, ..fault }.with_nearest(word, self.names.all())
+    }
+
     /// The fault at a word that may be a name: what it is the name of, or that there is no such name,
     /// with those of the known ones that are near.
     fn at_name<'n>(

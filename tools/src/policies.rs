@@ -71,6 +71,10 @@ impl Reader {
         let source = statement.rest();
         let forms = self.forms(of, statement).map_err(|fault| {
             let place = Place { line: fault.line, column: fault.column };
+            let fault = match place == start.place && statement.ahead(1).text != "(" {
+                true => self.at_first(start.text, fault),
+                false => fault,
+            };
             advised(fault, statement.word_at(place), &source)
         })?;
         if forms[0].free()[1] {

@@ -8,7 +8,7 @@ use crate::json::Object;
 use crate::judging::Judging;
 use crate::source::fault_trouble;
 use crate::standard;
-use crate::tokens::statements;
+use crate::tokens::{statements, Statement};
 use crate::trouble::{Status, Trouble};
 
 /// What starts a question.
@@ -17,7 +17,8 @@ pub const QUESTIONS: [&str; 3] = ["route", "check", "show"];
 /// Answers a text if it is a question, and tells whether it is. A faulty one is told, and counts in
 /// the exit status, in which answers to questions do not.
 pub fn answered(judging: &mut Judging, text: &str) -> Result<bool, Trouble> {
-    let word = text.split(|c: char| !c.is_ascii_alphabetic()).next().unwrap_or_default();
+    let found = statements(text);
+    let word = found.first().map_or("", Statement::first);
     if !QUESTIONS.contains(&word) {
         return Ok(false);
     }

@@ -35,7 +35,7 @@ fn near_sentences() {
     );
     hinted(
         "policy 0: monitor reaches server",
-        "expected a formula, found `monitor`",
+        "expected a formula, found `monitor`; there is no such name",
         "the nearest sentences are `what enters at AREAS reaches AREAS`, \
          `what enters at AREAS never reaches AREAS`",
     );
@@ -61,7 +61,7 @@ fn near_sentences() {
     );
     hinted(
         "policy 0: wibble",
-        "expected a formula, found `wibble`",
+        "expected a formula, found `wibble`; there is no such name",
         "a policy is a sentence, as `no loops`, or a formula",
     );
 }
@@ -97,6 +97,11 @@ fn unknown_names() {
         "rule icu priority 1: group far",
         "expected a group (0 to 15), found `far`; there is no such name",
         "no such names are given before this line",
+    );
+    hinted(
+        "policy 0: pmup and server never meet",
+        "expected a formula, found `pmup`; there is no such name",
+        "did you mean `pump`?",
     );
     // Several may be near.
     let text = format!("{NAMES}name port 1:1 pumps\nmiss pumpx: output 1\n");

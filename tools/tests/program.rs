@@ -73,6 +73,11 @@ fn faulty_calls() {
     complains(&["check", "--jsno", K], b"", 2, "no option `--jsno`, did you mean `--json`? (");
     complains(&["--hlep"], b"", 2, "there is no option `--hlep`, did you mean `--help`? (");
     complains(&["--json=1"], b"", 2, "`--json` takes no value");
+    for misspelt in
+        [&["generate", "--switchs", "3", "tree"][..], &["generate", "--switchs=3", "tree"]]
+    {
+        complains(misspelt, b"", 2, "no option `--switchs`, did you mean `--switches`? (");
+    }
     for words in [&["-h"][..], &["help"], &["help", "check"], &["check", "-h"]] {
         expect(words, b"", 0, wegbaro(&["--help"], b"").text());
     }
@@ -693,7 +698,7 @@ fn the_reader_is_gone() {
 fn pictures() {
     let records = k().concat();
     let plain = "graph network {\n    node [shape=box];\n    s0 [label=\"switch 0\"];\n    \
-                 s1 [label=\"switch 1\"];\n    s0 -- s1 [taillabel=\"2\", headlabel=\"1\"];\n}\n";
+                 s1 [label=\"switch 1\"];\n    s0 -- s1 [label=\"0:2\\n1:1\"];\n}\n";
     expect(&["picture", "-"], &records, 0, plain);
     let ran = wegbaro(&["picture", "--rules", "-"], &records);
     let label =
@@ -708,13 +713,13 @@ fn pictures() {
                   miss 0: output drop\nmiss 1: output drop\n";
     let ran = wegbaro(&["picture", "-"], named);
     assert!(ran.text().contains("s1 [label=\"switch 1\\ncore\"]"), "{}", ran.text());
-    assert!(ran.text().contains("headlabel=\"1 up\""), "{}", ran.text());
+    assert!(ran.text().contains("[label=\"0:2\\ncore:1 up\"]"), "{}", ran.text());
     // Each end has the name that its own switch gives.
     let both = b"widths H 1 P 3 W 1\nname port 0:2 down\nname port 1:2 line\n\
                  name port 0:1 pump\nname port 1:1 up\nlink 0:2 - 1:1\nmiss 0: output drop\n\
                  miss 1: output drop\n";
     let ran = wegbaro(&["picture", "-"], both);
-    let labels = "s0 -- s1 [taillabel=\"2 down\", headlabel=\"1 up\"];";
+    let labels = "s0 -- s1 [label=\"0:2 down\\n1:1 up\"];";
     assert!(ran.text().contains(labels), "{}", ran.text());
 }
 

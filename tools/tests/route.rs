@@ -248,27 +248,29 @@ fn a_route_drawn() {
     node [shape=box];
     s0 [label="switch 0\nstep 1: rule priority 10 port 1 header 0: output 2\l"];
     s1 [label="switch 1\nstep 3: rule priority 10 port 1 header *: output 2\l"];
-    s0 -- s1 [taillabel="2", headlabel="1"];
-    edge [color=red, fontcolor=red, dir=forward];
+    s0 -- s1 [label="0:2\n1:1\nstep 2, header 0", color=red, fontcolor=red, dir=forward];
     from [shape=plain, label="from state 2\nswitch 0, port 1, arriving, header 0"];
-    from -- s0;
-    s0 -- s1 [label="step 2, header 0"];
+    from -- s0 [color=red, dir=forward];
     to [shape=plain, label="to state 28\nswitch 1, port 2, departing, header 0"];
-    s1 -- to;
+    s1 -- to [color=red, dir=forward];
 }
 "#;
     expect(&["route", "--dot", K, "2", "28"], b"", 0, graph);
     let graph = r#"graph network {
     node [shape=box];
     s0 [label="switch 0\nicu"];
+    s0p1 [shape=ellipse, label="1 pump"];
+    s0 -- s0p1;
+    s0p2 [shape=ellipse, label="2 line"];
+    s0 -- s0p2;
     s1 [label="switch 1\ncore\nstep 2: rule priority 10 port 5 header **: output line\l"];
-    s0 -- s1 [taillabel="4", headlabel="5"];
-    edge [color=red, fontcolor=red, dir=forward];
+    s1p2 [shape=ellipse, label="2 line"];
+    s1 -- s1p2;
+    s0 -- s1 [label="icu:4\ncore:5\nstep 1, header private", color=red, fontcolor=red, dir=forward];
     from [shape=plain, label="from state 81\nswitch icu (0), port 4, departing, header private (1)"];
-    from -- s0;
-    s0 -- s1 [label="step 1, header private"];
+    from -- s0 [color=red, dir=forward];
     to [shape=plain, label="to state 105\nswitch core (1), port line (2), departing, header private (1)"];
-    s1 -- to;
+    s1 -- to [color=red, dir=forward];
 }
 "#;
     expect(&["route", "--dot", &named(), "81", "core:2 out header 1"], b"", 0, graph);

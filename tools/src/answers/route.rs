@@ -9,7 +9,7 @@ use crate::arguments::Arguments;
 use crate::fault::quoted;
 use crate::json::Object;
 use crate::parse::parse_states;
-use crate::picture::{escaped, graph, within_words, Line};
+use crate::picture::{escaped, graph, within_words, Line, Marks, Passed};
 use crate::route::{find, Found};
 use crate::source::{fault_trouble, Source};
 use crate::standard::{self, say};
@@ -129,28 +129,31 @@ fn drawn(standing: Standing, states: &str) -> Result<Status, Trouble> {
     Ok(answer.status())
 }
 
-/// The network with a route: a step within a switch is a line there, and a step over a link an edge.
+/// The network with a route: a step within a switch is a line there, and a step over a link colours
+/// that link.
 pub fn route_picture(standing: Standing, route: &[usize]) -> Result<String, Trouble> {
     let network = standing.network()?;
-    let mut lines = vec![];
-    let mut edges = "    edge [color=red, fontcolor=red, dir=forward];\n".to_string();
-    edges += &end_edges(standing, network, "from", route.first());
+    let mut marks = Marks::default();
     for (number, step) in (1..).zip(network.walked(route)?) {
-        let [from, to] = [step.from, step.to].map(|state| State::numbered(state, network.widths));
+        let from = State::numbered(step.from, network.widths);
         match from.departing {
-            true => edges += &link_edge(standing, number, from, to),
-            false => lines.extend(lines_within(standing, number, from, &step)),
+            true => marks.links.extend(passed(standing, number, from, &step)),
+            false => marks.lines.extend(lines_within(standing, number, from, &step)),
         }
     }
-    edges += &end_edges(standing, network, "to", route.last());
-    Ok(graph(standing, network, &lines, &edges))
+    let [start, end] = [("from", route.first()), ("to", route.last())];
+    marks.edges =
+        [start, end].map(|(end, state)| end_edges(standing, network, end, state)).concat();
+    Ok(graph(standing, network, &marks))
 }
 
 /// A step over a link.
-fn link_edge(standing: Standing, number: usize, from: State, to: State) -> String {
-    let [[switch, _], [other, _]] = [from.point, to.point];
-    let header = escaped(&quoted(&standing.source.names.header(from.header)));
-    format!("    s{switch} -- s{other} [label=\"step {number}, header {header}\"];\n")
+fn passed(standing: Standing, number: usize, from: State, step: &Step) -> Option<Passed> {
+    let place = step.taken.by.first()?.first()?.place;
+    let link = &standing.book.records[place];
+    let header = quoted(&standing.source.names.header(from.header));
+    let words = format!("step {number}, header {header}");
+    Some(Passed { place, back: link[1..3] != from.point, words })
 }
 
 /// A step within a switch: a line for each record that takes the frame on.
@@ -173,5 +176,8 @@ fn end_edges(standing: Standing, network: Network, end: &str, state: Option<&usi
         "from" => format!("from -- s{switch}"),
         _ => format!("s{switch} -- {end}"),
     };
-    format!("    {end} [shape=plain, label=\"{end} state {state}\\n{words}\"];\n    {edge};\n")
+    format!(
+        "    {end} [shape=plain, label=\"{end} state {state}\\n{words}\"];\n    \
+         {edge} [color=red, dir=forward];\n"
+    )
 }
