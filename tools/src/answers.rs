@@ -3,8 +3,10 @@
 //! Each kind of answer has a file and implements [`Answer`]. What it tells of records is read from
 //! [`Standing`]: the network as it stands after the commands so far.
 
+pub mod also;
 pub mod broken;
 pub mod command;
+pub mod instead;
 pub mod now;
 pub mod refused;
 pub mod route;

@@ -52,7 +52,7 @@ pub fn compile(written: &Written, of: Widths) -> Compiled {
         forms.push((parts, whole));
     }
     let splits = forms.iter_mut().filter_map(|(parts, whole)| split(parts, *whole));
-    match splits.min_by_key(Vec::len) {
+    match splits.chain(halved(written, of)).min_by_key(Vec::len) {
         // Put together from its alternatives, the whole had fewer nodes.
         Some(mut policies) if policies.len() == 1 => Compiled::One(policies.remove(0), None),
         Some(policies) => Compiled::Split(policies, least),
@@ -148,6 +148,36 @@ fn split(parts: &mut Parts, whole: Id) -> Option<Vec<Vec<Node>>> {
         }
     }
     Some(policies.into_iter().map(|(_, nodes)| nodes).collect())
+}
+
+/// Policies that forbid the halves of a formula between them, halved until each fits.
+fn halved(written: &Written, of: Widths) -> Option<Vec<Vec<Node>>> {
+    let mut policies = vec![];
+    let mut waiting = vec![written.clone()];
+    while let Some(next) = waiting.pop() {
+        match short(&next, of) {
+            Some(nodes) => policies.push(nodes),
+            None => {
+                let [one, other] = next.halves()?;
+                waiting.extend([other, one]);
+            }
+        }
+        if policies.len() + waiting.len() > MOST_POLICIES {
+            return None;
+        }
+    }
+    Some(policies)
+}
+
+/// The nodes of a formula, if they are few enough.
+fn short(written: &Written, of: Widths) -> Option<Vec<Node>> {
+    let nodes = |tricks| {
+        let mut parts = Parts::with(tricks);
+        let whole = parts.take(written, of);
+        fewest(&mut parts, whole)
+    };
+    let all = [Tricks::None, Tricks::Renaming, Tricks::Order].into_iter().map(nodes);
+    all.into_iter().find(|nodes| nodes.len() <= MOST_NODES)
 }
 
 /// The alternatives of a part, taken apart until each has few enough nodes.

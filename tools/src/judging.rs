@@ -1,8 +1,9 @@
 //! A network and its commands judged, and each answer told at once.
 
+use crate::answers::also::AlsoAnswer;
 use crate::answers::command::CommandAnswer;
 use crate::answers::short::ShortAnswer;
-use crate::answers::start::StartAnswer;
+use crate::answers::start::{policies, StartAnswer};
 use crate::answers::{note, told, Answer, Format, Standing};
 use crate::arguments::Arguments;
 use crate::book::Book;
@@ -45,6 +46,7 @@ pub fn check(arguments: &Arguments) -> Result<Status, Trouble> {
     }
     let mut judging = Judging::new(&source, format, None);
     judging.start(&mut tell)?;
+    judging.others(&mut tell)?;
     Ok(judging.status)
 }
 
@@ -108,6 +110,21 @@ impl<'a> Judging<'a> {
             Ok(verdict) => self.note_equals(verdict == Checked::Holds),
             Err(_) => Ok(()),
         }
+    }
+
+    /// Tells the broken policies behind the lowest, each judged without the others. The program `gate`
+    /// has no such lines.
+    fn others(&mut self, tell: Told) -> Result<(), Trouble> {
+        let records = self.book.records.clone();
+        let verdict = Gate::new(&records).map(|gate| gate.check());
+        let Ok(Checked::Violated { policy, .. }) = verdict else { return Ok(()) };
+        let others = (policy + 1..policies(&records)).filter(|_| self.format != Format::Gate);
+        for other in others.collect::<Vec<usize>>() {
+            if let Some(answer) = AlsoAnswer::of(&records, other) {
+                self.answer(&answer, tell)?;
+            }
+        }
+        Ok(())
     }
 
     /// Judges the network and the source's commands. They are not judged unless the network holds.

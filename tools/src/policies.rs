@@ -206,11 +206,16 @@ impl Reader {
     }
 }
 
-/// The first of several equal forms that is one policy, or else the first.
+/// The first of several equal forms that is the fewest policies, or else the first.
 fn compile_forms(forms: &[Written], of: Widths) -> Compiled {
-    let compiled: Vec<Compiled> = forms.iter().map(|form| compile(form, of)).collect();
-    let is_one = |form: &&Compiled| matches!(form, Compiled::One(..));
-    compiled.iter().find(is_one).unwrap_or(&compiled[0]).clone()
+    let policies = |compiled: &Compiled| match compiled {
+        Compiled::One(..) => 1,
+        Compiled::Split(parts, _) => parts.len(),
+        Compiled::TooLong(_) => usize::MAX,
+    };
+    let first = compile(&forms[0], of);
+    let others = forms[1..].iter().map(|form| compile(form, of));
+    others.fold(first, |best, other| if policies(&other) < policies(&best) { other } else { best })
 }
 
 /// The records of a policy's nodes.

@@ -30,7 +30,7 @@ impl<'r> Reach<'r> {
     }
 
     /// Whether an area has an external point.
-    fn is_entry(self, area: &Area) -> bool {
+    pub fn is_entry(self, area: &Area) -> bool {
         match *area {
             Area::Switch(switch) => {
                 (1..self.of.controller()).any(|port| self.is_open([switch, port]))

@@ -31,7 +31,7 @@ pub fn read_sentence(
         "nothing" => vec![sentence.nothing()?],
         "what" | "everything" => sentence.what()?,
         "header" if second != "(" => vec![sentence.header()?],
-        _ if is_area => vec![sentence.apart()?],
+        _ if is_area => sentence.apart()?,
         _ => return Ok(None),
     }))
 }
@@ -177,7 +177,7 @@ impl Sentence<'_, '_, '_> {
     }
 
     /// `AREAS and AREAS never meet`.
-    fn apart(&mut self) -> Result<Written, Fault> {
+    fn apart(&mut self) -> Result<Vec<Written>, Fault> {
         let one = self.reader.areas(self.of, self.statement)?;
         self.statement.expect_all(&["and"])?;
         let start = self.statement.peek();
@@ -192,7 +192,18 @@ impl Sentence<'_, '_, '_> {
         let there = Written::And(vec![within(X, &one), within(Y, &other)]);
         let back = Written::And(vec![within(X, &other), within(Y, &one)]);
         let met = Written::And(vec![Written::reaches(X, Y), Written::Or(vec![there, back])]);
-        Ok(Written::And(vec![Written::External(X), met.exists(Y)]))
+        let met = Written::And(vec![Written::External(X), met.exists(Y)]);
+        let ways = [self.ways_on(&one, &other), self.ways_on(&other, &one)];
+        let [Some(there), Some(back)] = ways else { return Ok(vec![met]) };
+        Ok(vec![met, Written::Or(vec![there, back])])
+    }
+
+    /// A walk from external points to areas apart from them, in the second form.
+    fn ways_on(&self, from: &[Area], there: &[Area]) -> Option<Written> {
+        let is_open = |area: &Area| self.reach().is_entry(area);
+        let second = self.walks(Written::Steps(X, Y), from, there).into_iter().nth(1);
+        let walk = second.filter(|_| from.iter().all(is_open))?;
+        Some(Written::And(vec![Written::within(X, from, self.of), walk]))
     }
 
     /// What is so of a frame that enters, after the word at the areas named, with the header named, and

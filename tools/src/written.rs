@@ -100,6 +100,39 @@ impl Written {
         }
     }
 
+    /// How many alternatives the longest `|` has that the formula can be halved at.
+    fn choices(&self) -> usize {
+        match self {
+            Written::Or(parts) => parts.len(),
+            Written::And(parts) => parts.iter().map(Written::choices).max().unwrap_or(1),
+            Written::Some(part, _) => part.choices(),
+            _ => 1,
+        }
+    }
+
+    /// Two formulas of which one is true if and only if this one is, each with half of the
+    /// alternatives of what has the most of them.
+    pub fn halves(&self) -> Option<[Written; 2]> {
+        match self {
+            Written::Or(parts) if parts.len() > 1 => {
+                let (one, other) = parts.split_at(parts.len() / 2);
+                Some([one, other].map(|half| Written::Or(half.to_vec())))
+            }
+            Written::Or(parts) => parts.first()?.halves(),
+            Written::Some(part, bound) => Some(part.halves()?.map(|half| half.exists(*bound))),
+            Written::And(parts) => {
+                let place = (0..parts.len()).max_by_key(|place| parts[*place].choices())?;
+                let halves = parts[place].halves()?;
+                Some(halves.map(|half| {
+                    let mut parts = parts.clone();
+                    parts[place] = half;
+                    Written::And(parts)
+                }))
+            }
+            _ => None,
+        }
+    }
+
     /// Whether there are raw forms alone.
     pub fn is_raw(&self) -> bool {
         match self {

@@ -4,6 +4,7 @@ use super::Standing;
 use crate::formula::{node_of, Node};
 use crate::json::Object;
 use crate::kind;
+use crate::priorities::is_even;
 use crate::steps::{Network, State, Step};
 use crate::trouble::Trouble;
 use crate::truth::{Reason, Truth};
@@ -22,8 +23,12 @@ impl Standing<'_> {
             self.policy_words(policy),
             self.numbered_words(network.widths, state)
         );
-        for reason in self.reasons(network, policy, state)? {
-            words += &self.reason_words(network, state, &reason)?;
+        let reasons = self.reasons(network, policy, state)?;
+        for reason in &reasons {
+            words += &self.reason_words(network, state, reason)?;
+        }
+        if reasons.is_empty() && wants_steps(network, policy) {
+            words += &self.instead_words(network, state);
         }
         Ok(words)
     }
@@ -107,14 +112,18 @@ impl Standing<'_> {
         let first = reasons.first().cloned().unwrap_or_default();
         let objects: Result<Vec<Object>, Trouble> =
             reasons.iter().map(|reason| self.reason_object(network, reason)).collect();
-        Ok(object
+        let object = object
             .number("policy", policy)
             .maybe(name, |object, name| object.text("policy_name", name))
             .maybe(text, |object, policy| object.number("policy_line", policy.line))
             .object("state", self.state_object(of, state))
             .maybe(first.y, |object, y| object.object("y", self.state_object(of, y)))
             .maybe(first.walks.first(), |object, walk| object.numbers("route", walk))
-            .objects("reasons", &objects?))
+            .objects("reasons", &objects?);
+        Ok(match reasons.is_empty() && wants_steps(network, policy) {
+            true => self.instead_object(object, network, state),
+            false => object,
+        })
     }
 
     fn reason_object(self, network: Network, reason: &Reason) -> Result<Object, Trouble> {
@@ -144,6 +153,11 @@ impl Standing<'_> {
         reasons.retain(|reason| reason.y.is_some() || !reason.walks.is_empty());
         Ok(reasons)
     }
+}
+
+/// Whether a policy may be broken for want of a step, as one that is not even.
+fn wants_steps(network: Network, policy: usize) -> bool {
+    !is_even(&nodes_of(network.records, policy))
 }
 
 /// The nodes of a policy.

@@ -5,7 +5,7 @@ use crate::names::Area;
 use crate::reach::{idle, Idle, Reach};
 
 impl Sentence<'_, '_, '_> {
-    fn reach(&self) -> Reach<'_> {
+    pub(super) fn reach(&self) -> Reach<'_> {
         Reach { of: self.of, links: &self.reader.links }
     }
 
