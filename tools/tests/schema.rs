@@ -40,6 +40,20 @@ add 1 priority 2: output 1
 
 add 0 priority 5 output 2
 
+route 2 40
+check
+show
+show all
+";
+
+/// A ward in which no frame gets to where a policy wants it, and another policy is broken too.
+const LOST: &[u8] = b"\
+widths H 1 P 2 W 1
+link 0:2 - 1:1
+miss 0: output drop
+miss 1: output drop
+policy 0: what enters at 0:1 reaches switch 1
+policy 1: external(X)
 ";
 
 fn schema() -> Schema {
@@ -76,6 +90,7 @@ fn of_every_kind() -> Vec<Value> {
         (&["route", "--json", &ward, "2", "40"], b""),
         (&["route", "--json", &ward, "28", "2"], b""),
         (&["check", "--json", "-"], violated),
+        (&["check", "--json", "-"], LOST),
         (&["check", "--json", "-"], twice),
         (&["check", "--json", "-"], faulty),
         (&["check", "--json", "no such file"], b""),
