@@ -193,7 +193,8 @@ impl Reason {
     }
 }
 
-/// The most places that are looked at for reasons; formulas that people write have far fewer.
+/// The most places that are looked at for reasons. Where there are more, that is told: a part of the
+/// reasons would look like all of them.
 const MOST_SEEN: usize = 1_000;
 
 /// A node that is true, or false, for a pair of states as X and Y.
@@ -215,8 +216,13 @@ impl Search<'_> {
     /// Goes through the parts by which a node is true or false. Within an `exists Y.` it is known
     /// for which reason.
     fn explore(&mut self, sight: Sight, reason: Option<usize>) -> Result<(), Trouble> {
-        if self.seen.contains(&(sight, reason)) || self.seen.len() == MOST_SEEN {
+        if self.seen.contains(&(sight, reason)) {
             return Ok(());
+        }
+        if self.seen.len() == MOST_SEEN {
+            return Err(Trouble::internal(format!(
+                "the reasons are at more than {MOST_SEEN} places, and are not looked for"
+            )));
         }
         self.seen.push((sight, reason));
         let Sight { node, at, truth } = sight;

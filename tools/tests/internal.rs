@@ -11,10 +11,14 @@ use wegbaro_tools::answers::route::{route_picture, RouteAnswer};
 use wegbaro_tools::answers::start::StartAnswer;
 use wegbaro_tools::answers::{told, Answer, Format, Standing};
 use wegbaro_tools::book::{Book, Origin};
+use wegbaro_tools::formula::Node;
+use wegbaro_tools::kind::node;
 use wegbaro_tools::priorities::{notes_on_equals, Noted};
 use wegbaro_tools::route::find;
 use wegbaro_tools::source::{Command, Source};
+use wegbaro_tools::steps::Network;
 use wegbaro_tools::trouble::{Status, Trouble};
+use wegbaro_tools::truth::Truth;
 
 /// The trouble is an internal error with this message, and the line of the answer is beside it.
 fn is_beside<T: std::fmt::Debug>(found: Result<T, Trouble>, message: &str, line: Option<String>) {
@@ -107,4 +111,31 @@ route: found, 1 step
     let none = "route: none, no frame gets from state 2 (switch 0, port 1, arriving, header 0) to \
                 state 12 (switch 0, port line (2), departing, header 0)\n";
     expect(&["route", "-", "2", "12"], text.as_bytes(), 1, none);
+}
+
+/// So many `exists Y.` over one long formula, joined by AND: each looks at all of it anew.
+fn repeated(count: u8) -> Vec<Node> {
+    const LONG: u8 = 100;
+    let mut nodes: Vec<Node> = vec![[node::BIT, 0, 0]];
+    nodes.extend((0..LONG).map(|last| [node::AND, last, last]));
+    nodes.extend((0..count).map(|_| [node::SOME, LONG, 1]));
+    let first = LONG + 1;
+    let mut joined = first;
+    for other in first + 1..first + count {
+        nodes.push([node::AND, joined, other]);
+        joined = nodes.len() as u8 - 1;
+    }
+    nodes
+}
+
+#[test]
+fn reasons_that_are_not_all_looked_at() {
+    let records = k();
+    let network = Network::new(&records).unwrap();
+    // State 1 has bit 0, so that every node is true for it.
+    let nodes = repeated(9);
+    assert_eq!(Truth::of(network, &nodes).reasons(1).unwrap().len(), 10);
+    let nodes = repeated(10);
+    let message = "the reasons are at more than 1000 places, and are not looked for";
+    is_internal(Truth::of(network, &nodes).reasons(1), message);
 }

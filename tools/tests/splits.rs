@@ -93,7 +93,7 @@ fn pumps_and_guests() {
 fn linked_points_that_never_meet() {
     let mut random = seeded(13);
     let mut violated = 0;
-    for _ in 0..40 {
+    for _ in 0..160 {
         let ward = ward(&mut random);
         let [one, other] = [&[1, 2][..], &[3, 4]].map(|ports| points(&mut random, ports));
         let policy = format!("{} and {} never meet", one.join(", "), other.join(", "));
