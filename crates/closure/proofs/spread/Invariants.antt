@@ -1,0 +1,14 @@
+-- `closure::spread` meets its contract. The loop's invariant is the contract at the x lines passed.
+use mathlib.Core.Path.{◌≡◌, sym, ◌∙◌}
+use mathlib.Core.Logic.{⊎_elim}
+use Prim.Native.Nat.{◌+◌, ◌-◌, ◌*◌, ◌≤◌}
+use native.Mathlib.Omega.{arith}
+use lib.ListN.{length}
+use Rattle.closure.proofs.LinesOfRound.{Spreading, spread_none, fits, turn_off, turn_on}
+use Rattle.closure.proofs.spread.Given as goal
+
+abbrev pub invariant-loop-x : goal.invariant-loop-x
+invariant-loop-x l = Spreading l.base l.pitch l.k l.x l.at l.initial.work l.work
+
+abbrev pub decreases-loop-x : goal.decreases-loop-x
+decreases-loop-x l = l.pitch * 8 - l.x

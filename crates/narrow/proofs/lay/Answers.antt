@@ -1,0 +1,28 @@
+use mathlib.Core.Path.{◌≡◌}
+use Prim.Native.Nat.{◌+◌, ◌-◌, ◌*◌, ◌≤◌}
+use native.Mathlib.Omega.{arith}
+use Rattle.planes.specs.Plane.{plane_size}
+use Rattle.planes.specs.Lines.{Made}
+use Rattle.planes.specs.Laws.Places.{line_before}
+use Rattle.planes.specs.Laws.Planes.{made_none}
+use Rattle.narrow.specs.Words.{test}
+use Rattle.narrow.proofs.WordLines.{lay_more}
+use Rattle.narrow.proofs.lay.Goals as goal
+
+-- in a turn, line x is within the plane
+fits : (c : goal.In-loop-x)
+    → let pitch = c.args.pitch in
+    c.loop-x.x * pitch + pitch ≤ plane_size pitch
+fits c = line_before _ _ c.args.pitch c.loop-x-test.true
+
+pub put_word-requires : goal.put_word-requires
+put_word-requires c =
+    (omega (arith, fits c, c.loop-x.invariant.1.len), c.requires.1)
+
+pub loop-x-preserved : goal.loop-x-preserved
+loop-x-preserved c = (omega arith, lay_more c.args.words.now _ _ _ _ _ _ c.loop-x.invariant.1 c.put_word.ensures)
+
+pub returns : goal.returns
+returns c =
+    let e : c.loop-x.x ≡ c.args.pitch * 8 = omega arith in
+    rw (← e) c.loop-x.invariant.1

@@ -1,0 +1,13 @@
+use Prim.Native.Nat.{◌-◌, ◌≤◌}
+use native.Mathlib.Omega.{arith}
+use Rattle.planes.specs.Lines.{Laid}
+use Rattle.planes.specs.Laws.LaidBytes.{laid_none, laid_more, laid_all}
+use Rattle.narrow.specs.Words.{byte_of}
+use Rattle.narrow.proofs.put_word.Goals as goal
+
+pub loop-j-preserved : goal.loop-j-preserved
+loop-j-preserved c =
+    (omega arith, laid_more _ _ _ _ _ _ c.loop-j.invariant.1 c.loop-j-test.true c.requires.0 _ c.byte_of.ensures)
+
+pub returns : goal.returns
+returns c = laid_all c.loop-j.invariant c.loop-j-test.false

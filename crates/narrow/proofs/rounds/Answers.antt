@@ -1,0 +1,11 @@
+use Prim.Native.Nat.{◌-◌, ◌≤◌}
+use native.Mathlib.Omega.{arith}
+use Rattle.narrow.proofs.WordRounds.{After, after_none, after_more, after_all}
+use Rattle.narrow.proofs.rounds.Goals as goal
+
+pub loop-k-preserved : goal.loop-k-preserved
+loop-k-preserved c =
+    (omega arith, after_more _ _ _ _ _ c.loop-k.invariant.1 c.loop-k-test.true c.requires c.round.ensures)
+
+pub returns : goal.returns
+returns c = after_all _ _ _ _ c.loop-k.invariant.1 (omega arith)

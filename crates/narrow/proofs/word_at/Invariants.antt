@@ -1,0 +1,12 @@
+-- `narrow::word_at` meets its contract. The bytes are joined from the last one on.
+use mathlib.Core.Path.{refl}
+use Prim.Native.Nat.{◌+◌, ◌-◌}
+use native.Mathlib.Omega.{arith}
+use Rattle.narrow.proofs.WordLines.{Joined, joined_none, joined_small, joined_more, joined_all}
+use Rattle.narrow.proofs.word_at.Given as goal
+
+abbrev pub invariant-loop-j : goal.invariant-loop-j
+invariant-loop-j l = Joined l.p l.at l.pitch l.j l.v
+
+abbrev pub decreases-loop-j : goal.decreases-loop-j
+decreases-loop-j l = l.j

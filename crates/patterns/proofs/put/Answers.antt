@@ -1,0 +1,63 @@
+use borrow.Author.Rules.{rules}
+use mathlib.Core.Path.{◌≡◌, refl, ap, ap₂, ◌∙◌}
+use mathlib.Core.Bool.{Bool, cond}
+use mathlib.Core.Logic.{⊎_elim}
+use Prim.Native.Nat.{ℕ, ◌+◌, ◌-◌, ◌*◌, ◌%◌, ◌^◌, ◌≤◌, ◌<◌}
+use native.Mathlib.Numerals.{add-one}
+use native.Mathlib.Omega.{arith}
+use lib.Pow.{pow_mono}
+use Rattle.basics.specs.Bit.{bit_of}
+use Rattle.basics.specs.Laws.Shifts.{shl_one}
+use Rattle.format.specs.Pattern.{ternary, written, put_bits}
+use Rattle.format.specs.Laws.Patterns.{put_lt}
+use Rattle.patterns.proofs.put.Goals as goal
+
+-- the weight of bit i
+module _ (i : ℕ) (h : i < 6) where
+  weight_is : (1 * 2 ^ i) % 2 ^ 8 ≡ 2 ^ i
+  weight_is = shl_one i 8 (omega arith)
+
+  weight_low : 2 ^ i ≤ 32
+  weight_low = pow_mono {i = i} {j = 5} (omega arith)
+
+-- with bit i, where b is what is written
+more : (value care x i : ℕ) (b : Bool) → b ≡ written (ternary value care i) (bit_of x i) → put_bits (i + 1) value care x ≡ cond b (2 ^ i) 0 + put_bits i value care x
+unfolding put_bits
+more value care x i b e = rw (add-one i, e)
+
+pub loop-i-init : goal.loop-i-init
+unfolding put_bits
+loop-i-init c = (omega arith, refl)
+
+pub ternary_at-requires : goal.ternary_at-requires
+ternary_at-requires c = omega (arith, c.requires)
+
+pub bit_of-requires : goal.bit_of-requires
+bit_of-requires c = omega (arith, c.requires)
+
+pub overflow_add-result : goal.overflow_add-result
+overflow_add-result c =
+    let o = c.loop-i in
+    let l : o.i < 6 = omega (arith, c.requires) in
+    omega (arith, o.invariant.1, weight_is o.i l, weight_low o.i l, put_lt c.args.value c.args.care c.args.x o.i)
+
+pub loop-i-preserved : goal.loop-i-preserved
+loop-i-preserved c =
+    let o = c.loop-i in
+    let a = c.args in
+    let l : o.i < 6 = omega (arith, c.requires) in
+    let e = c.written.ensures ∙ ap₂ written c.ternary_at.ensures c.bit_of.ensures in
+    let m = more a.value a.care a.x o.i _ e in (
+      omega arith,
+      ⊎_elim
+          (λ t. rw (m, t.0.taken) (omega (arith, t.1, o.invariant.1, weight_is o.i l)))
+          (λ t. rw (m, t.0.left) (omega (arith, t.1, o.invariant.1)))
+          c.if-written.branch,
+    )
+
+pub returns : goal.returns
+returns c =
+    let o = c.loop-i in
+    let a = c.args in
+    let e : o.i ≡ a.k = omega arith in
+    o.invariant.1 ∙ ap (λ (n : ℕ). put_bits n a.value a.care a.x) e

@@ -1,0 +1,18 @@
+use mathlib.Core.Path.{refl}
+use Prim.Native.Nat.{◌-◌, ◌≤◌}
+use native.Mathlib.Omega.{arith}
+use borrow.Author.Rules.{rules}
+use lib.ListN.{length}
+use Rattle.planes.specs.Lines.{Put}
+use Rattle.planes.specs.Laws.LaidBytes.{laid_none, laid_more, laid_all}
+use Rattle.planes.proofs.put.Goals as goal
+
+pub loop-j-init : goal.loop-j-init
+loop-j-init c = (omega arith, laid_none _ _ _)
+
+pub loop-j-preserved : goal.loop-j-preserved
+loop-j-preserved c =
+    (omega arith, laid_more _ _ _ _ _ _ c.loop-j.invariant.1 c.loop-j-test.true c.requires _ refl)
+
+pub returns : goal.returns
+returns c = laid_all c.loop-j.invariant c.loop-j-test.false
