@@ -1,4 +1,6 @@
 // What the actions of a record send.
+#![tactic(auto)]
+
 ghost use Rattle.std.specs.Prelude.{◌≡◌, true, [], ◌∷◌, ℕ, ◌^◌, ◌<◌, ◌≤◌, length, get_or};
 ghost use Rattle.basics.specs.Lists.{from};
 ghost use Rattle.format.specs.Record.{records};

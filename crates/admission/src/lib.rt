@@ -1,4 +1,6 @@
 // The rows that refuse a command: 12, 16 and 13.
+#![tactic(auto)]
+
 ghost use Rattle.std.specs.Prelude.{◌≡◌, true, false, ◌*◌, ◌≤◌, length};
 ghost use Rattle.format.specs.Record.{Net, kind, command_kind, records, of_kind, widths_of};
 ghost use Rattle.widths.specs.Widths.{within_limits};
@@ -72,7 +74,7 @@ fn is_full(version: Version, store: &[u8], n: usize, rules: usize, given: &[u8])
 }
 
 // Whether a row refuses a command, and which; its place is 0.
-#[derive(Drop)]
+#[derive(Clone, Copy)]
 pub enum Admission {
     Refused { number: usize },
     Passed,

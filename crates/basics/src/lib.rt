@@ -1,1 +1,2 @@
 // Bits of a number, lists and tests: specifications only.
+#![tactic(auto)]

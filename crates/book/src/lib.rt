@@ -1,7 +1,8 @@
 // The check call and the command call: specifications only, with the types of their answers.
+#![tactic(auto)]
 
 // What the check call answers.
-#[derive(Drop)]
+#[derive(Clone, Copy)]
 pub enum Checked {
     Holds,
     Violated { policy: usize, state: usize },
@@ -9,7 +10,7 @@ pub enum Checked {
 }
 
 // What the command call answers.
-#[derive(Drop)]
+#[derive(Clone, Copy)]
 pub enum Commanded {
     Forwarded { count: usize },
     Blocked { policy: usize, state: usize },

@@ -1,7 +1,7 @@
 -- A network in a store.
 use mathlib.Core.Path.{◌≡◌, sym}
 use mathlib.Core.List.{List, ◌++◌, append_assoc}
-use Prim.Native.Nat.{ℕ, ◌+◌, ◌-◌}
+use Prim.Native.Nat.{ℕ, ◌-◌}
 use lib.ListN.{length, drop, replicate}
 use Rattle.format.specs.Record.{Net, store_bytes, flat}
 use Rattle.commands.specs.Effect.{padded, filled}

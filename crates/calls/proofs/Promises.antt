@@ -9,7 +9,7 @@ use lib.Seq.{length-take-le}
 use Rattle.format.specs.Record.{Rec, Net, store_bytes, records, flat}
 use Rattle.format.specs.Version.{version_of}
 use Rattle.refusals.specs.Rows.{work_needed}
-use Rattle.refusals.specs.Refusal.{Refusal, file_row, check_refusal, command_row, command_refusal}
+use Rattle.refusals.specs.Refusal.{file_row, check_refusal, command_row, command_refusal}
 use Rattle.scan.specs.Layout.{LayoutOf}
 use Rattle.format.specs.declared.Version.{Version}
 use Rattle.scan.specs.declared.Layout.{Layout}
@@ -26,7 +26,7 @@ use Rattle.effect.specs.Apply.{applied}
 use Rattle.commands.specs.Effect.{padded, BufferRoom, Built}
 use Rattle.admission.specs.Admission.{Known}
 use Rattle.book.specs.Check.{of_verdict, check_answer, cleared, check_work, CheckPromised}
-use Rattle.book.specs.Reference.{Installed, Outcome, stored, judged as judgedStep, outcome_of, command_work}
+use Rattle.book.specs.Reference.{Installed, Outcome, judged as judgedStep, outcome_of, command_work}
 use Rattle.effect.specs.NeverStuck.{GoesOn, work_same}
 use Rattle.book.specs.Command.{Promised, call}
 use Rattle.effect.specs.Laws.StoredRule.{command}

@@ -20,7 +20,7 @@ pub const MOST_ARRIVING: usize = 512;
 
 // The highest rank of the rules that match an arrival, 0 where none does, and the first and the last rule of that rank, by
 // their numbers among the rules.
-#[derive(Drop)]
+#[derive(Clone, Copy)]
 pub struct Lead {
     pub rank: u32,
     pub first: u8,

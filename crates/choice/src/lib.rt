@@ -1,4 +1,6 @@
 // Which rules match an arrival, and their ranks.
+#![tactic(auto)]
+
 ghost use Rattle.std.specs.Prelude.{◌≡◌, true, suc, length};
 ghost use Rattle.format.specs.Record.{at, most_rules, priority, records};
 ghost use Rattle.widths.specs.Widths.{within_limits};

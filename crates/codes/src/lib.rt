@@ -1,4 +1,6 @@
 // Each answer as one 64-bit number, and the version of the library.
+#![tactic(auto)]
+
 ghost use Rattle.std.specs.Prelude.{◌≡◌, ◌<◌};
 ghost use Rattle.book.specs.Answer.{check_answer_of, command_answer_of};
 ghost use Rattle.book.specs.Laws.Bounds.{CheckSmall, CommandSmall};

@@ -1,4 +1,6 @@
 // The effect of a command, made in a second buffer.
+#![tactic(auto)]
+
 ghost use Rattle.std.specs.Prelude.{◌≡◌, false, ◌++◌, ◌+◌, ◌-◌, ◌*◌, ◌≤◌, length, take, drop};
 ghost use Rattle.format.specs.Record.{store_bytes, kind, present, records, flat};
 ghost use Rattle.format.specs.Search.{first_at};

@@ -1,1 +1,2 @@
 // What a command changes: specifications only.
+#![tactic(auto)]

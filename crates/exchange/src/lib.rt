@@ -1,4 +1,6 @@
 // A plane with X and Y exchanged: by its set bits, or by blocks of eight by eight bits.
+#![tactic(auto)]
+
 ghost use Rattle.std.specs.Prelude.{◌≡◌, true, List, ℕ, ◌+◌, ◌*◌, ◌/◌, ◌%◌, ◌^◌, ◌≤◌, ◌<◌, length};
 ghost use Rattle.std.specs.Int.Bits.{bit_and, bit_or};
 ghost use Rattle.planes.specs.Plane.{cell, plane_size, Apart};

@@ -1,14 +1,15 @@
 // The records of 24 bytes: specifications only, with the types that these use.
+#![tactic(auto)]
 
 // The wire version of a network's switches.
-#[derive(Drop)]
+#[derive(Clone, Copy)]
 pub enum Version {
     OpenFlow10,
     OpenFlow13,
 }
 
 // A bit of a pattern.
-#[derive(Drop)]
+#[derive(Clone, Copy)]
 pub enum Ternary {
     Fixed0,
     Fixed1,
@@ -16,7 +17,7 @@ pub enum Ternary {
 }
 
 // A bucket: the header pattern that it sets, and where it sends the frame, to a port (kind 1) or to a lower group (kind 2).
-#[derive(Drop)]
+#[derive(Clone, Copy)]
 pub struct Bucket {
     pub value: u8,
     pub care: u8,

@@ -1,11 +1,13 @@
 // The forms in which the tests of a node stand in the work buffer.
+#![tactic(auto)]
+
 ghost use Rattle.std.specs.Prelude.{◌≡◌, ℕ, ◌*◌, ◌<◌};
 ghost use Rattle.lines.specs.Shapes.{Plane};
 ghost use Rattle.forms.specs.declared.Form.TheVariants.{OfX, OfY, Both, Turned};
 ghost use Rattle.forms.specs.Forms.{turned, form_of, turn_code, tests, place, Pairs};
 
 // A line over X, a line over Y, a plane, a plane with X and Y exchanged; with the byte at which it starts.
-#[derive(Drop)]
+#[derive(Clone, Copy)]
 pub enum Form {
     OfX(usize),
     OfY(usize),
@@ -87,7 +89,7 @@ pub fn test(work: &[u8], f: Form, x: usize, y: usize, pitch: usize) -> bool
 
 // How two forms are taken together: as lines over X, as lines over Y, as planes, as planes with X and Y exchanged, as planes
 // of which the first, or the second, is to be exchanged before.
-#[derive(Drop)]
+#[derive(Clone, Copy)]
 pub enum Way {
     OverX,
     OverY,

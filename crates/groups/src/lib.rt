@@ -1,4 +1,6 @@
 // What the groups of a switch send.
+#![tactic(auto)]
+
 ghost use Rattle.std.specs.Prelude.{◌≡◌, true, ◌<◌, length};
 ghost use Rattle.format.specs.Record.{records};
 ghost use Rattle.format.specs.Group.{is_group, target_kind};

@@ -1,1 +1,2 @@
 // When a network holds, and the verdict: specifications only.
+#![tactic(auto)]

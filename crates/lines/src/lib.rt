@@ -1,4 +1,6 @@
 // Lines of bits, in the buffer and of 128 bytes: a line tests each state below 1024.
+#![tactic(auto)]
+
 ghost use Rattle.std.specs.Prelude.{◌≡◌, ◌+◌, ◌*◌, ◌/◌, ◌≤◌, ◌<◌, length, get_or};
 ghost use Rattle.basics.specs.Bit.{bit_of};
 ghost use Rattle.planes.specs.Lines.{Laid};
@@ -7,7 +9,7 @@ ghost use Rattle.lines.specs.declared.Join.TheVariants.{Two};
 ghost use Rattle.lines.specs.Shapes.{op_byte, unit_byte, over, Quantifies, weight_if, full_byte, bit_byte, bits_of, Pushed, Span, row_byte, Ready, Even, join_byte, JoinWithin, Joins};
 
 // An operation on tests.
-#[derive(Drop)]
+#[derive(Clone, Copy)]
 pub enum Op {
     Not,
     And,
@@ -26,7 +28,7 @@ pub fn byte_op(o: Op, a: u8, b: u8) -> u8
 }
 
 // The bytes of a line: one over and over, or those from some byte of the buffer on.
-#[derive(Drop)]
+#[derive(Clone, Copy)]
 pub enum Row {
     Full(u8),
     From(usize),
@@ -187,7 +189,7 @@ pub fn line_over(work: &[u8], o: Op, at: usize, len: usize) -> bool
 }
 
 // The bytes of an operation on two rows: one over and over, or the operation on those from two places on.
-#[derive(Drop)]
+#[derive(Clone, Copy)]
 pub enum Join {
     Same(u8),
     Two(usize, usize),

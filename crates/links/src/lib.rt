@@ -1,4 +1,6 @@
 // What links carry, and where they end.
+#![tactic(auto)]
+
 ghost use Rattle.std.specs.Prelude.{◌≡◌, true, [], ◌∷◌, ◌^◌, ◌<◌, eqb, length};
 ghost use Rattle.planes.specs.Plane.{plane_size};
 ghost use Rattle.planes.specs.Lines.{BitSet};

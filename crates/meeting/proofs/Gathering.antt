@@ -16,7 +16,7 @@ use Rattle.planes.specs.Plane.{bit, cell, On}
 use Rattle.planes.specs.Lines.{BitSet}
 use Rattle.basics.specs.Laws.Bits.{bit_or_lem}
 use Rattle.planes.specs.Laws.Places.{bit_at, in_line}
-use Rattle.basics.specs.Laws.Tests.{not_both, or_left, or_right, or_cases}
+use Rattle.basics.specs.Laws.Tests.{or_left, or_right, or_cases}
 use Rattle.walks.specs.Walk.{Walk}
 use Rattle.walks.specs.Walk.Walk.{one}
 use Rattle.walks.specs.Laws.Walks.{join}

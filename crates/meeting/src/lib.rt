@@ -1,4 +1,6 @@
 // The search from each state of a plane over the lines of those met before.
+#![tactic(auto)]
+
 ghost use Rattle.std.specs.Prelude.{◌≡◌, true, ℕ, ◌+◌, ◌*◌, ◌%◌, ◌≤◌, ◌<◌, length};
 ghost use Rattle.planes.specs.Plane.{bit, plane_size};
 ghost use Rattle.sinks.specs.Turns.{Joined, Taken, Idle, Through, Searched, Met, MetAll};

@@ -1,4 +1,6 @@
 // The closure of a plane of at most 32 states in another, by Warshall's algorithm on words: a line is one word.
+#![tactic(auto)]
+
 ghost use Rattle.std.specs.Prelude.{◌≡◌, ◌&&◌, ℕ, ◌+◌, ◌*◌, ◌≤◌, ◌<◌, length, get_or};
 ghost use Rattle.basics.specs.Bit.{bit_of};
 ghost use Rattle.planes.specs.Plane.{cell, plane_size};

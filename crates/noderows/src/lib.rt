@@ -1,4 +1,6 @@
 // Policy nodes: their operands and free variables, and where a policy ends.
+#![tactic(auto)]
+
 ghost use Rattle.std.specs.Prelude.{◌≡◌, true, cond, ◌&&◌, [], ◌∷◌, ◌++◌, ℕ, ◌*◌, ◌^◌, ◌≤◌, ◌<◌, max, length};
 ghost use Rattle.std.specs.Int.Bits.{bit_or};
 ghost use Rattle.basics.specs.Bit.{bit_of};
@@ -10,7 +12,7 @@ ghost use Rattle.noderows.specs.Policies.{PoliciesOf, follows, Entered, NodeAnsw
 
 // What is known of the policies of the records before: how many there are, the nodes of the last one, those of them in which
 // Y is free as bits, and the nodes of the longest.
-#[derive(Drop)]
+#[derive(Clone, Copy)]
 pub struct Policies {
     pub count: usize,
     pub nodes: usize,
@@ -53,7 +55,7 @@ impl Policies {
 }
 
 // A node meets a row, or is one more of the policies.
-#[derive(Drop)]
+#[derive(Clone, Copy)]
 pub enum Entry {
     Node(Policies),
     Row(u8),

@@ -1,2 +1,4 @@
 // The tests of a policy's node, in the work buffer.
+#![tactic(auto)]
+
 pub mod node;

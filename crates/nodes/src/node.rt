@@ -7,7 +7,7 @@ use forms::Form;
 use lines::Op;
 
 // A node of a policy: its kind, bytes 3 and 4 of its record, and the number of its operands.
-#[derive(Drop)]
+#[derive(Clone, Copy)]
 pub struct Node {
     pub kind: u8,
     pub a: u8,

@@ -1,1 +1,2 @@
 // One step of a packet state: specifications only.
+#![tactic(auto)]

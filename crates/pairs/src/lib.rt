@@ -1,4 +1,6 @@
 // R and TC: a form with other variables, and its closure.
+#![tactic(auto)]
+
 ghost use Rattle.std.specs.Prelude.{◌≡◌, true, ◌+◌, ◌*◌, ◌≤◌, ◌<◌};
 ghost use Rattle.planes.specs.Plane.{cell, plane_size};
 ghost use Rattle.format.specs.Policy.{var_of};

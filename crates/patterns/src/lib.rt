@@ -1,4 +1,6 @@
 // Patterns, bit by bit: what a pattern matches, and what SET makes of a number.
+#![tactic(auto)]
+
 ghost use Rattle.std.specs.Prelude.{◌≡◌, ◌≤◌, ◌<◌, ◌^◌};
 ghost use Rattle.basics.specs.Bit.{bit_of};
 ghost use Rattle.format.specs.Pattern.{ternary, written, put_bits};

@@ -1,4 +1,6 @@
 // The nodes of a policy, worked out by recursion on operands, and the lowest state that breaks it.
+#![tactic(auto)]
+
 ghost use Rattle.std.specs.Prelude.{◌≡◌, true, false, List, ℕ, ◌+◌, ◌*◌, ◌≤◌, ◌<◌, length};
 ghost use Rattle.nodes.specs.Node.{form_at, Makeable, Over};
 ghost use Rattle.forms.specs.Forms.{tests, place};
@@ -11,7 +13,7 @@ use nodes::node;
 use nodes::node::Node;
 
 // The lowest state of some kind, or none.
-#[derive(Drop)]
+#[derive(Clone, Copy)]
 pub enum Offender {
     State(usize),
     None,

@@ -1,4 +1,6 @@
 // SOME and ALL: a form over one variable, made of one or two forms of the same buffer.
+#![tactic(auto)]
+
 ghost use Rattle.std.specs.Prelude.{◌+◌, ◌*◌, ◌<◌};
 ghost use Rattle.planes.specs.Plane.{bit};
 ghost use Rattle.format.specs.Policy.{var_of};

@@ -1,4 +1,6 @@
 // The closure of one plane in another: on words, by a search from each state, or by rounds.
+#![tactic(auto)]
+
 ghost use Rattle.std.specs.Prelude.{◌≡◌, true, ◌+◌, ◌*◌, ◌%◌, ◌≤◌, ◌<◌, length, get_or};
 ghost use Rattle.planes.specs.Plane.{plane_size, Apart};
 ghost use Rattle.planes.specs.Lines.{Laid};
@@ -76,8 +78,7 @@ fn lie_apart(len: usize, from: usize, to: usize, pitch: usize) -> bool
 }
 
 // Close into, for the benchmark from Rust: answers whether both planes lie within work and share no byte, and closes if so.
-#[unsafe(no_mangle)]
-pub extern "C" fn wegbaro_close_into(work: &mut [u8], from: usize, to: usize, pitch: usize) -> bool
+pub fn wegbaro_close_into(work: &mut [u8], from: usize, to: usize, pitch: usize) -> bool
     ensures { ClosedApart from to pitch work.old result work.new }
 {
     if lie_apart(work.len(), from, to, pitch) {

@@ -1,4 +1,6 @@
 // A turn of the scan at each kind of record: the lowest row that the record meets, or what is known of the records before the next.
+#![tactic(auto)]
+
 ghost use Rattle.std.specs.Prelude.{◌≡◌, ◌+◌, ◌*◌, ◌^◌, ◌≤◌, ◌<◌, true, [], ◌∷◌, ◌++◌, ltb, length};
 ghost use Rattle.format.specs.Record.{Net, kind, records};
 ghost use Rattle.format.specs.Search.{record_at, records_after};
@@ -16,7 +18,7 @@ use widths::Widths;
 
 // What is known of the records before: the kind of the last one, the widths, how many links, misses and rules there are, the
 // policies and the groups.
-#[derive(Drop)]
+#[derive(Clone, Copy)]
 pub struct Seen {
     pub last: u8,
     pub widths: Widths,
@@ -28,7 +30,7 @@ pub struct Seen {
 }
 
 // A record meets a row, or it is known what stands before the next.
-#[derive(Drop)]
+#[derive(Clone, Copy)]
 pub enum Turn {
     Next(Seen),
     Stop(u8),

@@ -1,4 +1,6 @@
 // The 24-byte records of a network: their fields, and the largest network.
+#![tactic(auto)]
+
 pub mod fields;
 pub mod groups;
 pub mod wire;

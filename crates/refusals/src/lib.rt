@@ -1,1 +1,2 @@
 // The rows by which a call is refused: specifications only.
+#![tactic(auto)]

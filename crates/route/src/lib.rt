@@ -1,4 +1,6 @@
 // The route call: how a frame gets from one packet state to another.
+#![tactic(auto)]
+
 ghost use Rattle.std.specs.Prelude.{◌≡◌, ◌+◌, ◌<◌, ◌≤◌, length};
 ghost use Rattle.std.proofs.Math.Option.{none};
 ghost use Rattle.format.specs.Record.{records};

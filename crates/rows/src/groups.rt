@@ -113,7 +113,7 @@ pub fn buckets_there(there: &[u8; 32], r: &[u8]) -> bool
 
 // What is known of the groups of the records before: how many there are, and the switch and number of the last, as wide as the
 // count so that the bytes stand with no gap between and are copied as words.
-#[derive(Drop)]
+#[derive(Clone, Copy)]
 pub struct Groups {
     pub count: usize,
     pub switch: usize,

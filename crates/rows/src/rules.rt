@@ -5,7 +5,7 @@ ghost use Rattle.rows.specs.Found.{place_of, found_rule};
 ghost use Rattle.rows.specs.Noted.{spread, KeysNoted};
 
 // Where a record is found.
-#[derive(Drop)]
+#[derive(Clone, Copy)]
 pub enum Found {
     At(usize),
     Nothing,

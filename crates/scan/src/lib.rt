@@ -1,4 +1,6 @@
 // Reading a network: rows 1 to 11 and 16, or where its parts stand.
+#![tactic(auto)]
+
 ghost use Rattle.std.specs.Prelude.{◌≡◌, true, [], ◌+◌, ◌*◌, ◌≤◌, length};
 ghost use Rattle.format.specs.Record.{Net, most_nodes, records};
 ghost use Rattle.widths.specs.Widths.{plane_bytes, within_limits};
@@ -13,7 +15,7 @@ use widths::Widths;
 
 // Where the parts of a network stand, the widths record being number 0 and the links beginning at 1: where the misses, the
 // rules, the nodes and the groups begin; how many policies there are, and the nodes of the longest.
-#[derive(Drop)]
+#[derive(Clone, Copy)]
 pub struct Layout {
     pub widths: Widths,
     pub misses: usize,
@@ -25,7 +27,7 @@ pub struct Layout {
 }
 
 // A network that no row refuses, or the row and the place.
-#[derive(Drop)]
+#[derive(Clone, Copy)]
 pub enum Reading {
     Clean(Layout),
     Refused { number: u8, place: usize },

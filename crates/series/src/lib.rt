@@ -1,1 +1,2 @@
 // Specifications only: what is so after a whole series of calls.
+#![tactic(auto)]

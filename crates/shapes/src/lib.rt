@@ -1,4 +1,6 @@
 // Forms made of two forms of the same buffer, and of a line. A plane of pitch * 8 states has pitch * 8 lines of pitch bytes.
+#![tactic(auto)]
+
 ghost use Rattle.std.specs.Prelude.{◌≡◌, ◌+◌, ◌*◌, ◌≤◌, ◌<◌, length, get_or};
 ghost use Rattle.basics.specs.Bit.{bit_of};
 ghost use Rattle.planes.specs.Plane.{bit};

@@ -1,4 +1,6 @@
 // The states of a relation that lead nowhere, and an order of the others in which to search from them.
+#![tactic(auto)]
+
 ghost use Rattle.std.specs.Prelude.{◌≡◌, true, ◌+◌, ◌*◌, ◌%◌, ◌≤◌, ◌<◌, length};
 ghost use Rattle.planes.specs.Plane.{plane_size};
 ghost use Rattle.planes.specs.Lines.{BitSet};

@@ -1,4 +1,6 @@
 // The numbers of packet states.
+#![tactic(auto)]
+
 ghost use Rattle.std.specs.Prelude.{◌≡◌, true, ◌+◌, ◌*◌, ◌/◌, ◌%◌, ◌^◌, ◌≤◌, ◌<◌};
 ghost use Rattle.widths.specs.Widths.{within_limits};
 ghost use Rattle.format.specs.State.{state, header_of, port_of, switch_of, direction_of};

@@ -5,7 +5,7 @@ ghost use Rattle.streams.specs.Input.{is_command_kind};
 ghost use Rattle.streams.specs.Reading.{said_by, PieceWithin, next_of, next_by, later_of, later_by, with_record};
 
 // What a call of read said.
-#[derive(Drop)]
+#[derive(Clone, Copy)]
 pub enum Said {
     Failed,
     End,
@@ -13,14 +13,14 @@ pub enum Said {
 }
 
 // A piece: how many bytes of it there were, or that a read failed.
-#[derive(Drop)]
+#[derive(Clone, Copy)]
 pub enum Piece {
     Bytes(usize),
     Failed,
 }
 
 // What a piece is before any command.
-#[derive(Drop)]
+#[derive(Clone, Copy)]
 pub enum Next {
     // A record of the network.
     Network,
@@ -39,7 +39,7 @@ pub enum Next {
 }
 
 // What a piece is behind a command.
-#[derive(Drop)]
+#[derive(Clone, Copy)]
 pub enum Later {
     // The next command.
     Command,

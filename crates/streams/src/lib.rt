@@ -1,5 +1,7 @@
 // The program's lines, each put into an array of its own. The longest has three numbers of 20 digits, a word of 7 letters, 3 spaces and its
 // end: 71 bytes, so that 80 are enough.
+#![tactic(auto)]
+
 pub mod input;
 mod text;
 

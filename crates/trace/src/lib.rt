@@ -1,6 +1,8 @@
 // The search for a route: distances backwards from the end, over the exchanged steps, then the route forwards by the smallest
 // state that is one step nearer. The work buffer has the steps in its first plane and the exchanged ones in its second, in lines
 // of pitch bytes.
+#![tactic(auto)]
+
 ghost use Rattle.std.specs.Prelude.{◌≡◌, ℕ, ◌+◌, ◌*◌, ◌<◌, ◌≤◌, length, get_or};
 ghost use Rattle.words.specs.Words.{First};
 ghost use Rattle.trace.specs.Search.{Searchable, Marked, Advanced, Measured, Nearer, Writable, RouteWritten, Drawn};

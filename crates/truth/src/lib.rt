@@ -1,1 +1,2 @@
 // The truth of a formula: specifications only.
+#![tactic(auto)]

@@ -11,7 +11,7 @@ use policy::Offender;
 use scan::Layout;
 
 // The answer on a network: it holds, or the lowest broken policy and the lowest state that breaks it.
-#[derive(Drop)]
+#[derive(Clone, Copy)]
 pub enum Judged {
     Holds,
     Violated { policy: usize, state: usize },

@@ -1,2 +1,4 @@
 // The verdict on a network.
+#![tactic(auto)]
+
 pub mod judge;

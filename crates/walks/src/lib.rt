@@ -1,1 +1,2 @@
 // Walks over a relation: specifications only.
+#![tactic(auto)]

@@ -1,12 +1,13 @@
 // The calls for C and Rust, each answer one 64-bit number, and the version of the library.
+#![tactic(auto)]
+
 ghost use Rattle.std.specs.Prelude.{◌≡◌};
 ghost use Rattle.trails.specs.Call.{route_call};
 ghost use Rattle.codes.specs.Code.{CheckCoded, CommandCoded, RouteCoded};
 ghost use Rattle.codes.specs.Version.{library_version};
 
 // The check call.
-#[unsafe(no_mangle)]
-pub extern "C" fn wegbaro_check(store: &[u8], n: usize, work: &mut [u8]) -> u64
+pub fn wegbaro_check(store: &[u8], n: usize, work: &mut [u8]) -> u64
     ensures { CheckCoded store.now n work.old result work.new }
 {
     let a = calls::check(store, n, work);
@@ -14,8 +15,7 @@ pub extern "C" fn wegbaro_check(store: &[u8], n: usize, work: &mut [u8]) -> u64
 }
 
 // The command call.
-#[unsafe(no_mangle)]
-pub extern "C" fn wegbaro_command(store: &mut [u8], n: usize, work: &mut [u8], given: &[u8]) -> u64
+pub fn wegbaro_command(store: &mut [u8], n: usize, work: &mut [u8], given: &[u8]) -> u64
     ensures { CommandCoded store.old n work.old given.now result store.new work.new }
 {
     let a = calls::command(store, n, work, given);
@@ -23,8 +23,7 @@ pub extern "C" fn wegbaro_command(store: &mut [u8], n: usize, work: &mut [u8], g
 }
 
 // The route call.
-#[unsafe(no_mangle)]
-pub extern "C" fn wegbaro_route(
+pub fn wegbaro_route(
     store: &[u8],
     n: usize,
     work: &mut [u8],
@@ -39,8 +38,7 @@ pub extern "C" fn wegbaro_route(
 }
 
 // The version of the library.
-#[unsafe(no_mangle)]
-pub extern "C" fn wegbaro_version() -> u64
+pub fn wegbaro_version() -> u64
     ensures { result ≡ library_version }
 {
     codes::version()

@@ -1,9 +1,11 @@
 // The widths of a network, their limits and the sizes that follow from them.
+#![tactic(auto)]
+
 ghost use Rattle.std.specs.Prelude.{◌≡◌, ◌≤◌};
 ghost use Rattle.widths.specs.Widths.{width, states, plane_bytes, within_limits};
 
 // The widths of a network: of headers, of ports and of switches.
-#[derive(Drop)]
+#[derive(Clone, Copy)]
 pub struct Widths {
     pub h: u8,
     pub p: u8,

@@ -1,8 +1,8 @@
 use mathlib.Core.Path.{◌≡◌}
-use Prim.Native.Nat.{◌-◌, ◌*◌, ◌≤◌, ◌<◌}
+use Prim.Native.Nat.{◌*◌, ◌<◌}
 use native.Mathlib.Omega.{arith}
 use Rattle.planes.specs.Laws.Places.{line_before}
-use Rattle.closure.proofs.Warshall.{Through, through_none, through_more, through_all}
+use Rattle.closure.proofs.Warshall.{through_none, through_more, through_all}
 use Rattle.closure.proofs.close.Goals as goal
 
 pub loop-k-init : goal.loop-k-init
@@ -12,7 +12,10 @@ pub round-requires : goal.round-requires
 round-requires c =
     let h : c.loop-k.k < c.args.pitch * 8 = omega arith in
     let n = c.loop-k.invariant.0.len in
-    ((c.requires.0, omega (arith, n), h), omega (arith, n, line_before c.loop-k.k (c.args.pitch * 8) c.args.pitch h))
+    record {
+      pitch_bound = (c.requires.0, omega (arith, n), h);
+      pitch_in_bounds = omega (arith, n, line_before c.loop-k.k (c.args.pitch * 8) c.args.pitch h);
+    }
 
 pub loop-k-preserved : goal.loop-k-preserved
 loop-k-preserved c =

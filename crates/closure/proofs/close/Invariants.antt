@@ -1,9 +1,6 @@
 -- `closure::close` meets its contract. The loop's invariant is Warshall's.
-use mathlib.Core.Path.{◌≡◌}
-use Prim.Native.Nat.{◌-◌, ◌*◌, ◌≤◌, ◌<◌}
-use native.Mathlib.Omega.{arith}
-use Rattle.planes.specs.Laws.Places.{line_before}
-use Rattle.closure.proofs.Warshall.{Through, through_none, through_more, through_all}
+use Prim.Native.Nat.{◌-◌, ◌*◌, ◌≤◌}
+use Rattle.closure.proofs.Warshall.{Through}
 use Rattle.closure.proofs.close.Given as goal
 
 abbrev pub invariant-loop-k : goal.invariant-loop-k

@@ -1,10 +1,6 @@
 -- `closure::spread` meets its contract. The loop's invariant is the contract at the x lines passed.
-use mathlib.Core.Path.{◌≡◌, sym, ◌∙◌}
-use mathlib.Core.Logic.{⊎_elim}
-use Prim.Native.Nat.{◌+◌, ◌-◌, ◌*◌, ◌≤◌}
-use native.Mathlib.Omega.{arith}
-use lib.ListN.{length}
-use Rattle.closure.proofs.LinesOfRound.{Spreading, spread_none, fits, turn_off, turn_on}
+use Prim.Native.Nat.{◌-◌, ◌*◌}
+use Rattle.closure.proofs.LinesOfRound.{Spreading}
 use Rattle.closure.proofs.spread.Given as goal
 
 abbrev pub invariant-loop-x : goal.invariant-loop-x

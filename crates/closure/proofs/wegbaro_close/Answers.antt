@@ -4,7 +4,6 @@ use mathlib.Core.Bool.{true≢false, false≢true}
 use Prim.Native.Nat.{◌+◌}
 use lib.Dec.{leb}
 use lib.ListN.{length}
-use borrow.Author.Rules.{rules}
 use borrow.Author.Tests.{leb-true}
 use Rattle.planes.specs.Plane.{plane_size}
 use Rattle.basics.specs.Laws.Tests.{both}
@@ -20,7 +19,7 @@ pub returns-then-lies_within : goal.returns-then-lies_within
 returns-then-lies_within c =
     record {
       answer_is = sym c.if-lies_within.true ∙ c.lies_within.ensures;
-      c = λ t. c.close.ensures;
+      closed = λ t. c.close.ensures;
       left = λ t. absurd (true≢false t);
     }
 

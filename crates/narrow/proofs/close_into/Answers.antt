@@ -1,5 +1,4 @@
 -- `narrow::close_into` meets its contract.
-use borrow.Author.Rules.{rules}
 use Rattle.planes.specs.Laws.Planes.{made_as}
 use Rattle.narrow.proofs.close_into.Goals as goal
 

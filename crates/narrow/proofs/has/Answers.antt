@@ -1,6 +1,5 @@
 -- `narrow::has` meets its contract.
 use mathlib.Core.Path.{refl}
-use borrow.Author.Rules.{rules}
 use Rattle.basics.specs.Bit.{bit_of}
 use Rattle.narrow.proofs.has.Goals as goal
 

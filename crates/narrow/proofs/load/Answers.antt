@@ -1,9 +1,8 @@
-use mathlib.Core.Path.{refl}
-use Prim.Native.Nat.{◌+◌, ◌-◌, ◌*◌, ◌≤◌}
+use Prim.Native.Nat.{◌+◌, ◌*◌, ◌≤◌}
 use native.Mathlib.Omega.{arith}
 use Rattle.planes.specs.Plane.{plane_size}
 use Rattle.planes.specs.Laws.Places.{line_before}
-use Rattle.narrow.proofs.WordLines.{Read, read_none, read_more, read_all}
+use Rattle.narrow.proofs.WordLines.{read_more}
 use Rattle.narrow.proofs.load.Goals as goal
 
 -- in a turn, line x is within the plane

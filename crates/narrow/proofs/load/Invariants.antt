@@ -1,10 +1,6 @@
 -- `narrow::load` meets its contract.
-use mathlib.Core.Path.{refl}
-use Prim.Native.Nat.{◌+◌, ◌-◌, ◌*◌, ◌≤◌}
-use native.Mathlib.Omega.{arith}
-use Rattle.planes.specs.Plane.{plane_size}
-use Rattle.planes.specs.Laws.Places.{line_before}
-use Rattle.narrow.proofs.WordLines.{Read, read_none, read_more, read_all}
+use Prim.Native.Nat.{◌-◌, ◌*◌}
+use Rattle.narrow.proofs.WordLines.{Read}
 use Rattle.narrow.proofs.load.Given as goal
 
 abbrev pub invariant-loop-x : goal.invariant-loop-x

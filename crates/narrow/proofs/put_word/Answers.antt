@@ -1,8 +1,5 @@
-use Prim.Native.Nat.{◌-◌, ◌≤◌}
 use native.Mathlib.Omega.{arith}
-use Rattle.planes.specs.Lines.{Laid}
-use Rattle.planes.specs.Laws.LaidBytes.{laid_none, laid_more, laid_all}
-use Rattle.narrow.specs.Words.{byte_of}
+use Rattle.planes.specs.Laws.LaidBytes.{laid_more, laid_all}
 use Rattle.narrow.proofs.put_word.Goals as goal
 
 pub loop-j-preserved : goal.loop-j-preserved

@@ -1,8 +1,6 @@
 -- `narrow::put_word` meets its contract. The loop's invariant is the contract at the j bytes passed.
 use Prim.Native.Nat.{◌-◌, ◌≤◌}
-use native.Mathlib.Omega.{arith}
 use Rattle.planes.specs.Lines.{Laid}
-use Rattle.planes.specs.Laws.LaidBytes.{laid_none, laid_more, laid_all}
 use Rattle.narrow.specs.Words.{byte_of}
 use Rattle.narrow.proofs.put_word.Given as goal
 

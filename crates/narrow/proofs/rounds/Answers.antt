@@ -1,7 +1,9 @@
-use Prim.Native.Nat.{◌-◌, ◌≤◌}
 use native.Mathlib.Omega.{arith}
-use Rattle.narrow.proofs.WordRounds.{After, after_none, after_more, after_all}
+use Rattle.narrow.proofs.WordRounds.{after_none, after_more, after_all}
 use Rattle.narrow.proofs.rounds.Goals as goal
+
+pub loop-k-init : goal.loop-k-init
+loop-k-init c = (omega arith, after_none _ _)
 
 pub loop-k-preserved : goal.loop-k-preserved
 loop-k-preserved c =

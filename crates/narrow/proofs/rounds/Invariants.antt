@@ -1,7 +1,6 @@
 -- `narrow::rounds` meets its contract.
 use Prim.Native.Nat.{◌-◌, ◌≤◌}
-use native.Mathlib.Omega.{arith}
-use Rattle.narrow.proofs.WordRounds.{After, after_none, after_more, after_all}
+use Rattle.narrow.proofs.WordRounds.{After}
 use Rattle.narrow.proofs.rounds.Given as goal
 
 abbrev pub invariant-loop-k : goal.invariant-loop-k

@@ -1,8 +1,6 @@
 use mathlib.Core.Path.{◌≡◌}
-use Prim.Native.Nat.{◌-◌, ◌≤◌}
 use native.Mathlib.Omega.{arith}
-use Rattle.narrow.specs.Words.{Spread}
-use Rattle.narrow.proofs.WordRounds.{spread_none, spread_more}
+use Rattle.narrow.proofs.WordRounds.{spread_more}
 use Rattle.narrow.proofs.spread.Goals as goal
 
 pub loop-x-preserved : goal.loop-x-preserved

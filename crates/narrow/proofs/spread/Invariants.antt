@@ -1,9 +1,6 @@
 -- `narrow::spread` meets its contract. The loop's invariant is the contract at the x words passed.
-use mathlib.Core.Path.{◌≡◌}
 use Prim.Native.Nat.{◌-◌, ◌≤◌}
-use native.Mathlib.Omega.{arith}
 use Rattle.narrow.specs.Words.{Spread}
-use Rattle.narrow.proofs.WordRounds.{spread_none, spread_more}
 use Rattle.narrow.proofs.spread.Given as goal
 
 abbrev pub invariant-loop-x : goal.invariant-loop-x

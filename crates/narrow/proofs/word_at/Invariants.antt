@@ -1,8 +1,5 @@
 -- `narrow::word_at` meets its contract. The bytes are joined from the last one on.
-use mathlib.Core.Path.{refl}
-use Prim.Native.Nat.{◌+◌, ◌-◌}
-use native.Mathlib.Omega.{arith}
-use Rattle.narrow.proofs.WordLines.{Joined, joined_none, joined_small, joined_more, joined_all}
+use Rattle.narrow.proofs.WordLines.{Joined}
 use Rattle.narrow.proofs.word_at.Given as goal
 
 abbrev pub invariant-loop-j : goal.invariant-loop-j

@@ -1,9 +1,5 @@
-use mathlib.Core.Path.{◌≡◌, ap, subst, ◌∙◌}
-use Prim.Native.Nat.{ℕ, ◌-◌, ◌≤◌}
-use native.Mathlib.Numerals.{add-one}
-use native.Mathlib.Omega.{arith}
-use Rattle.patterns.specs.Matched.{MatchedSet, widened}
-use Rattle.patterns.specs.Laws.Matched.{matched_none, matched_more}
+use Prim.Native.Nat.{◌-◌, ◌≤◌}
+use Rattle.patterns.specs.Matched.{MatchedSet}
 use Rattle.patterns.proofs.matched.Given as goal
 
 -- the set has the numbers of so many bits that match

@@ -1,8 +1,6 @@
-use borrow.Author.Rules.{rules}
 use mathlib.Core.Path.{◌≡◌, refl, ap, ap₂, ◌∙◌}
 use mathlib.Core.Bool.{Bool, cond}
-use mathlib.Core.Logic.{⊎_elim}
-use Prim.Native.Nat.{ℕ, ◌+◌, ◌-◌, ◌*◌, ◌%◌, ◌^◌, ◌≤◌, ◌<◌}
+use Prim.Native.Nat.{ℕ, ◌+◌, ◌*◌, ◌%◌, ◌^◌, ◌≤◌, ◌<◌}
 use native.Mathlib.Numerals.{add-one}
 use native.Mathlib.Omega.{arith}
 use lib.Pow.{pow_mono}
@@ -11,6 +9,7 @@ use Rattle.basics.specs.Laws.Shifts.{shl_one}
 use Rattle.format.specs.Pattern.{ternary, written, put_bits}
 use Rattle.format.specs.Laws.Patterns.{put_lt}
 use Rattle.patterns.proofs.put.Goals as goal
+use Rattle.patterns.proofs.put.Goals.{then-written, else-written}
 
 -- the weight of bit i
 module _ (i : ℕ) (h : i < 6) where
@@ -49,10 +48,10 @@ loop-i-preserved c =
     let e = c.written.ensures ∙ ap₂ written c.ternary_at.ensures c.bit_of.ensures in
     let m = more a.value a.care a.x o.i _ e in (
       omega arith,
-      ⊎_elim
-          (λ t. rw (m, t.0.taken) (omega (arith, t.1, o.invariant.1, weight_is o.i l)))
-          (λ t. rw (m, t.0.left) (omega (arith, t.1, o.invariant.1)))
-          c.if-written.branch,
+      elim c.if-written.branch [
+        | then-written w ↦ rw (m, w.if-written.true) (omega (arith, w.result-is, o.invariant.1, weight_is o.i l))
+        | else-written w ↦ rw (m, w.if-written.false) (omega (arith, w.result-is, o.invariant.1))
+      ],
     )
 
 pub returns : goal.returns

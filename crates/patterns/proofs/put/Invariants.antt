@@ -1,15 +1,6 @@
-use borrow.Author.Rules.{rules}
-use mathlib.Core.Path.{◌≡◌, refl, ap, ap₂, ◌∙◌}
-use mathlib.Core.Bool.{Bool, cond}
-use mathlib.Core.Logic.{⊎_elim}
-use Prim.Native.Nat.{ℕ, ◌+◌, ◌-◌, ◌*◌, ◌%◌, ◌^◌, ◌≤◌, ◌<◌}
-use native.Mathlib.Numerals.{add-one}
-use native.Mathlib.Omega.{arith}
-use lib.Pow.{pow_mono}
-use Rattle.basics.specs.Bit.{bit_of}
-use Rattle.basics.specs.Laws.Shifts.{shl_one}
-use Rattle.format.specs.Pattern.{ternary, written, put_bits}
-use Rattle.format.specs.Laws.Patterns.{put_lt}
+use mathlib.Core.Path.{◌≡◌}
+use Prim.Native.Nat.{◌-◌, ◌≤◌}
+use Rattle.format.specs.Pattern.{put_bits}
 use Rattle.patterns.proofs.put.Given as goal
 
 -- the bits below i are written

@@ -1,4 +1,3 @@
-use borrow.Author.Rules.{rules}
 use mathlib.Core.Path.{◌≡◌, sym, ap, ◌∙◌}
 use Prim.Native.Nat.{ℕ, ◌*◌, ◌%◌, ◌^◌, ◌≤◌, ◌<◌}
 use native.Mathlib.Omega.{arith}
@@ -26,8 +25,8 @@ overflow_shl-upper-2 c = omega (arith, by_is c.args.i c.requires.0, by_low c.arg
 
 pub returns-in-Fixed1 : goal.returns-in-Fixed1
 returns-in-Fixed1 c =
-    upper_is c.args.i c.requires.0 c.args.set c.requires.1 ∙ sym (ap (λ t. widened t c.args.set c.args.i) c.enum_told-in-Fixed1-1.given.1)
+    upper_is c.args.i c.requires.0 c.args.set c.requires.1 ∙ sym (ap (λ t. widened t c.args.set c.args.i) c.in-Fixed1.is)
 
 pub returns-in-Star : goal.returns-in-Star
 returns-in-Star c =
-    ap (bit_or c.args.set) (upper_is c.args.i c.requires.0 c.args.set c.requires.1) ∙ sym (ap (λ t. widened t c.args.set c.args.i) c.enum_told-in-Star-1.given.1)
+    ap (bit_or c.args.set) (upper_is c.args.i c.requires.0 c.args.set c.requires.1) ∙ sym (ap (λ t. widened t c.args.set c.args.i) c.in-Star.is)

@@ -1,7 +1,6 @@
-use Prim.Native.Nat.{◌-◌, ◌≤◌}
 use native.Mathlib.Omega.{arith}
 use borrow.Author.Tests.{eqb-true}
-use Rattle.sinks.proofs.Blanks.{Has, has_none, has_more, has_blank}
+use Rattle.sinks.proofs.Blanks.{has_more, has_blank}
 use Rattle.sinks.proofs.all_zero.Goals as goal
 
 pub loop-j-preserved : goal.loop-j-preserved

@@ -1,8 +1,6 @@
 -- `reaching::all_zero` meets its contract.
 use Prim.Native.Nat.{◌-◌, ◌≤◌}
-use native.Mathlib.Omega.{arith}
-use borrow.Author.Tests.{eqb-true}
-use Rattle.sinks.proofs.Blanks.{Has, has_none, has_more, has_blank}
+use Rattle.sinks.proofs.Blanks.{Has}
 use Rattle.sinks.proofs.all_zero.Given as goal
 
 abbrev pub invariant-loop-j : goal.invariant-loop-j

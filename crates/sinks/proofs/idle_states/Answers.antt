@@ -1,6 +1,4 @@
-use Prim.Native.Nat.{◌-◌, ◌*◌, ◌≤◌}
 use native.Mathlib.Omega.{arith}
-use Rattle.sinks.specs.Turns.{Idle}
 use Rattle.sinks.specs.Laws.Turning.{line_fits, idle_none, idle_more}
 use Rattle.sinks.proofs.idle_states.Goals as goal
 

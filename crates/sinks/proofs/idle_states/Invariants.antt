@@ -1,8 +1,6 @@
 -- `reaching::idle_states` meets its contract.
 use Prim.Native.Nat.{◌-◌, ◌*◌, ◌≤◌}
-use native.Mathlib.Omega.{arith}
 use Rattle.sinks.specs.Turns.{Idle}
-use Rattle.sinks.specs.Laws.Turning.{line_fits, idle_none, idle_more}
 use Rattle.sinks.proofs.idle_states.Given as goal
 
 abbrev pub invariant-loop-x : goal.invariant-loop-x

@@ -1,7 +1,6 @@
 -- `reaching::is_blank` meets its contract.
 use Prim.Native.Nat.{◌*◌}
 use native.Mathlib.Omega.{arith}
-use borrow.Author.Rules.{rules}
 use borrow.Author.Tests.{leb-true}
 use Rattle.sinks.proofs.is_blank.Goals as goal
 

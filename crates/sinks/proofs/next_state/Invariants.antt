@@ -1,9 +1,6 @@
 -- `reaching::next_state` is safe: line x is within the bytes.
 use Prim.Native.Nat.{◌+◌, ◌-◌, ◌*◌, ◌≤◌}
-use native.Mathlib.Omega.{arith}
-use borrow.Author.Rules.{rules}
 use lib.ListN.{length}
-use Rattle.sinks.specs.Laws.Turning.{line_fits}
 use Rattle.sinks.proofs.next_state.Given as goal
 
 abbrev pub invariant-loop-k : goal.invariant-loop-k

@@ -1,5 +1,4 @@
 -- `reaching::note_idle` meets its contract.
-use borrow.Author.Rules.{rules}
 use Rattle.sinks.specs.Laws.Turning.{noted_none, noted_one}
 use Rattle.sinks.proofs.note_idle.Goals as goal
 

@@ -1,8 +1,5 @@
 -- `reaching::search_order` is safe.
-use mathlib.Core.Logic.{⊎_elim}
 use Prim.Native.Nat.{◌-◌, ◌*◌, ◌≤◌}
-use native.Mathlib.Omega.{arith}
-use borrow.Author.Rules.{rules}
 use Rattle.sinks.proofs.search_order.Given as goal
 
 abbrev pub invariant-loop-turns : goal.invariant-loop-turns

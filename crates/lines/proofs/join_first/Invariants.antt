@@ -1,0 +1,12 @@
+-- `lines::join_first` meets its contract. The loop's invariant is the contract at the j bytes passed.
+use Prim.Native.Nat.{◌+◌, ◌-◌, ◌≤◌}
+use lib.ListN.{get_or}
+use Rattle.planes.specs.Lines.{Laid}
+use Rattle.lines.specs.Shapes.{op_byte}
+use Rattle.lines.proofs.join_first.Given as goal
+
+abbrev pub invariant-loop-j : goal.invariant-loop-j
+invariant-loop-j l = (l.j ≤ l.len) × Laid (λ i. op_byte l.o l.c (get_or l.initial.work (l.b + i) 0)) l.to l.j l.initial.work l.work
+
+abbrev pub decreases-loop-j : goal.decreases-loop-j
+decreases-loop-j l = l.len - l.j

@@ -1,0 +1,7 @@
+-- `pairs::diagonal` meets its contract.
+use native.Mathlib.Omega.{arith}
+use Rattle.lines.specs.Laws.LineBits.{upto_none}
+use Rattle.pairs.proofs.diagonal.Goals as goal
+
+pub loop-z-init : goal.loop-z-init
+loop-z-init c = (omega arith, upto_none _)

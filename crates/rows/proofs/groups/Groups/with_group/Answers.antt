@@ -1,0 +1,16 @@
+use mathlib.Core.Path.{sym, ap, ◌∙◌}
+use Prim.Native.Nat.{ℕ, ◌+◌}
+use Rattle.format.specs.Record.{Rec, at}
+use Rattle.format.specs.Laws.Kinds.{kind_count}
+use Rattle.rows.specs.Laws.Groups.{last_group_lem}
+use Rattle.rows.proofs.groups.Groups.with_group.Goals as goal
+
+pub returns : goal.returns
+returns c before G =
+    let r = c.args.r.now in
+    let last = last_group_lem before r c.requires.1 in
+    record {
+      count = ap (λ (n : ℕ). n + 1) G.count ∙ sym (kind_count 9 before r ∙ rw c.requires.1);
+      switch = ap (λ (q : Rec). at q 1) (sym last);
+      number = ap (λ (q : Rec). at q 2) (sym last);
+    }

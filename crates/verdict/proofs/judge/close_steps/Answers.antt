@@ -1,0 +1,18 @@
+-- `verdict::judge::close_steps` meets its contract.
+use native.Mathlib.Omega.{arith}
+use mathlib.Core.Path.{refl}
+use mathlib.Core.Bool.{false≢true}
+use mathlib.Core.Logic.{inl}
+use Rattle.verdict.specs.Laws.JudgedWork.{steps_closed}
+use Rattle.verdict.proofs.judge.close_steps.Goals as goal
+
+pub close_into-requires : goal.close_into-requires
+close_into-requires c =
+    let P = c.requires.plane in
+    record { narrow = P.small; first = omega (arith, P.within); second = P.within; apart = inl (omega arith) }
+
+pub returns-then-wants_closure : goal.returns-then-wants_closure
+returns-then-wants_closure c = steps_closed _ _ _ c.close_into.ensures
+
+pub returns : goal.returns
+returns c = record { len = refl; reached = λ t. absurd (false≢true t); rest = λ m o. refl }
