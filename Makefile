@@ -44,7 +44,7 @@ program := target/rust/release/wegbaro
 made := target/made
 
 # What is proved. A folder counts too: it is newer when a file of it is gone.
-sources := crates.txt $(shell find crates -name must-fail -prune -o -print)
+sources := crates.txt $(shell find crates \( -name must-fail -o -name out \) -prune -o -print)
 
 .PHONY: all there anew program shared install uninstall test
 

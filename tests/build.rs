@@ -1,4 +1,4 @@
-// Where the static libraries of `rt staticlib` stand.
+// Where `packaging/staticlib` writes the static libraries.
 fn main() {
     let root = std::env::var("CARGO_MANIFEST_DIR").unwrap();
     println!("cargo:rustc-link-search=native={root}/../target/staticlib");

@@ -1,5 +1,5 @@
-//! Finds the static library: in the folder that `WEGBARO_LIB_DIR` names, or where `rt staticlib`
-//! writes it.
+//! Finds the static library: in the folder that `WEGBARO_LIB_DIR` names, or where
+//! `packaging/staticlib` writes it.
 
 use std::env;
 use std::path::{Path, PathBuf};
@@ -40,14 +40,14 @@ fn from_the_caller(path: &Path) -> PathBuf {
     Path::new(&here).join(path)
 }
 
-/// Where `rt staticlib` writes the library. Without it the crate can still be checked and documented.
+/// Where `packaging/staticlib` writes the library. Without it the crate can still be checked and documented.
 fn built_folder() -> PathBuf {
     let crate_folder = PathBuf::from(env::var_os("CARGO_MANIFEST_DIR").expect("cargo sets it"));
     let folder = crate_folder.join("../../target/staticlib");
     if !folder.join(LIBRARY).exists() {
         println!(
-            "cargo:warning={} is not there: build it with `rt staticlib wegbaro`, or name the \
-             folder that has it in WEGBARO_LIB_DIR",
+            "cargo:warning={} is not there: build it with `packaging/staticlib rt wegbaro`, or name \
+             the folder that has it in WEGBARO_LIB_DIR",
             folder.join(LIBRARY).display()
         );
     }

@@ -32,10 +32,18 @@ const NOTHING: &str = "#!/bin/sh\n";
 fn folder(name: &str) -> Folder {
     let folder = Folder::new(env!("CARGO_TARGET_TMPDIR"), name);
     fs::create_dir(folder.path().join(".ci")).unwrap();
+    fs::create_dir(folder.path().join("packaging")).unwrap();
     for script in [".ci/run", ".ci/rust"] {
         fs::copy(root().join(script), folder.path().join(script)).unwrap();
     }
-    let commands = [("rt", RT), ("cargo", CARGO), ("pkg-config", NOTHING), ("c++", NOTHING)];
+    let commands = [
+        ("rt", RT),
+        ("cargo", CARGO),
+        ("pkg-config", NOTHING),
+        ("c++", NOTHING),
+        ("packaging/staticlib", NOTHING),
+        ("packaging/program", NOTHING),
+    ];
     for (name, text) in commands {
         let path = folder.path().join(name);
         fs::write(&path, text).unwrap();
@@ -59,7 +67,7 @@ fn script(folder: &Path) -> Command {
 /// The last line that the script prints with these variables, if it succeeds or else as an error.
 fn last_line(variables: &[(&str, &str)]) -> Result<String, String> {
     let name = variables.iter().flat_map(|(name, value)| [*name, *value]).collect::<String>();
-    let folder = folder(&name.replace([' ', ','], "-"));
+    let folder = folder(&name.replace([' ', ',', '\n', ':', ';'], "-"));
     fs::write(folder.path().join("go"), "").unwrap();
     let ran = script(folder.path()).envs(variables.iter().copied()).output().unwrap();
     let printed = String::from_utf8(ran.stdout).unwrap();
@@ -82,6 +90,9 @@ fn what_fails_is_told() {
     assert_eq!(last_line(&[("PROOFS", "4 passed, 1 failed")]), Err("4 passed, 1 failed".into()));
     let cut = last_line(&[("PROOFS", "cut")]);
     assert_eq!(cut, Err("the proofs end without 'N passed, 0 failed'".into()));
+    let bad = "rt: ok: 2 crates proved; must-fail edits: 3 refused, 1 bad\n5 passed, 0 failed";
+    let told = "an edit that the prover must refuse cannot be applied or read";
+    assert_eq!(last_line(&[("PROOFS", bad)]), Err(told.into()));
     for part in ["fmt", "clippy", "test"] {
         assert_eq!(last_line(&[("FAILS", part)]), Err("5 passed, 1 failed".into()), "{part}");
     }

@@ -11,13 +11,15 @@ use wegbaro_tests::build::{root, run, Folder};
 const RT: &str = "\
 case $1 in
 version) cat kit; exit 0 ;;
-check) echo 'rt: planes proved (1 s)'; echo 'rt: gate proved (2 s)'; built=target/bin/gate ;;
-staticlib) built=target/staticlib/libwegbaro.a ;;
 esac
-echo \"rt $*\" >> calls
-test ! -e broken || { echo 'rt: records NOT PROVED (exit 1, 1 s)'; exit 1; }
-mkdir -p \"$(dirname $built)\"
-echo built > $built
+top=${PWD%/crates/*}
+echo \"rt $*\" >> \"$top/calls\"
+test ! -e \"$top/broken\" || { echo 'records: failed (1)'; exit 1; }
+case $1 in
+all) echo '== planes'; echo '== gate' ;;
+lib) mkdir -p out; echo built > out/libwegbaro_c.a ;;
+run) mkdir -p out; echo built > out/gate ;;
+esac
 ";
 
 const CARGO: &str = "\
@@ -36,7 +38,8 @@ echo built > \"$2\"
 fn crates() -> Vec<String> {
     let listed = fs::read_to_string(root().join("crates.txt")).unwrap();
     let crates = listed.lines().filter(|line| !line.starts_with('#'));
-    crates.filter_map(|line| Some(line.split_once(':')?.0.to_owned())).collect()
+    let names = crates.filter_map(|line| line.split_once(':')?.0.split(' ').next());
+    names.map(str::to_owned).collect()
 }
 
 /// A project with the Makefile and crates of nothing, and the three programs beside it.
@@ -88,7 +91,7 @@ impl Project {
             )
             .unwrap();
         }
-        let used = "make sh cat find cmp grep sed mktemp rm mkdir dirname";
+        let used = "make sh cat find cmp cp grep sed mktemp nproc rm tail mkdir dirname";
         for name in used.split(' ') {
             let found = ["/usr/bin", "/bin"].map(|folder| Path::new(folder).join(name));
             let found = found.iter().find(|path| path.exists()).unwrap();
@@ -118,25 +121,17 @@ impl Project {
     }
 }
 
-/// Everything but the library's own crate is proved by the call of rt that uses all cores.
+/// All crates are proved by one call of rt, on all cores, before the library and the program are built.
 #[test]
 fn all_is_built_and_each_crate_is_told() {
     let project = Project::new("make-all");
     let made = project.make();
     assert!(made.ended_well, "{}", made.said);
-    let [check, staticlib, cargo, cc] = &made.calls[..] else { panic!("{:?}", made.calls) };
+    let [check, library, program, cargo, cc] = &made.calls[..] else { panic!("{:?}", made.calls) };
+    assert!(check.starts_with("rt all check --jobs "), "{check}");
+    assert_eq!([library, program, cargo, cc], ["rt lib", "rt run", "cargo build", "cc"]);
     let all = crates().len();
-    for name in crates().iter().filter(|name| !["wegbaro", "streams"].contains(&name.as_str())) {
-        assert!(check.split(' ').any(|word| word == name), "{name}: {check}");
-    }
-    assert!(check.starts_with("rt check gate ") && !check.contains("wegbaro"), "{check}");
-    assert!(!check.ends_with(" check"), "of the toolchain: {check}");
-    assert_eq!([staticlib, cargo, cc], ["rt staticlib wegbaro", "cargo build", "cc"]);
-    for line in [
-        format!("crate 1 of {all}: planes proved (1 s)"),
-        format!("crate 2 of {all}: gate proved (2 s)"),
-        format!("crate {all} of {all}: wegbaro"),
-    ] {
+    for line in [format!("crate 1 of {all}: planes"), format!("crate 2 of {all}: gate")] {
         assert!(made.written.lines().any(|written| written == line), "{line}:\n{}", made.written);
     }
 }
@@ -173,8 +168,8 @@ fn what_is_not_proved_is_not_taken_for_proved() {
     for _ in 0..2 {
         let made = project.make();
         assert!(!made.ended_well);
-        assert!(made.calls.len() == 1 && made.calls[0].starts_with("rt check"), "{:?}", made.calls);
-        assert!(made.written.contains(": records NOT PROVED"), "{}", made.written);
+        assert!(made.calls.len() == 1 && made.calls[0].starts_with("rt all check"), "{:?}", made.calls);
+        assert!(made.written.contains("records: failed"), "{}", made.written);
     }
 }
 

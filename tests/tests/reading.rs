@@ -4,6 +4,7 @@
 use std::collections::{BTreeMap, BTreeSet};
 use std::fs;
 use std::path::PathBuf;
+use wegbaro_tests::reading::code;
 use wegbaro_tests::reading::document::{Document, Pinned};
 use wegbaro_tests::reading::edits::{self, Edit, BEGIN, END};
 use wegbaro_tests::reading::sources::{entries, listed, Place, Sources};
@@ -11,12 +12,12 @@ use wegbaro_tests::reading::walk::{walk, Stop};
 
 /// Where the walk ends. What these compute is not believed but proved to be what is meant.
 const STOPS: [Stop; 3] = [
-    // `closed-iff` holds the computed closure to `Walk`, `truth-iff` the computed truth to `Truth`.
+    // `closed_iff` holds the computed closure to `Walk`, `truth_iff` the computed truth to `Truth`.
     Stop::Files("Computed"),
     // Its type says it all: a verdict, with a proof that it is the one that is meant (`Is`).
-    Stop::Body("verdict/specs/Judgement", "judgement"),
+    Stop::Body("judgement/specs/Judgement", "judgement"),
     // Likewise the route between two states, or none (`IsIn`).
-    Stop::Body("route/specs/InNet", "routed"),
+    Stop::Body("trails/specs/InNet", "routed"),
 ];
 
 fn root() -> PathBuf {
@@ -229,11 +230,41 @@ fn names_each_crate() {
     assert_eq!(document().crates().unwrap(), crates);
 }
 
+#[test]
+fn reads_the_name_of_a_static_library() {
+    let list = "# NAME: what it depends on\nlow:\nhigh: low\nhigh_c staticlib: high low\n";
+    let (none, low) = (BTreeSet::new(), BTreeSet::from(["low"]));
+    let both = BTreeSet::from(["high", "low"]);
+    assert_eq!(listed(list), [("low", none), ("high", low), ("high_c", both)]);
+}
+
+#[test]
+fn reads_uses_and_clauses_of_code() {
+    let text = "use low::{Size, most};
+use low::parts::Part;
+
+fn call(size: Size, part: Part)
+    requires small { size < 8 }
+    requires { part < 8 }
+    ensures { result }
+{
+";
+    let file = code::parse("high/src/lib.rt", text).unwrap();
+    let uses: Vec<String> = file.uses.values().map(Place::to_string).collect();
+    assert_eq!(uses, ["crates/low/src/parts.rt: Part", "crates/low/src/lib.rt: Size"]);
+    let clauses = " requires { size < 8 } requires { part < 8 } ensures { result }";
+    assert_eq!(file.functions["call"].body, clauses);
+}
+
 /// A call of a crate `high`, whose promise goes over the names of a crate `low`.
-const FILES: [(&str, &str); 4] = [
+const FILES: [(&str, &str); 5] = [
     (
         "low/src/lib.rt",
-        "// A number of bits.
+        "// Sizes.
+#![tactic(auto)]
+
+// A number of bits.
+#[derive(Clone, Copy)]
 pub struct Size {
     bits: u8,
 }
@@ -241,8 +272,8 @@ pub struct Size {
     ),
     (
         "low/specs/Base.antt",
-        "use Prim.Native.Nat.{ℕ}
-use Rattle·low·specs.specs.declared.Size.{Size}
+        "use Rattle.std.specs.Prelude.{ℕ}
+use Rattle.low.specs.declared.Size.{Size}
 
 -- shapes
 pub data Shape : Type 0 where
@@ -256,7 +287,7 @@ pub data Colour : Type 0 where
 unfoldable pub extra : ℕ
 extra = 0
 
-module _ (of : Colour) where
+module (of : Colour) where
   -- the sides of a square
   abbrev both : ℕ → ℕ
   both n = sides (square n)  -- not extra
@@ -264,25 +295,40 @@ module _ (of : Colour) where
 -- twice the bits of a size
 unfoldable pub twice : Size → ℕ
 unfolding extra
-twice size = both (size .bits)
+twice size = both size.bits
 
 -- a law
 pub law : (size : Size) → twice size ≡ twice size
-law size = proof {
-  extra
+law size = record {
+  is = extra;
 }
 ",
     ),
     (
+        "low/proofs/Laws.antt",
+        "use Rattle.std.specs.Prelude.{ℕ, ◌≡◌}
+use Rattle.low.specs.Base.{extra}
+use Rattle.low.proofs.run.Goals as goal
+
+-- what a law tells of a number
+pub record Told (n : ℕ) : Type 0 where
+  pub is : n ≡ n
+
+-- another law
+pub again : (n : ℕ) → Told n
+again n = goal.again extra
+",
+    ),
+    (
         "high/specs/Promise.antt",
-        "use Rattle·low.specs.Base.{twice as double, round}
-use Rattle·low.specs.declared.Size.{Size}
+        "use Rattle.low.specs.Base.{twice as double, round}
+use Rattle.low.specs.declared.Size.{Size}
 
 -- it is kept
 pub record Kept (size : Size)
     (r : ℕ) : Type 0 where
   pub is : r ≡ double size
-  pub also : Rattle·high.specs.Promise.Other
+  pub also : Rattle.high.specs.Promise.Other
       → r ≡ r
 
 abbrev pub Other : Type 0
@@ -291,13 +337,16 @@ Other = Type 0
     ),
     (
         "high/src/lib.rt",
-        "ghost use Rattle·high·specs.specs.Promise.{Kept};
+        "#![tactic(auto)]
+
+ghost use Rattle.high.specs.Promise.{Kept};
+
 use low::Size;
 
 // The call.
-#[no_mangle]
+#[unsafe(no_mangle)]
 pub extern \"C\" fn run(size: Size) -> u64
-    ensures { λ r. ⌜ Kept size r ⌝ }
+    ensures { Kept size result }
 {
     0
 }
@@ -313,6 +362,7 @@ const SMALL: &str = "
 | a | `low/src/lib.rt` | `Size` |
 | b | `low/specs/Base` | `twice`, `both`, `Shape`, `Colour` |
 | c | `high/specs/Promise` | `Kept`, `Other` |
+| d | `low/proofs/Laws` | `Told` |
 ## What the code promises
 | function | promise |
 |---|---|
@@ -321,6 +371,7 @@ const SMALL: &str = "
 | demand | theorems | file |
 |---|---|---|
 | d | `law` | `low/specs/Base` |
+| d | `again` | `low/proofs/Laws` |
 | e | | |
 ";
 
@@ -353,6 +404,7 @@ fn follows_types_and_bodies_but_no_proof() {
         ("Colour", "low/specs/Base.antt", "both (low/specs/Base)"),
         ("Kept", "high/specs/Promise.antt", "run (high/src/lib.rt)"),
         ("Other", "high/specs/Promise.antt", "Kept (high/specs/Promise)"),
+        ("Told", "low/proofs/Laws.antt", "again (low/proofs/Laws)"),
     ] {
         let used = format!("crates/{file}: {name} is used by {user}, and not named");
         one(small((&format!("`{name}`"), ""), SAME, &[]), &used);
@@ -380,15 +432,21 @@ fn refuses_what_is_not_there_not_used_or_named_twice() {
 
 #[test]
 fn refuses_what_it_cannot_read() {
-    for promise in [("`run`", "`walk`"), ("`law`", "`flaw`"), ("| e | |", "| e | `law` |")] {
+    for promise in [
+        ("`run`", "`walk`"),
+        ("`law`", "`flaw`"),
+        ("`again`", "`once`"),
+        ("| e | |", "| e | `law` |"),
+    ] {
         assert!(small(promise, SAME, &[]).is_err(), "{promise:?}");
     }
     for line in [
         ("pub law :", "pub law of :"),
         ("{twice as double,", "{thrice as double,"),
-        ("low.specs.Base.{", "low.specs.Bases.{"),
-        ("abbrev both :", "abbrev _both_ :"),
-        ("    ensures { λ r. ⌜ Kept size r ⌝ }\n{", "{"),
+        ("Base.{twice as double,", "Bases.{twice as double,"),
+        ("Base.{twice as double, round}", "Base as double"),
+        ("abbrev both :", "abbrev ◌both◌ :"),
+        ("    ensures { Kept size result }\n{", "{"),
     ] {
         assert!(small(SAME, line, &[]).is_err(), "{line:?}");
     }

@@ -20,7 +20,7 @@ pub fn parse(path: &str, text: &str) -> Result<File, String> {
         if let Some(used) = line.strip_prefix("ghost use ") {
             specs::use_line(used.trim_end_matches(';'), &mut file)?;
         } else if let Some(used) = line.strip_prefix("use ") {
-            use_type(own, &modules, used.trim_end_matches(';'), &mut file);
+            use_types(own, &modules, used.trim_end_matches(';'), &mut file);
         } else if let Some(name) = declared(line) {
             let end = lines[i..].iter().position(|l| l.starts_with('}')).unwrap_or(1);
             file.define(name, "", &lines[i..i + end].join(" "));
@@ -32,6 +32,18 @@ pub fn parse(path: &str, text: &str) -> Result<File, String> {
         }
     }
     Ok(file)
+}
+
+/// A `use` of one name, or of several in brackets.
+fn use_types(own: &str, modules: &[&str], used: &str, file: &mut File) {
+    match used.trim_end_matches('}').split_once("::{") {
+        Some((path, list)) => {
+            for name in list.split(',') {
+                use_type(own, modules, &format!("{path}::{}", name.trim()), file);
+            }
+        }
+        None => use_type(own, modules, used, file),
+    }
 }
 
 /// A `use` of a type; functions are not followed. A path begins with a crate, or with a module of the file.
@@ -68,12 +80,23 @@ fn promises(line: &str) -> bool {
     line.starts_with("requires") || line.starts_with("ensures")
 }
 
+/// What a clause says, without its own name: `requires { .. }` of `requires in_bounds { .. }`.
+fn clause(line: &str) -> String {
+    match line.split_once('{') {
+        Some((head, said)) => format!("{} {{{said}", head.split(' ').next().unwrap()),
+        None => line.to_string(),
+    }
+}
+
 /// The signature of a function, and what it requires and ensures: the lines before its body.
 fn contract(lines: &[&str]) -> Definition {
     let mut found = Definition::default();
     for line in lines.iter().map(|line| line.trim_start()) {
-        let part = if promises(line) { &mut found.body } else { &mut found.statement };
-        *part += &format!(" {line}");
+        if promises(line) {
+            found.body += &format!(" {}", clause(line));
+        } else {
+            found.statement += &format!(" {line}");
+        }
         if line.ends_with('{') && !promises(line) {
             break;
         }

@@ -6,7 +6,7 @@ use std::fmt;
 use std::fs;
 use std::path::Path;
 
-/// A name and the file that defines it: `records/specs/Widths` or `records/src/lib.rt`.
+/// A name and the file that defines it: `widths/specs/Widths` or `widths/src/lib.rt`.
 #[derive(Clone, Debug, PartialEq, Eq, PartialOrd, Ord)]
 pub struct Place {
     pub file: String,
@@ -63,7 +63,7 @@ pub struct Sources {
 }
 
 /// The characters that end a name besides white space.
-const MARKS: &[char] = &['(', ')', '{', '}', '[', ']', ';', ',', ':', '&', '⌜', '⌝', '<', '>'];
+const MARKS: &[char] = &['(', ')', '{', '}', '[', ']', ';', ',', ':', '&', '<', '>'];
 
 /// The names in a text.
 pub fn names(text: &str) -> BTreeSet<&str> {
@@ -71,9 +71,10 @@ pub fn names(text: &str) -> BTreeSet<&str> {
     tokens.map(before_dot).filter(|name| !name.is_empty()).collect()
 }
 
-/// `Verdict` of `Verdict.holds`, and nothing of a field, as `.count`; a whole path stays as it is.
+/// `Verdict` of `Verdict.holds` and `r` of `r.count`, and nothing of a field behind a bracket; a whole
+/// path stays as it is.
 fn before_dot(token: &str) -> &str {
-    if token.starts_with("Rattle·") {
+    if token.starts_with("Rattle.") {
         return token;
     }
     token.split('.').next().unwrap()
@@ -84,7 +85,7 @@ impl Sources {
     pub fn read(crates: &Path) -> Result<Sources, String> {
         let mut sources = Sources::default();
         for folder in entries(crates)? {
-            for part in ["src", "specs"] {
+            for part in ["src", "specs", "proofs"] {
                 sources.read_folder(crates, &crates.join(&folder).join(part))?;
             }
         }
@@ -107,7 +108,7 @@ impl Sources {
         Ok(())
     }
 
-    /// Adds a file by its path below the crates: `records/specs/Widths.antt`.
+    /// Adds a file by its path below the crates: `widths/specs/Widths.antt`.
     pub fn add(&mut self, path: &str, text: &str) -> Result<(), String> {
         let (name, file) = match path.strip_suffix(".antt") {
             Some(name) => (name, specs::parse(text)),
@@ -121,7 +122,7 @@ impl Sources {
     /// toolchain's libraries.
     pub fn resolve(&self, file: &str, name: &str) -> Result<Option<Place>, String> {
         let from = &self.files[file];
-        if name.starts_with("Rattle·") {
+        if name.starts_with("Rattle.") {
             let (path, last) = name.rsplit_once('.').ok_or(format!("{file}: {name}"))?;
             return self.owner(&specs::used(path, last)?).map(Some);
         }
@@ -166,7 +167,7 @@ impl Sources {
         }
     }
 
-    /// The function of a path as in code: `steps::links::linked_points`; an exported one by its name.
+    /// The function of a path as in code: `verdict::judge::judge`; an exported one by its name.
     pub fn function(&self, path: &str) -> Result<Place, String> {
         let parts: Vec<&str> = path.split("::").collect();
         let (name, modules) = parts.split_last().unwrap();
@@ -194,11 +195,13 @@ pub fn entries(folder: &Path) -> Result<Vec<String>, String> {
     Ok(names)
 }
 
-/// The crates of a `crates.txt` in its order, each with what it depends on.
+/// The crates of a `crates.txt` in its order, each with what it depends on. Behind the name of a static
+/// library stands `staticlib`.
 pub fn listed(list: &str) -> Vec<(&str, BTreeSet<&str>)> {
     let lines = list.lines().filter(|line| !line.starts_with('#'));
     lines
         .filter_map(|line| line.split_once(':'))
+        .map(|(name, rest)| (name.strip_suffix(" staticlib").unwrap_or(name), rest))
         .map(|(name, rest)| (name, rest.split_whitespace().collect()))
         .collect()
 }

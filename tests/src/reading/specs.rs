@@ -86,7 +86,7 @@ fn item(chunk: &[Line], parameters: &str, file: &mut File) -> Result<String, Str
     if !statement.starts_with([':', '{', '(']) || !statement.contains(':') {
         return Err(format!("neither a definition nor a theorem: {}", chunk[0].text));
     }
-    if name.contains('_') || !names(name).contains(name) {
+    if name.contains('◌') || !names(name).contains(name) {
         return Err(format!("a name that is not found where it is used: {name}"));
     }
     file.define(name, &format!("{parameters} {statement}"), "");
@@ -117,7 +117,7 @@ fn members(
 
 /// A `use` of a crate's names; those of the toolchain's libraries are not followed.
 pub fn use_line(text: &str, file: &mut File) -> Result<(), String> {
-    if !text.starts_with("Rattle·") {
+    if !text.starts_with("Rattle.") || text.starts_with("Rattle.std.") {
         return Ok(());
     }
     if let Some((path, alias)) = text.split_once(" as ").filter(|_| !text.contains('{')) {
@@ -133,19 +133,18 @@ pub fn use_line(text: &str, file: &mut File) -> Result<(), String> {
     Ok(())
 }
 
-/// Where a name stands that is used from `Rattle·records.specs.Widths`, or, from within its own
-/// crate, `Rattle·records·specs.specs.Widths`. A type of the code is `declared`, and its variants with it.
+/// Where a name stands that is used from `Rattle.widths.specs.Widths`. A type of the code is
+/// `declared`, and its variants with it. Without a name it is the file that is meant: what an alias
+/// of a file stands for defines nothing, so that a walk fails that comes to it.
 pub fn used(path: &str, name: &str) -> Result<Place, String> {
-    let parts: Vec<&str> = path.strip_prefix("Rattle·").unwrap_or(path).split('.').collect();
-    let krate = parts[0].strip_suffix("·specs").unwrap_or(parts[0]);
+    let parts: Vec<&str> = path.strip_prefix("Rattle.").unwrap_or(path).split('.').collect();
+    let krate = parts[0];
     match parts[1..] {
-        ["specs", "declared", ref modules @ .., of, "the-variants"] => {
+        ["specs", "declared", ref modules @ .., of, "TheVariants"] => {
             Ok(code::place(krate, modules, of))
         }
         ["specs", "declared", ref modules @ .., of] => Ok(code::place(krate, modules, of)),
-        [_, _, ..] if !name.is_empty() => {
-            Ok(Place::new(&format!("{krate}/{}", parts[1..].join("/")), name))
-        }
+        [_, _, ..] => Ok(Place::new(&format!("{krate}/{}", parts[1..].join("/")), name)),
         _ => Err(format!("use {path}")),
     }
 }
