@@ -41,6 +41,8 @@ def declared(root):
         for line in text(path).split("\n"):
             line = re.sub(r"\s*--.*", "", line)
             m = DECLARED.match(line)
+            if inside is not None and (several := re.match(r"\s+([^\s:(){}.=]+(?: [^\s:(){}.=]+)+) :", line)):
+                names.update(several[1].split())
             if inside is not None and line.strip() and len(line) - len(line.lstrip()) <= inside:
                 inside = None
             if not m or m[2] in KEYWORDS:
@@ -71,7 +73,7 @@ def foreign(root):
 def snake(part):
     if not part or part[0].isupper() or not re.search(r"[a-z0-9][A-Z]", part):
         return part
-    return re.sub(r"(?<=[a-z0-9])([A-Z])", lambda m: "_" + m[1].lower(), part)
+    return re.sub(r"(?<=[a-z0-9])(?=[A-Z])", "_", part).lower()
 
 
 def respelled(name, known):

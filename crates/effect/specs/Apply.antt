@@ -1,6 +1,6 @@
 -- The effect of a command on the records of a network: add, modify and delete in strict form.
 use Rattle.std.specs.Prelude.{true, false, [], ◌∷◌, ◌++◌, ltb, take, drop}
-use Rattle.format.specs.Record.{Rec, Net, kind, CommandKind, kAdd, kModify, kDelete, kNoCommand, same_rule, present}
+use Rattle.format.specs.Record.{Rec, Net, kind, CommandKind, k_add, k_modify, k_delete, k_no_command, same_rule, present}
 use Rattle.format.specs.Version.{version_of, acting}
 use Rattle.format.specs.declared.Version.{Version}
 
@@ -33,10 +33,10 @@ added c net = elim (present c net) [ true ↦ changed (λ r. as_rule c) c net | 
 
 -- what a command leaves, by what it acts as; without the same rule, modify and delete change nothing
 abbrev pub applied_as : CommandKind → Rec → Net → Net
-applied_as kAdd c net = added c net
-applied_as kModify c net = changed (with_actions c) c net
-applied_as kDelete c net = removed c net
-applied_as kNoCommand c net = net
+applied_as k_add c net = added c net
+applied_as k_modify c net = changed (with_actions c) c net
+applied_as k_delete c net = removed c net
+applied_as k_no_command c net = net
 
 -- a command applied, in a version
 unfoldable pub applied : Version → Rec → Net → Net

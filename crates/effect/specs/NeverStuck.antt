@@ -1,6 +1,6 @@
 -- A series never gets stuck: a network that rows 3 to 10 and 16 pass still passes them after a command, so only rows 11 and a command's own can refuse the next.
-use Rattle.std.specs.Prelude.{◌≡◌, [], ℕ, ◌+◌, ◌*◌, ◌<◌, ◌≤◌, length, get_or}
-use Rattle.std.proofs.Common.{ap₂, arith}
+use Rattle.std.specs.Prelude.{◌≡◌, refl, [], ℕ, ◌+◌, ◌*◌, ◌<◌, ◌≤◌, length, get_or}
+use Rattle.std.proofs.Common.{ap₂, ◌∙◌, arith}
 use Rattle.std.proofs.Math.Option.{none}
 use Rattle.format.specs.Record.{Rec, Net, most_records, of_kind}
 use Rattle.widths.specs.Widths.{plane_bytes}
@@ -43,6 +43,34 @@ never_stuck net c whole some e f =
       some = not_empty after k.passes;
       whole = k.whole;
     }
+
+-- going on once more
+pub goes_on : (net mid out : Net) → GoesOn net mid → GoesOn mid out → GoesOn net out
+goes_on net mid out a b = record {
+  passes = b.passes;
+  same_first = b.same_first ∙ a.same_first;
+  same_links = b.same_links ∙ a.same_links;
+  same_misses = b.same_misses ∙ a.same_misses;
+  same_policies = b.same_policies ∙ a.same_policies;
+  same_groups = b.same_groups ∙ a.same_groups;
+  few = b.few;
+  some = b.some;
+  whole = b.whole;
+}
+
+-- and not at all
+pub goes_nowhere : (net : Net) → Whole net → file_row [] net ≡ none → GoesOn net net
+goes_nowhere net whole e = record {
+  passes = e;
+  same_first = refl;
+  same_links = refl;
+  same_misses = refl;
+  same_policies = refl;
+  same_groups = refl;
+  few = count_bound net e;
+  some = not_empty net e;
+  whole = whole;
+}
 
 -- and needs the same work
 pub work_same : (net after : Net) → GoesOn net after → work_needed after ≡ work_needed net

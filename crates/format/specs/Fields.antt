@@ -1,12 +1,12 @@
 -- The fields of a record, as its kind reads them: ranges, widths, patterns, actions and unnamed bytes.
 use Rattle.std.specs.Prelude.{Bool, true, false, not, ◌&&◌, ℕ, suc, ◌+◌, ◌*◌, ◌^◌, eqb, leb, ltb, take, drop}
 use Rattle.basics.specs.Lists.{all, from}
-use Rattle.format.specs.Record.{Rec, most_policies, at, kind, RecordKind, kWidths, kLink, kMiss, kRule, kNode, kGroup, kNoRecord, record_kind, CommandKind, kAdd, kModify, kDelete, kNoCommand, command_kind, ActionKind, kOutput, kSet, kInPort, kRunGroup, kNoAction, action_kind}
-use Rattle.format.specs.Group.{bucket_value, bucket_care, bucket_kind, bucket_target, TargetKind, kPort, kLowerGroup, kNoTarget, target_kind}
+use Rattle.format.specs.Record.{Rec, most_policies, at, kind, RecordKind, k_widths, k_link, k_miss, k_rule, k_node, k_group, k_no_record, record_kind, CommandKind, k_add, k_modify, k_delete, k_no_command, command_kind, ActionKind, k_output, k_set, k_in_port, k_run_group, k_no_action, action_kind}
+use Rattle.format.specs.Group.{bucket_value, bucket_care, bucket_kind, bucket_target, TargetKind, k_port, k_lower_group, k_no_target, target_kind}
 use Rattle.widths.specs.Widths.{width}
 use Rattle.format.specs.Version.{version_good}
 use Rattle.format.specs.Pattern.{pattern_good}
-use Rattle.format.specs.Policy.{NodeKind, kBIT, kR, kE, kNOT, kAND, kOR, kSOME, kALL, kTC, kNone, node_kind}
+use Rattle.format.specs.Policy.{NodeKind, k_bit, k_r, k_e, k_not, k_and, k_or, k_some, k_all, k_tc, k_none, node_kind}
 use Rattle.widths.specs.declared.Widths.{Widths}
 
 -- the bytes from the first up to the last are zero
@@ -24,11 +24,11 @@ no_pattern value care = eqb value 0 && eqb care 0
 -- an action of each kind that is used: OUTPUT with a port pattern; SET with a header pattern, and not the last; IN_PORT with value and care zero;
 -- one that runs a group, whose value is the group, 0–15, with care zero
 abbrev pub used_fields : ActionKind → Widths → ℕ → ℕ → Bool → Bool
-used_fields kOutput w value care last = pattern_good w.p value care
-used_fields kSet w value care last = pattern_good w.h value care && not last
-used_fields kInPort w value care last = no_pattern value care
-used_fields kRunGroup w value care last = leb value 15 && eqb care 0
-used_fields kNoAction w value care last = false
+used_fields k_output w value care last = pattern_good w.p value care
+used_fields k_set w value care last = pattern_good w.h value care && not last
+used_fields k_in_port w value care last = no_pattern value care
+used_fields k_run_group w value care last = leb value 15 && eqb care 0
+used_fields k_no_action w value care last = false
 
 -- the bytes of an action that is used
 abbrev pub used_good : Widths → ℕ → ℕ → ℕ → Bool → Bool
@@ -60,16 +60,16 @@ match_good w r = ltb (at r 1) (2 ^ w.w) && pattern_good w.p (at r 4) (at r 5) &&
 
 -- byte 3 and byte 4 of a policy node of each kind; an operand may be any byte here
 abbrev pub node_fields : NodeKind → Widths → ℕ → ℕ → Bool
-node_fields kBIT w a b = leb a 1 && ltb b (width w)
-node_fields kR w a b = leb a 1 && leb b 1
-node_fields kE w a b = leb a 1 && eqb b 0
-node_fields kNOT w a b = eqb b 0
-node_fields kAND w a b = true
-node_fields kOR w a b = true
-node_fields kSOME w a b = leb b 1
-node_fields kALL w a b = leb b 1
-node_fields kTC w a b = leb b 3
-node_fields kNone w a b = false
+node_fields k_bit w a b = leb a 1 && ltb b (width w)
+node_fields k_r w a b = leb a 1 && leb b 1
+node_fields k_e w a b = leb a 1 && eqb b 0
+node_fields k_not w a b = eqb b 0
+node_fields k_and w a b = true
+node_fields k_or w a b = true
+node_fields k_some w a b = leb b 1
+node_fields k_all w a b = leb b 1
+node_fields k_tc w a b = leb b 3
+node_fields k_none w a b = false
 
 -- the fields of a node whose byte 2 is k
 unfoldable pub node_good : Widths → ℕ → ℕ → ℕ → Bool
@@ -77,9 +77,9 @@ node_good w k a b = node_fields (node_kind k) w a b
 
 -- what a bucket of group g may have for a target of each kind: a port within its width, drop and controller included; a group lower than g
 abbrev pub target_fields : TargetKind → Widths → ℕ → ℕ → Bool
-target_fields kPort w g target = ltb target (2 ^ w.p)
-target_fields kLowerGroup w g target = ltb target g
-target_fields kNoTarget w g target = false
+target_fields k_port w g target = ltb target (2 ^ w.p)
+target_fields k_lower_group w g target = ltb target g
+target_fields k_no_target w g target = false
 
 -- a bucket that is used: a header pattern and a target
 abbrev pub used_bucket : Widths → ℕ → ℕ → ℕ → ℕ → ℕ → Bool
@@ -99,13 +99,13 @@ buckets_good w r = let count = at r 8 in leb 1 count && leb count 3 && all (buck
 
 -- the fields of a record of each kind
 abbrev pub fields_of : RecordKind → Widths → Rec → Bool
-fields_of kWidths w r = version_good (at r 4) && zeros 5 23 r
-fields_of kLink w r = point_good w (at r 1) (at r 2) && point_good w (at r 3) (at r 4) && zeros 5 23 r
-fields_of kMiss w r = ltb (at r 1) (2 ^ w.w) && zeros 2 7 r && actions_good w r && zeros 21 23 r
-fields_of kRule w r = match_good w r && actions_good w r && zeros 21 23 r
-fields_of kNode w r = leb (at r 1) most_policies && node_good w (at r 2) (at r 3) (at r 4) && zeros 5 23 r
-fields_of kGroup w r = ltb (at r 1) (2 ^ w.w) && leb (at r 2) 15 && zeros 3 7 r && buckets_good w r && zeros 21 23 r
-fields_of kNoRecord w r = false
+fields_of k_widths w r = version_good (at r 4) && zeros 5 23 r
+fields_of k_link w r = point_good w (at r 1) (at r 2) && point_good w (at r 3) (at r 4) && zeros 5 23 r
+fields_of k_miss w r = ltb (at r 1) (2 ^ w.w) && zeros 2 7 r && actions_good w r && zeros 21 23 r
+fields_of k_rule w r = match_good w r && actions_good w r && zeros 21 23 r
+fields_of k_node w r = leb (at r 1) most_policies && node_good w (at r 2) (at r 3) (at r 4) && zeros 5 23 r
+fields_of k_group w r = ltb (at r 1) (2 ^ w.w) && leb (at r 2) 15 && zeros 3 7 r && buckets_good w r && zeros 21 23 r
+fields_of k_no_record w r = false
 
 -- the fields of a record, as its kind reads them
 unfoldable pub fields_good : Widths → Rec → Bool
@@ -113,10 +113,10 @@ fields_good w r = fields_of (record_kind (kind r)) w r
 
 -- what follows the match in a command of each kind: as in a rule; delete has bytes 8–20 zero
 abbrev pub command_fields : CommandKind → Widths → Rec → Bool
-command_fields kAdd w c = actions_good w c && zeros 21 23 c
-command_fields kModify w c = actions_good w c && zeros 21 23 c
-command_fields kDelete w c = zeros 8 23 c
-command_fields kNoCommand w c = false
+command_fields k_add w c = actions_good w c && zeros 21 23 c
+command_fields k_modify w c = actions_good w c && zeros 21 23 c
+command_fields k_delete w c = zeros 8 23 c
+command_fields k_no_command w c = false
 
 -- the fields of a command
 unfoldable pub command_good : Widths → Rec → Bool

@@ -1,10 +1,10 @@
--- Sizes, the limits of the widths and the range of each field, written by hand from document 01's table of records: by computation. And every unnamed byte is zero.
+-- Sizes and the range of each field, written by hand from document 01's table of records: by computation. And every unnamed byte is zero.
 use Rattle.std.specs.Prelude.{◌≡◌, refl, Bool, true, false, ◌&&◌, List, [], ◌∷◌, map, ◌⊎◌, ℕ, ◌+◌, ◌-◌, ◌*◌, ◌^◌, ◌≤◌, leb, ltb, length, replicate}
 use Rattle.std.proofs.Common.{sym, ◌∙◌, arith}
 use Rattle.basics.specs.Laws.Tests.{and_left, and_right}
 use Rattle.basics.specs.Lists.{keep, from}
 use Rattle.format.specs.Record.{Rec, at, kind, most_records, store_bytes, most_rules, most_policies, most_nodes, most_groups, action_kind}
-use Rattle.widths.specs.Widths.{within_limits}
+use Rattle.widths.specs.WidthsTable.{widths}
 use Rattle.format.specs.Version.{version_good}
 use Rattle.format.specs.Pattern.{pattern_good}
 use Rattle.format.specs.Policy.{node_kind}
@@ -19,27 +19,6 @@ largest = refl
 -- and a store holds it
 store_holds_it : store_bytes ≡ most_records * 24
 store_holds_it = refl
-
--- the widths of each number of bits
-abbrev widths : ℕ → ℕ → ℕ → Widths
-widths h p w = record { h = h; p = p; w = w }
-
--- the header widths of 0 to 7 that a port and a switch width allow
-allowed : ℕ → ℕ → List ℕ
-allowed p w = keep (λ h. within_limits (widths h p w)) (from 0 8)
-
--- P from 0 to 5, and for each W from 0 to 5: H is 1 to 6, and fewer where N would be above 10
-limits :
-    map (λ p. map (allowed p) (from 0 6)) (from 0 6)
-    ≡ replicate 6 []
-    ∷ replicate 6 []
-    ∷ (from 1 6 ∷ from 1 6 ∷ from 1 5 ∷ from 1 4 ∷ from 1 3 ∷ [] ∷ [])
-    ∷ (from 1 6 ∷ from 1 5 ∷ from 1 4 ∷ from 1 3 ∷ from 1 2 ∷ [] ∷ [])
-    ∷ (from 1 5 ∷ from 1 4 ∷ from 1 3 ∷ from 1 2 ∷ from 1 1 ∷ [] ∷ [])
-    ∷ replicate 6 []
-    ∷ []
-unfolding keep from allowed within_limits
-limits = refl
 
 -- K's widths, by which N is 5
 abbrev w : Widths

@@ -1,7 +1,7 @@
 -- The groups of a network: their buckets, and whether one that is named is there.
 use Rattle.std.specs.Prelude.{◌≡◌, Bool, true, not, ◌&&◌, ◌||◌, [], ◌∷◌, ℕ, ◌+◌, ◌*◌, eqb, get_or}
 use Rattle.basics.specs.Lists.{any, all, from}
-use Rattle.format.specs.Record.{Rec, Net, at, kind, RecordKind, kWidths, kLink, kMiss, kRule, kNode, kGroup, kNoRecord, record_kind, of_kind}
+use Rattle.format.specs.Record.{Rec, Net, at, kind, RecordKind, k_widths, k_link, k_miss, k_rule, k_node, k_group, k_no_record, record_kind, of_kind}
 use Rattle.format.specs.declared.Bucket.{Bucket}
 
 -- bucket j of a group has four bytes: its header value,
@@ -29,11 +29,11 @@ pub record IsBucket (r : Rec) (j : ℕ) (b : Bucket) : Type 0 where
 
 -- the kinds of targets, and none
 pub data TargetKind : Type 0 where
-  kPort kLowerGroup kNoTarget : TargetKind
+  k_port k_lower_group k_no_target : TargetKind
 
 -- a port is 1, a group 2
 unfoldable pub target_kind : ℕ → TargetKind
-target_kind k = get_or (kNoTarget ∷ kPort ∷ kLowerGroup ∷ []) k kNoTarget
+target_kind k = get_or (k_no_target ∷ k_port ∷ k_lower_group ∷ []) k k_no_target
 
 -- a group's record is that of number g of a switch
 unfoldable pub is_group : ℕ → ℕ → Rec → Bool
@@ -61,13 +61,13 @@ buckets_there net r = all (goes_there net r) (from 0 3)
 
 -- the groups that a record of each kind names are there
 abbrev pub named_there : RecordKind → Net → Rec → Bool
-named_there kWidths net r = true
-named_there kLink net r = true
-named_there kMiss net r = actions_there net r
-named_there kRule net r = actions_there net r
-named_there kNode net r = true
-named_there kGroup net r = buckets_there net r
-named_there kNoRecord net r = true
+named_there k_widths net r = true
+named_there k_link net r = true
+named_there k_miss net r = actions_there net r
+named_there k_rule net r = actions_there net r
+named_there k_node net r = true
+named_there k_group net r = buckets_there net r
+named_there k_no_record net r = true
 
 -- the groups that a record names are there
 unfoldable pub groups_there : Net → Rec → Bool

@@ -1,9 +1,9 @@
 -- Every kind of policy node as its record's bytes, with the formula that it stands for and its free variables, written by hand: by computation.
-use Rattle.std.specs.Prelude.{◌≡◌, refl, Bool, true, false, List, [], ◌∷◌, map, ℕ}
+use Rattle.std.specs.Prelude.{◌≡◌, refl, Bool, true, false, [], ◌∷◌, map, ℕ}
 use Rattle.basics.specs.Lists.{from}
 use Rattle.format.specs.Record.{Net}
 use Rattle.format.specs.NetK.{record24, node}
-use Rattle.format.specs.Policy.{X, Y, Formula, absent, BIT, R, E, NOT, AND, OR, SOME, ALL, TC, node_kind, node_says, first_nodes, formula, free}
+use Rattle.format.specs.Policy.{X, Y, absent, BIT, R, E, NOT, AND, OR, SOME, ALL, TC, node_kind, node_says, first_nodes, formula, free}
 
 -- each node kind with every variable and every pair: byte 2 its kind, bytes 3 and 4
 unfoldable pub nodes : Net

@@ -25,24 +25,24 @@ var_of (suc n) = Y
 
 -- the kinds of nodes, and none
 pub data NodeKind : Type 0 where
-  kBIT kR kE kNOT kAND kOR kSOME kALL kTC kNone : NodeKind
+  k_bit k_r k_e k_not k_and k_or k_some k_all k_tc k_none : NodeKind
 
 -- BIT is 0, R 1, E 2, NOT 3, AND 4, OR 5, SOME 6, ALL 7, TC 8
 unfoldable pub node_kind : ℕ → NodeKind
-node_kind k = get_or (kBIT ∷ kR ∷ kE ∷ kNOT ∷ kAND ∷ kOR ∷ kSOME ∷ kALL ∷ kTC ∷ []) k kNone
+node_kind k = get_or (k_bit ∷ k_r ∷ k_e ∷ k_not ∷ k_and ∷ k_or ∷ k_some ∷ k_all ∷ k_tc ∷ []) k k_none
 
 -- what a node of a kind says by its bytes 3 and 4, an operand being a formula; TC's pairs are 0 (X,X), 1 (X,Y), 2 (Y,X), 3 (Y,Y)
 unfoldable pub node_says : NodeKind → ℕ → ℕ → (ℕ → Formula) → Formula
-node_says kBIT a b operand = BIT (var_of a) b
-node_says kR a b operand = R (var_of a) (var_of b)
-node_says kE a b operand = E (var_of a)
-node_says kNOT a b operand = NOT (operand a)
-node_says kAND a b operand = AND (operand a) (operand b)
-node_says kOR a b operand = OR (operand a) (operand b)
-node_says kSOME a b operand = SOME (operand a) (var_of b)
-node_says kALL a b operand = ALL (operand a) (var_of b)
-node_says kTC a b operand = TC (operand a) (var_of (b / 2)) (var_of (b % 2))
-node_says kNone a b operand = absent
+node_says k_bit a b operand = BIT (var_of a) b
+node_says k_r a b operand = R (var_of a) (var_of b)
+node_says k_e a b operand = E (var_of a)
+node_says k_not a b operand = NOT (operand a)
+node_says k_and a b operand = AND (operand a) (operand b)
+node_says k_or a b operand = OR (operand a) (operand b)
+node_says k_some a b operand = SOME (operand a) (var_of b)
+node_says k_all a b operand = ALL (operand a) (var_of b)
+node_says k_tc a b operand = TC (operand a) (var_of (b / 2)) (var_of (b % 2))
+node_says k_none a b operand = absent
 
 -- the formula of a node's record over its operands
 abbrev pub said : Rec → (ℕ → Formula) → Formula

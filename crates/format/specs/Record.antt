@@ -45,27 +45,27 @@ kind r = at r 0
 
 -- the kinds of records that a network has, and none
 pub data RecordKind : Type 0 where
-  kWidths kLink kMiss kRule kNode kGroup kNoRecord : RecordKind
+  k_widths k_link k_miss k_rule k_node k_group k_no_record : RecordKind
 
 -- the kind that a kind byte names: 1 to 5, and 9
 unfoldable pub record_kind : ℕ → RecordKind
-record_kind k = get_or (kNoRecord ∷ kWidths ∷ kLink ∷ kMiss ∷ kRule ∷ kNode ∷ kNoRecord ∷ kNoRecord ∷ kNoRecord ∷ kGroup ∷ []) k kNoRecord
+record_kind k = get_or (k_no_record ∷ k_widths ∷ k_link ∷ k_miss ∷ k_rule ∷ k_node ∷ k_no_record ∷ k_no_record ∷ k_no_record ∷ k_group ∷ []) k k_no_record
 
 -- the kinds of commands, and none
 pub data CommandKind : Type 0 where
-  kAdd kModify kDelete kNoCommand : CommandKind
+  k_add k_modify k_delete k_no_command : CommandKind
 
 -- the kind that a kind byte names: from 6 on
 unfoldable pub command_kind : ℕ → CommandKind
-command_kind k = get_or (kNoCommand ∷ kNoCommand ∷ kNoCommand ∷ kNoCommand ∷ kNoCommand ∷ kNoCommand ∷ kAdd ∷ kModify ∷ kDelete ∷ []) k kNoCommand
+command_kind k = get_or (k_no_command ∷ k_no_command ∷ k_no_command ∷ k_no_command ∷ k_no_command ∷ k_no_command ∷ k_add ∷ k_modify ∷ k_delete ∷ []) k k_no_command
 
 -- the kinds of actions, and none
 pub data ActionKind : Type 0 where
-  kOutput kSet kInPort kRunGroup kNoAction : ActionKind
+  k_output k_set k_in_port k_run_group k_no_action : ActionKind
 
 -- OUTPUT is 1, SET 2, IN_PORT 3, running a group 4
 unfoldable pub action_kind : ℕ → ActionKind
-action_kind k = get_or (kNoAction ∷ kOutput ∷ kSet ∷ kInPort ∷ kRunGroup ∷ []) k kNoAction
+action_kind k = get_or (k_no_action ∷ k_output ∷ k_set ∷ k_in_port ∷ k_run_group ∷ []) k k_no_action
 
 -- the first n records of a store
 unfoldable pub records : ℕ → List ℕ → Net

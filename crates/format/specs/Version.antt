@@ -1,6 +1,6 @@
 -- The wire version of a network's switches, and what a command acts as in each.
 use Rattle.std.specs.Prelude.{Bool, true, false, cond, ◌||◌, [], ◌∷◌, ℕ, eqb, get_or, drop}
-use Rattle.format.specs.Record.{Rec, Net, at, kind, CommandKind, kAdd, kModify, kDelete, kNoCommand, command_kind, present}
+use Rattle.format.specs.Record.{Rec, Net, at, kind, CommandKind, k_add, k_modify, k_delete, k_no_command, command_kind, present}
 use Rattle.format.specs.declared.Version.{Version}
 use Rattle.format.specs.declared.Version.TheVariants.{OpenFlow10, OpenFlow13}
 
@@ -18,15 +18,15 @@ version_of net = version_named (at (get_or net 0 []) 4)
 
 -- what a modify acts as, by whether its rule is there: without its rule, in 1.0 as an add
 abbrev pub modify_as : Version → Bool → CommandKind
-modify_as OpenFlow10 there = cond there kModify kAdd
-modify_as OpenFlow13 there = kModify
+modify_as OpenFlow10 there = cond there k_modify k_add
+modify_as OpenFlow13 there = k_modify
 
 -- what a command of each kind acts as, by whether its rule is there
 abbrev pub acts_as : Version → Bool → CommandKind → CommandKind
-acts_as v there kAdd = kAdd
-acts_as v there kModify = modify_as v there
-acts_as v there kDelete = kDelete
-acts_as v there kNoCommand = kNoCommand
+acts_as v there k_add = k_add
+acts_as v there k_modify = modify_as v there
+acts_as v there k_delete = k_delete
+acts_as v there k_no_command = k_no_command
 
 -- what a command acts as on a network
 unfoldable pub acting : Version → Rec → Net → CommandKind
@@ -34,10 +34,10 @@ acting v c net = acts_as v (present c net) (command_kind (kind c))
 
 -- a command that acts as an add
 abbrev pub is_add : CommandKind → Bool
-is_add kAdd = true
-is_add kModify = false
-is_add kDelete = false
-is_add kNoCommand = false
+is_add k_add = true
+is_add k_modify = false
+is_add k_delete = false
+is_add k_no_command = false
 
 -- the add with a command's bytes
 unfoldable pub as_add : Rec → Rec

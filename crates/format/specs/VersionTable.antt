@@ -1,6 +1,6 @@
 -- Which bytes are a version, which version they name, and what a command acts as in each, written by hand: by computation.
 use Rattle.std.specs.Prelude.{◌≡◌, refl, true, false, [], ◌∷◌, map}
-use Rattle.format.specs.Record.{CommandKind, kAdd, kModify, kDelete}
+use Rattle.format.specs.Record.{CommandKind, k_add, k_modify, k_delete}
 use Rattle.format.specs.Version.{version_good, version_named, acts_as}
 use Rattle.format.specs.declared.Version.TheVariants.{OpenFlow10, OpenFlow13}
 
@@ -16,11 +16,11 @@ named = refl
 
 -- add, modify and delete, with their rule and without it in 1.0, then in 1.3
 acts :
-    map (λ (f : CommandKind → CommandKind). map f (kAdd ∷ kModify ∷ kDelete ∷ []))
+    map (λ (f : CommandKind → CommandKind). map f (k_add ∷ k_modify ∷ k_delete ∷ []))
     (acts_as OpenFlow10 true ∷ acts_as OpenFlow10 false ∷ acts_as OpenFlow13 true ∷ acts_as OpenFlow13 false ∷ [])
-    ≡ (kAdd ∷ kModify ∷ kDelete ∷ [])
-    ∷ (kAdd ∷ kAdd ∷ kDelete ∷ [])
-    ∷ (kAdd ∷ kModify ∷ kDelete ∷ [])
-    ∷ (kAdd ∷ kModify ∷ kDelete ∷ [])
+    ≡ (k_add ∷ k_modify ∷ k_delete ∷ [])
+    ∷ (k_add ∷ k_add ∷ k_delete ∷ [])
+    ∷ (k_add ∷ k_modify ∷ k_delete ∷ [])
+    ∷ (k_add ∷ k_modify ∷ k_delete ∷ [])
     ∷ []
 acts = refl

@@ -3,7 +3,7 @@
 use Rattle.std.specs.Prelude.{◌≡◌, Bool, true, List, [], ◌∷◌, ◌↔◌, ◌⊎◌, ℕ, ◌+◌, ◌*◌, ◌≤◌, ◌<◌, length, get_or}
 use Rattle.planes.specs.Plane.{bit, On, plane_size}
 use Rattle.format.specs.Record.{most_nodes}
-use Rattle.format.specs.Policy.{Formula, NodeKind, kBIT, kR, kE, kNOT, kAND, kOR, kSOME, kALL, kTC, kNone, node_kind, node_says}
+use Rattle.format.specs.Policy.{Formula, NodeKind, k_bit, k_r, k_e, k_not, k_and, k_or, k_some, k_all, k_tc, k_none, node_kind, node_says}
 use Rattle.truth.specs.Truth.{Model, Truth}
 use Rattle.lines.specs.Shapes.{Outside}
 use Rattle.lines.specs.declared.Op.{Op}
@@ -17,16 +17,16 @@ plane_at pitch k = (k + 2) * plane_size pitch
 
 -- the number of operands of a node: byte 3, or bytes 3 and 4
 abbrev pub arity : NodeKind → ℕ
-arity kBIT = 0
-arity kR = 0
-arity kE = 0
-arity kNOT = 1
-arity kAND = 2
-arity kOR = 2
-arity kSOME = 1
-arity kALL = 1
-arity kTC = 1
-arity kNone = 0
+arity k_bit = 0
+arity k_r = 0
+arity k_e = 0
+arity k_not = 1
+arity k_and = 2
+arity k_or = 2
+arity k_some = 1
+arity k_all = 1
+arity k_tc = 1
+arity k_none = 0
 
 -- node j is an operand of a node with bytes 3 and 4
 abbrev pub Operand : NodeKind → ℕ → ℕ → ℕ → Type 0

@@ -1,7 +1,7 @@
 -- What a record's actions send.
 use Rattle.std.specs.Prelude.{true, false, ◌&&◌, List, [], ◌∷◌, ◌++◌, ℕ, zero, suc, ◌+◌, ◌-◌, ◌*◌, ◌^◌, eqb}
 use Rattle.basics.specs.Lists.{keep, from}
-use Rattle.format.specs.Record.{Rec, Net, at, ActionKind, kOutput, kSet, kInPort, kRunGroup, kNoAction, action_kind}
+use Rattle.format.specs.Record.{Rec, Net, at, ActionKind, k_output, k_set, k_in_port, k_run_group, k_no_action, action_kind}
 use Rattle.format.specs.State.{ordinary}
 use Rattle.format.specs.Pattern.{matches, put_bits}
 use Rattle.widths.specs.declared.Widths.{Widths}
@@ -24,19 +24,19 @@ reached w p value care = except p (named w value care)
 -- the copies that an action of each kind sends from a switch, p being the arrival port and h the header of that moment: OUTPUT to the ports
 -- that it reaches, IN_PORT back to the arrival port, and a group what its buckets send
 abbrev pub sent_as : ActionKind → Net → Widths → ℕ → ℕ → ℕ → ℕ → ℕ → List ℕ
-sent_as kOutput net w sw p h value care = departing w sw h (reached w p value care)
-sent_as kSet net w sw p h value care = []
-sent_as kInPort net w sw p h value care = departing w sw h (p ∷ [])
-sent_as kRunGroup net w sw p h value care = group_sent net w sw p value h
-sent_as kNoAction net w sw p h value care = []
+sent_as k_output net w sw p h value care = departing w sw h (reached w p value care)
+sent_as k_set net w sw p h value care = []
+sent_as k_in_port net w sw p h value care = departing w sw h (p ∷ [])
+sent_as k_run_group net w sw p h value care = group_sent net w sw p value h
+sent_as k_no_action net w sw p h value care = []
 
 -- the header after an action of each kind: SET puts the cared bits into it; after a group it is the one from before
 abbrev pub header_by : ActionKind → Widths → ℕ → ℕ → ℕ → ℕ
-header_by kOutput w value care h = h
-header_by kSet w value care h = put_bits w.h value care h
-header_by kInPort w value care h = h
-header_by kRunGroup w value care h = h
-header_by kNoAction w value care h = h
+header_by k_output w value care h = h
+header_by k_set w value care h = put_bits w.h value care h
+header_by k_in_port w value care h = h
+header_by k_run_group w value care h = h
+header_by k_no_action w value care h = h
 
 -- the copies that action i of a record sends
 unfoldable pub sent_by : Net → Widths → ℕ → ℕ → Rec → ℕ → ℕ → List ℕ

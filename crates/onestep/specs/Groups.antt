@@ -1,7 +1,7 @@
 -- What a group sends: each bucket takes a copy of the frame as it entered the group, sets the header, and sends it on.
 use Rattle.std.specs.Prelude.{true, false, List, [], ◌∷◌, ◌++◌, ℕ, zero, suc, eqb, get_or}
 use Rattle.format.specs.Record.{Rec, Net, at, of_kind}
-use Rattle.format.specs.Group.{bucket_value, bucket_care, bucket_kind, bucket_target, TargetKind, kPort, kLowerGroup, kNoTarget, target_kind, is_group}
+use Rattle.format.specs.Group.{bucket_value, bucket_care, bucket_kind, bucket_target, TargetKind, k_port, k_lower_group, k_no_target, target_kind, is_group}
 use Rattle.format.specs.Search.{first_at}
 use Rattle.format.specs.Pattern.{put_bits}
 use Rattle.widths.specs.declared.Widths.{Widths}
@@ -14,9 +14,9 @@ group_record net sw g = let groups = of_kind 9 net in get_or groups (first_at (i
 -- what goes to a target of each kind, p being the arrival port and h the header: a copy to a port, which is not the arrival port;
 -- or what the lower group sends of it
 abbrev pub sent_to : TargetKind → Widths → ℕ → ℕ → (ℕ → ℕ → List ℕ) → ℕ → ℕ → List ℕ
-sent_to kPort w sw p lower target h = departing w sw h (except p (target ∷ []))
-sent_to kLowerGroup w sw p lower target h = lower target h
-sent_to kNoTarget w sw p lower target h = []
+sent_to k_port w sw p lower target h = departing w sw h (except p (target ∷ []))
+sent_to k_lower_group w sw p lower target h = lower target h
+sent_to k_no_target w sw p lower target h = []
 
 -- what SET by bucket j of a group's record makes of header h
 abbrev pub bucket_header : Widths → Rec → ℕ → ℕ → ℕ

@@ -1,4 +1,5 @@
 -- Laws that are cited, and need not be read to believe a promise.
+pub mod Alike
 pub mod AmongChosen
 pub mod Bodies
 pub mod Bounce

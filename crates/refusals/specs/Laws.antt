@@ -7,4 +7,5 @@ pub mod Good
 pub mod Links
 pub mod Passing
 pub mod Points
+pub mod Running
 pub mod Spread

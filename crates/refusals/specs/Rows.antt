@@ -6,7 +6,7 @@ use Rattle.format.specs.Group.{actions_there, groups_there}
 use Rattle.widths.specs.Widths.{plane_bytes, within_limits}
 use Rattle.format.specs.Version.{version_of, acting, is_add}
 use Rattle.format.specs.State.{ordinary}
-use Rattle.format.specs.Policy.{Y, nodes_of, policy_count, formula, longest, free, NodeKind, kBIT, kR, kE, kNOT, kAND, kOR, kSOME, kALL, kTC, kNone, node_kind}
+use Rattle.format.specs.Policy.{Y, nodes_of, policy_count, formula, longest, free, NodeKind, k_bit, k_r, k_e, k_not, k_and, k_or, k_some, k_all, k_tc, k_none, node_kind}
 use Rattle.format.specs.Fields.{fields_good, command_good}
 
 -- row 1: n is 0 or above 657
@@ -56,16 +56,16 @@ row8 before r = eqb (kind r) 4 && present r before
 
 -- the operands of a node of each kind are earlier ones than number i of its policy
 abbrev pub operands_earlier : NodeKind → ℕ → ℕ → ℕ → Bool
-operands_earlier kBIT a b i = true
-operands_earlier kR a b i = true
-operands_earlier kE a b i = true
-operands_earlier kNOT a b i = ltb a i
-operands_earlier kAND a b i = ltb a i && ltb b i
-operands_earlier kOR a b i = ltb a i && ltb b i
-operands_earlier kSOME a b i = ltb a i
-operands_earlier kALL a b i = ltb a i
-operands_earlier kTC a b i = ltb a i
-operands_earlier kNone a b i = false
+operands_earlier k_bit a b i = true
+operands_earlier k_r a b i = true
+operands_earlier k_e a b i = true
+operands_earlier k_not a b i = ltb a i
+operands_earlier k_and a b i = ltb a i && ltb b i
+operands_earlier k_or a b i = ltb a i && ltb b i
+operands_earlier k_some a b i = ltb a i
+operands_earlier k_all a b i = ltb a i
+operands_earlier k_tc a b i = ltb a i
+operands_earlier k_none a b i = false
 
 -- the operands of a node whose byte 2 is k
 unfoldable pub operands_good : ℕ → ℕ → ℕ → ℕ → Bool

@@ -5,7 +5,7 @@ use Rattle.std.specs.Prelude.{◌≡◌, refl, Bool, true, false, not, ◌&&◌,
 use Rattle.std.proofs.Math.Bool.{or-false}
 use Rattle.basics.specs.Laws.Tests.{both, not_both}
 use Rattle.basics.specs.Lists.{any, member}
-use Rattle.format.specs.Record.{Rec, at, ActionKind, kOutput, kSet, kInPort, kRunGroup, kNoAction, action_kind}
+use Rattle.format.specs.Record.{Rec, at, ActionKind, k_output, k_set, k_in_port, k_run_group, k_no_action, action_kind}
 use Rattle.format.specs.Policy.{X, Y, R, TC}
 use Rattle.format.specs.NetK.{record24, K, in_store}
 use Rattle.onestep.specs.Step.{next, Step}
@@ -89,11 +89,11 @@ returned_steps t = only t 26
 
 -- an action of this kind sends back
 sends_back : ActionKind → Bool
-sends_back kOutput = false
-sends_back kSet = false
-sends_back kInPort = true
-sends_back kRunGroup = false
-sends_back kNoAction = false
+sends_back k_output = false
+sends_back k_set = false
+sends_back k_in_port = true
+sends_back k_run_group = false
+sends_back k_no_action = false
 
 -- record k of K has one action at most, and it is not IN_PORT
 one_action_lem : ℕ → Bool
@@ -110,4 +110,4 @@ K_without k h e i hi q =
     let r = get_or K k [] in
     let t = both (leb (at r 8) 1) (not (sends_back (action_kind (at r 9)))) ((all_iff 20 one_action_lem).0 one_action k h) in
     let z : i ≡ 0 = omega (arith, hi, leb-true (at r 8) 1 t.0) in
-    not_both (ap sends_back (subst (λ (j : ℕ). action_kind (at r (9 + 3 * j)) ≡ kInPort) z q)) (not-true (sends_back (action_kind (at r 9))) t.1)
+    not_both (ap sends_back (subst (λ (j : ℕ). action_kind (at r (9 + 3 * j)) ≡ k_in_port) z q)) (not-true (sends_back (action_kind (at r 9))) t.1)

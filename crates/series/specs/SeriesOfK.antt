@@ -1,7 +1,7 @@
 -- A series of commands on network K, with forwarded, blocked and refused ones, written by hand: by computation.
 use Rattle.std.specs.Prelude.{◌≡◌, refl, List, [], ◌∷◌, map, ℕ}
 use Rattle.format.specs.Record.{Rec}
-use Rattle.format.specs.NetK.{A, B, K, add_any, add_zero, add_drop, delete_absent}
+use Rattle.format.specs.NetK.{B, K, add_any, add_zero, add_drop, delete_absent}
 use Rattle.book.specs.Answer.{CommandAnswer, forwarded, blocked, refused}
 use Rattle.book.specs.Reference.{installed_at_start, answers, installed}
 use Rattle.book.specs.Command.{Call, call}

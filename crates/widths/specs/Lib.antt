@@ -1,3 +1,4 @@
 -- The widths of a network.
 pub mod Widths
+pub mod WidthsTable
 pub mod Laws

@@ -4,7 +4,7 @@ use mathlib.Core.List.{List}
 use Prim.Native.Nat.{ℕ, ◌+◌, ◌*◌, ◌≤◌}
 use native.Mathlib.Omega.{arith}
 use lib.ListN.{get_or}
-use Rattle.format.specs.Record.{Net, at, records, ActionKind, kOutput, kSet, kInPort, kRunGroup, kNoAction, action_kind}
+use Rattle.format.specs.Record.{Net, at, records, ActionKind, k_output, k_set, k_in_port, k_run_group, k_no_action, action_kind}
 use Rattle.format.specs.Pattern.{pattern_good}
 use Rattle.format.specs.Laws.Fields.{no_action}
 use Rattle.widths.specs.Laws.Limits.{limits}
@@ -47,11 +47,11 @@ module _ (w : Widths) (i : ℕ) (b : List ℕ) where
   is_kind k e = ap action_kind (kind_is b i) ∙ e
 
   -- the pattern of OUTPUT is good, and a group's number is one of 16
-  output_good : UsedAction w (of_body b) i → action_kind (get_or b (8 + 3 * i) 0) ≡ kOutput → pattern_good w.p value care ≡ true
-  output_good U e = subst₂ (λ (v x : ℕ). pattern_good w.p v x ≡ true) (value_is b i) (care_is b i) (output_pattern w (of_body b) i U (is_kind kOutput e))
+  output_good : UsedAction w (of_body b) i → action_kind (get_or b (8 + 3 * i) 0) ≡ k_output → pattern_good w.p value care ≡ true
+  output_good U e = subst₂ (λ (v x : ℕ). pattern_good w.p v x ≡ true) (value_is b i) (care_is b i) (output_pattern w (of_body b) i U (is_kind k_output e))
 
-  group_good : UsedAction w (of_body b) i → action_kind (get_or b (8 + 3 * i) 0) ≡ kRunGroup → value ≤ 15
-  group_good U e = subst (λ (v : ℕ). v ≤ 15) (value_is b i) (group_number w (of_body b) i U (is_kind kRunGroup e))
+  group_good : UsedAction w (of_body b) i → action_kind (get_or b (8 + 3 * i) 0) ≡ k_run_group → value ≤ 15
+  group_good U e = subst (λ (v : ℕ). v ≤ 15) (value_is b i) (group_number w (of_body b) i U (is_kind k_run_group e))
 
   -- it was run
   module _ (net : Net) (line sw p h : ℕ) (k : ActionKind) (e : action_kind (get_or b (8 + 3 * i) 0) ≡ k) (work marks work' : List ℕ) (result : ℕ) (q : result ≡ header_by k w value care h) where
@@ -92,32 +92,32 @@ pub returns-in-1 : goal.returns-in-1
 unfolding action_kind
 returns-in-1 c =
     let a = c.args in
-    acted_alone a.l.widths a.i a.body.now (records a.n a.store.now) a.line a.sw a.p a.h kOutput (ap action_kind c.in-1.is) _ _ _ _ refl c.requires.stored.1.done c.output.ensures
+    acted_alone a.l.widths a.i a.body.now (records a.n a.store.now) a.line a.sw a.p a.h k_output (ap action_kind c.in-1.is) _ _ _ _ refl c.requires.stored.1.done c.output.ensures
 
 pub returns-in-2 : goal.returns-in-2
 unfolding action_kind
 returns-in-2 c =
     let a = c.args in
-    acted_alone a.l.widths a.i a.body.now (records a.n a.store.now) a.line a.sw a.p a.h kSet (ap action_kind c.in-2.is) _ _ _ _ c.put.ensures c.requires.stored.1.done (added_none _ _ _)
+    acted_alone a.l.widths a.i a.body.now (records a.n a.store.now) a.line a.sw a.p a.h k_set (ap action_kind c.in-2.is) _ _ _ _ c.put.ensures c.requires.stored.1.done (added_none _ _ _)
 
 pub returns-in-3 : goal.returns-in-3
 unfolding action_kind
 returns-in-3 c =
     let a = c.args in
-    acted_alone a.l.widths a.i a.body.now (records a.n a.store.now) a.line a.sw a.p a.h kInPort (ap action_kind c.in-3.is) _ _ _ _ refl c.requires.stored.1.done c.send.ensures
+    acted_alone a.l.widths a.i a.body.now (records a.n a.store.now) a.line a.sw a.p a.h k_in_port (ap action_kind c.in-3.is) _ _ _ _ refl c.requires.stored.1.done c.send.ensures
 
 pub returns-in-4 : goal.returns-in-4
 unfolding action_kind
 returns-in-4 c =
     let a = c.args in
-    acted a.l.widths a.i a.body.now (records a.n a.store.now) a.line a.sw a.p a.h kRunGroup (ap action_kind c.in-4.is) _ _ _ _ refl _ c.run_group.ensures
+    acted a.l.widths a.i a.body.now (records a.n a.store.now) a.line a.sw a.p a.h k_run_group (ap action_kind c.in-4.is) _ _ _ _ refl _ c.run_group.ensures
 
 pub returns-in-0 : goal.returns-in-0
 returns-in-0 c =
     let a = c.args in
-    acted_alone a.l.widths a.i a.body.now (records a.n a.store.now) a.line a.sw a.p a.h kNoAction (no_action _ (λ e. omega arith) (λ e. omega arith) (λ e. omega arith) (λ e. omega arith)) _ _ _ _ refl c.requires.stored.1.done (added_none _ _ _)
+    acted_alone a.l.widths a.i a.body.now (records a.n a.store.now) a.line a.sw a.p a.h k_no_action (no_action _ (λ e. omega arith) (λ e. omega arith) (λ e. omega arith) (λ e. omega arith)) _ _ _ _ refl c.requires.stored.1.done (added_none _ _ _)
 
 pub returns-in-0-2 : goal.returns-in-0-2
 returns-in-0-2 c =
     let a = c.args in
-    acted_alone a.l.widths a.i a.body.now (records a.n a.store.now) a.line a.sw a.p a.h kNoAction (no_action _ (λ e. omega arith) (λ e. omega arith) (λ e. omega arith) (λ e. omega arith)) _ _ _ _ refl c.requires.stored.1.done (added_none _ _ _)
+    acted_alone a.l.widths a.i a.body.now (records a.n a.store.now) a.line a.sw a.p a.h k_no_action (no_action _ (λ e. omega arith) (λ e. omega arith) (λ e. omega arith) (λ e. omega arith)) _ _ _ _ refl c.requires.stored.1.done (added_none _ _ _)

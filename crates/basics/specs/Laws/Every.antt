@@ -1,12 +1,15 @@
 -- What is so of every element of a list.
-use Rattle.std.proofs.Common.{eqb-true, ap, ap₂, ◌∙◌, ⊎_elim, arith}
+use Rattle.std.proofs.Common.{eqb-true, ap, ap₂, subst, ◌∙◌, arith}
 use Rattle.std.specs.Prelude.{◌≡◌, Bool, cond, ◌||◌, ℕ, zero, suc, ◌+◌, ◌<◌, eqb, length, get_or}
 use Rattle.std.proofs.Math.Path.{refl, subst⁻¹}
 use Rattle.std.proofs.Math.Bool.{true, false}
 use Rattle.std.proofs.lemmas.Bool.{false≢true}
-use mathlib.Core.List.{List, [], ◌∷◌, ◌++◌}
+use mathlib.Core.List.Memᴰ
+use mathlib.Core.List.{List, [], ◌∷◌, ◌++◌, Memᴰ}
+use Rattle.std.proofs.Math.Logic.{⊎_elim}
 use Rattle.basics.specs.Laws.Tests.{or_left, or_right, or_cases, or_none}
-use Rattle.basics.specs.Lists.{keep, any, member, from}
+use Rattle.basics.specs.Lists.{keep, any, member, same_numbers, from}
+use Rattle.basics.specs.Laws.Lists.{same_numbers_lem, same_self}
 
 -- every element is so
 abbrev pub Every : {A : Type 0} → (A → Type 0) → List A → Type 0
@@ -101,3 +104,58 @@ pub none_kept : {A : Type 0} (f : A → Bool) (l : List A) → any f l ≡ false
 unfolding any keep
 none_kept f [] e = refl
 none_kept {A} f (x ∷ l) e = let q = or_none (f x) (any f l) e in ap (λ (b : Bool). cond b (x ∷ keep f l) (keep f l)) q.0 ∙ none_kept f l q.1
+
+module _ {A : Type 0} where
+  -- what is so of each element is so of every one, and the other way round
+  pub each_every : (P : A → Type 0) (l : List A) → ((x : A) → Memᴰ x l → P x) → Every P l
+  each_every P [] f = tt
+  each_every P (x ∷ l) f = (f x (Memᴰ.head refl), each_every P l (λ y m. f y (Memᴰ.tail m)))
+
+  pub every_each : (P : A → Type 0) (l : List A) → Every P l → (x : A) → Memᴰ x l → P x
+  every_each P [] e x m = absurd (Memᴰ.not-nil m)
+  every_each P (y ∷ l) e x m = ⊎_elim (λ q. subst⁻¹ P q e.0) (every_each P l e.1 x) (Memᴰ.cases_cons m)
+
+  -- an element that passes a test is kept
+  pub in_kept : (f : A → Bool) (l : List A) (x : A) → Memᴰ x l → f x ≡ true → Memᴰ x (keep f l)
+  unfolding keep
+  in_kept f [] x m e = m
+  in_kept f (y ∷ l) x m e = ⊎_elim (λ q. here (f y) (subst (λ (z : A). f z ≡ true) q e) q) (λ t. there (f y) (in_kept f l x t e)) (Memᴰ.cases_cons m)
+    where
+      here : (b : Bool) → b ≡ true → x ≡ y → Memᴰ x (cond b (y ∷ keep f l) (keep f l))
+      here true t q = Memᴰ.head q
+      here false t q = absurd (false≢true t)
+
+      there : (b : Bool) → Memᴰ x (keep f l) → Memᴰ x (cond b (y ∷ keep f l) (keep f l))
+      there true m = Memᴰ.tail m
+      there false m = m
+
+  -- and what is kept is an element that passes it
+  pub of_kept : (f : A → Bool) (l : List A) (x : A) → Memᴰ x (keep f l) → Memᴰ x l × (f x ≡ true)
+  unfolding keep
+  of_kept f [] x m = absurd (Memᴰ.not-nil m)
+  of_kept f (y ∷ l) x m = go (f y) refl m (of_kept f l x)
+    where
+      go : (b : Bool) → f y ≡ b → Memᴰ x (cond b (y ∷ keep f l) (keep f l)) → (Memᴰ x (keep f l) → Memᴰ x l × (f x ≡ true))
+          → Memᴰ x (y ∷ l) × (f x ≡ true)
+      go true e m ih = ⊎_elim (λ q. (Memᴰ.head q, subst⁻¹ (λ (z : A). f z ≡ true) q e)) (λ t. let u = ih t in (Memᴰ.tail u.0, u.1)) (Memᴰ.cases_cons m)
+      go false e m ih = let u = ih m in (Memᴰ.tail u.0, u.1)
+
+  -- some element passes a test
+  pub some_passes : (f : A → Bool) (l : List A) (x : A) → Memᴰ x l → f x ≡ true → any f l ≡ true
+  unfolding any
+  some_passes f [] x m e = absurd (Memᴰ.not-nil m)
+  some_passes f (y ∷ l) x m e =
+      ⊎_elim (λ q. or_left (f y) (any f l) (subst (λ (z : A). f z ≡ true) q e)) (λ t. or_right (f y) (any f l) (some_passes f l x t e)) (Memᴰ.cases_cons m)
+
+  pub passes_some : (f : A → Bool) (l : List A) → any f l ≡ true → (x : A) × Memᴰ x l × (f x ≡ true)
+  unfolding any
+  passes_some f [] e = absurd (false≢true e)
+  passes_some f (y ∷ l) e =
+      ⊎_elim (λ q. (y, Memᴰ.head refl, q)) (λ q. let u = passes_some f l q in (u.0, Memᴰ.tail u.1, u.2)) (or_cases (f y) (any f l) e)
+
+-- a list of numbers is among some exactly if it is one of them
+pub among_in : (r : List ℕ) (l : List (List ℕ)) → Memᴰ r l → any (same_numbers r) l ≡ true
+among_in r l m = some_passes (same_numbers r) l r m (same_self r)
+
+pub in_among : (r : List ℕ) (l : List (List ℕ)) → any (same_numbers r) l ≡ true → Memᴰ r l
+in_among r l e = let u = passes_some (same_numbers r) l e in subst⁻¹ (λ (x : List ℕ). Memᴰ x l) (same_numbers_lem r u.0 u.2) u.1

@@ -5,12 +5,13 @@ use Rattle.std.proofs.Math.Path.{refl, sym, ap}
 use Rattle.std.proofs.Math.Bool.{true, false, cond, and-false, or_assoc, or-false}
 use Rattle.std.proofs.lemmas.Bool.{false≢true}
 use mathlib.Core.List.{List, [], ◌∷◌, ◌++◌, append-nil}
+use Rattle.std.proofs.Math.Logic.{⊎_elim}
 use Prim.Native.Nat.{ℕ, zero, suc, ◌+◌, ◌-◌, ◌<◌, ◌≤◌}
 use Rattle.std.proofs.Math.Decide.{ℕ_discrete}
 use native.Mathlib.Omega.{arith}
 use Rattle.std.proofs.lemmas.List.{get_or-replicate}
 use Rattle.std.proofs.Math.Seq.{slice, length-slice}
-use Rattle.basics.specs.Laws.Tests.{both}
+use Rattle.basics.specs.Laws.Tests.{both, or_left, or_right, or_cases}
 use Rattle.basics.specs.Lists.{keep, any, all, same_numbers, from, member}
 
 module _ {A : Type 0} where
@@ -88,7 +89,8 @@ same_numbers_lem [] (y ∷ b) e = absurd (false≢true e)
 same_numbers_lem (x ∷ a) [] e = absurd (false≢true e)
 same_numbers_lem (x ∷ a) (y ∷ b) e = let t = both _ _ e in cc (eqb-true x y t.0, same_numbers_lem a b t.1)
 
-same_self : (a : List ℕ) → same_numbers a a ≡ true
+-- and a list is the same numbers as itself
+pub same_self : (a : List ℕ) → same_numbers a a ≡ true
 unfolding same_numbers
 same_self [] = refl
 same_self (x ∷ a) = rw (eq-eqb x x refl) (same_self a)
@@ -166,6 +168,23 @@ module _ (f : ℕ → Bool) where
   unfolding all from
   from_passes n zero h = refl
   from_passes n (suc k) h = rw (h n (omega arith) (omega arith)) (from_passes (suc n) k (λ i l t. h i (omega arith) (omega arith)))
+
+  -- some of them passes it exactly where one does
+  pub some_from : (n k : ℕ) → any f (from n k) ≡ true → (i : ℕ) × (n ≤ i) × (i < n + k) × (f i ≡ true)
+  unfolding any from
+  some_from n zero e = absurd (false≢true e)
+  some_from n (suc k) e =
+      ⊎_elim (λ q. (n, omega arith, omega arith, q)) (λ q. let t = some_from (suc n) k q in (t.0, omega (arith, t.1), omega (arith, t.2), t.3))
+      (or_cases (f n) (any f (from (suc n) k)) e)
+
+  pub any_from : (n k i : ℕ) → n ≤ i → i < n + k → f i ≡ true → any f (from n k) ≡ true
+  unfolding any from
+  any_from n zero i l h e = absurd (omega arith)
+  any_from n (suc k) i l h e = go (ℕ_discrete n i) (λ m. any_from (suc n) k i m (omega arith) e)
+    where
+      go : Dec (n ≡ i) → (suc n ≤ i → any f (from (suc n) k) ≡ true) → (f n || any f (from (suc n) k)) ≡ true
+      go (yes q) ih = or_left (f n) (any f (from (suc n) k)) (ap f q ∙ e)
+      go (no q) ih = or_right (f n) (any f (from (suc n) k)) (ih (omega (arith, q)))
 
 pub member-append : (t : ℕ) (xs ys : List ℕ) → member t (xs ++ ys) ≡ (member t xs || member t ys)
 unfolding member

@@ -3,7 +3,7 @@ use Rattle.std.specs.Prelude.{◌≡◌, false, ℕ, zero, suc}
 use Rattle.std.proofs.Math.Path.{refl}
 use Rattle.std.proofs.Common.{sym, ◌∙◌}
 use Rattle.std.proofs.Math.Bool.{true}
-use Rattle.format.specs.Record.{Rec, Net, kind, kModify, kNoCommand, command_kind, same_rule, present}
+use Rattle.format.specs.Record.{Rec, Net, kind, k_modify, k_no_command, command_kind, same_rule, present}
 use Rattle.format.specs.Version.{modify_as, acting, as_add}
 use Rattle.format.specs.declared.Version.{Version}
 use Rattle.format.specs.declared.Version.TheVariants.{OpenFlow10, OpenFlow13}
@@ -20,7 +20,7 @@ module _ (v : Version) (c : Rec) (net : Net) where
   unfolding applied acting command_kind
   modify_there e t = rw (e, t, there v)
     where
-      there : (v : Version) → modify_as v true ≡ kModify
+      there : (v : Version) → modify_as v true ≡ k_modify
       there OpenFlow10 = refl
       there OpenFlow13 = refl
 
@@ -44,7 +44,7 @@ pub modify_nothing : (c : Rec) (net : Net) → kind c ≡ 7 → present c net �
 unfolding applied acting command_kind
 modify_nothing c net e t = rw e (changed_none (with_actions c) c net t)
 
-pub no_command : (k : ℕ) → (k ≡ 6 → ⊥) → (k ≡ 7 → ⊥) → (k ≡ 8 → ⊥) → command_kind k ≡ kNoCommand
+pub no_command : (k : ℕ) → (k ≡ 6 → ⊥) → (k ≡ 7 → ⊥) → (k ≡ 8 → ⊥) → command_kind k ≡ k_no_command
 unfolding command_kind
 no_command zero a m d = refl
 no_command (suc zero) a m d = refl

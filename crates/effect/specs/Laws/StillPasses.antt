@@ -5,7 +5,7 @@ use Rattle.std.proofs.Common.{sym, ap, subst, subst₂, ◌∙◌, arith, length
 use Rattle.std.proofs.Math.Bool.{true, false}
 use Rattle.std.proofs.Math.Option.{none}
 use Rattle.basics.specs.Laws.Tests.{or_none}
-use Rattle.format.specs.Record.{Rec, Net, most_rules, kind, CommandKind, kAdd, kModify, kDelete, kNoCommand, of_kind, present, widths_of}
+use Rattle.format.specs.Record.{Rec, Net, most_rules, kind, CommandKind, k_add, k_modify, k_delete, k_no_command, of_kind, present, widths_of}
 use Rattle.format.specs.Group.{groups_there}
 use Rattle.format.specs.Version.{version_of, acting, is_add}
 use Rattle.format.specs.Fields.{fields_good}
@@ -106,10 +106,10 @@ module _ (net : Net) (c : Rec) (whole : Whole net) (e : file_row [] net ≡ none
 
   -- by what it acts as
   kept_as : (k : CommandKind) → acting (version_of net) c net ≡ k → PassesStill net (applied_as k c net)
-  kept_as kAdd q = added_kept (add_or_modify (version_of net) c net (ap is_delete q) cmd.least cmd.most) (cmd.room (ap is_add q))
-  kept_as kModify q = modify_kept (add_or_modify (version_of net) c net (ap is_delete q) cmd.least cmd.most)
-  kept_as kDelete q = delete_kept
-  kept_as kNoCommand q = unchanged net refl
+  kept_as k_add q = added_kept (add_or_modify (version_of net) c net (ap is_delete q) cmd.least cmd.most) (cmd.room (ap is_add q))
+  kept_as k_modify q = modify_kept (add_or_modify (version_of net) c net (ap is_delete q) cmd.least cmd.most)
+  kept_as k_delete q = delete_kept
+  kept_as k_no_command q = unchanged net refl
 
   pub applied_kept : PassesStill net (would_leave c net)
   unfolding applied

@@ -11,7 +11,7 @@ use Rattle.std.proofs.Math.ListN.{get_or, drop, length-append, length-drop}
 use Rattle.std.proofs.Math.Seq.{take_at, drop_at, get_or-take}
 use Rattle.basics.specs.Laws.Tests.{both, and_both, or_none}
 use Rattle.basics.specs.Lists.{all, from}
-use Rattle.format.specs.Record.{Rec, Net, most_rules, at, kind, CommandKind, kAdd, kModify, kDelete, kNoCommand, command_kind, of_kind, same_rule, present, widths_of}
+use Rattle.format.specs.Record.{Rec, Net, most_rules, at, kind, CommandKind, k_add, k_modify, k_delete, k_no_command, command_kind, of_kind, same_rule, present, widths_of}
 use Rattle.format.specs.Group.{runs_there, actions_there, groups_there}
 use Rattle.format.specs.Version.{version_of, acting, is_add}
 use Rattle.refusals.specs.Rows.{row12, row13, row16_command}
@@ -87,10 +87,10 @@ six_or_seven {k} l h n = go (ℕ_discrete k 6)
 
 -- a command that deletes
 abbrev pub is_delete : CommandKind → Bool
-is_delete kAdd = false
-is_delete kModify = false
-is_delete kDelete = true
-is_delete kNoCommand = false
+is_delete k_add = false
+is_delete k_modify = false
+is_delete k_delete = true
+is_delete k_no_command = false
 
 -- what acts as no delete is an add or a modify
 pub add_or_modify : (v : Version) (c : Rec) (net : Net) → is_delete (acting v c net) ≡ false → 6 ≤ kind c → kind c ≤ 8 → AddOrModify c

@@ -14,8 +14,8 @@ use Rattle.basics.specs.Bit.{bit_of}
 use Rattle.basics.specs.Laws.Bits.{bit_or_lem, bit-zero, bits_ext}
 use Rattle.basics.specs.Laws.Tests.{same_test, true_of, not_both, and_both, and_left, and_right, both, or_none}
 use Rattle.basics.specs.Lists.{all}
-use Rattle.format.specs.Record.{Rec, most_policies, at, kind, record_kind, command_kind, kNoAction, action_kind}
-use Rattle.format.specs.Group.{bucket_value, bucket_care, bucket_kind, bucket_target, kNoTarget, target_kind}
+use Rattle.format.specs.Record.{Rec, most_policies, at, kind, record_kind, command_kind, k_no_action, action_kind}
+use Rattle.format.specs.Group.{bucket_value, bucket_care, bucket_kind, bucket_target, k_no_target, target_kind}
 use Rattle.format.specs.Version.{version_good}
 use Rattle.format.specs.Pattern.{pattern_good}
 use Rattle.format.specs.Policy.{node_kind}
@@ -104,7 +104,7 @@ module _ (w : Widths) (r : Rec) where
       simp (le-leb 1 (at r 8) l, le-leb (at r 8) 4 h, f 0 (lit< tt), f 1 (lit< tt), f 2 (lit< tt), f 3 (lit< tt))
 
 -- no action has another kind than 1, 2, 3 and 4
-pub no_action : (k : ℕ) → (k ≡ 1 → ⊥) → (k ≡ 2 → ⊥) → (k ≡ 3 → ⊥) → (k ≡ 4 → ⊥) → action_kind k ≡ kNoAction
+pub no_action : (k : ℕ) → (k ≡ 1 → ⊥) → (k ≡ 2 → ⊥) → (k ≡ 3 → ⊥) → (k ≡ 4 → ⊥) → action_kind k ≡ k_no_action
 unfolding action_kind
 no_action zero a b c d = refl
 no_action (suc zero) a b c d = absurd (a refl)
@@ -114,7 +114,7 @@ no_action (suc (suc (suc (suc zero)))) a b c d = absurd (d refl)
 no_action (suc (suc (suc (suc (suc k))))) a b c d = refl
 
 -- no target has another kind than 1 and 2
-pub no_target : (k : ℕ) → (k ≡ 1 → ⊥) → (k ≡ 2 → ⊥) → target_kind k ≡ kNoTarget
+pub no_target : (k : ℕ) → (k ≡ 1 → ⊥) → (k ≡ 2 → ⊥) → target_kind k ≡ k_no_target
 unfolding target_kind
 no_target zero a b = refl
 no_target (suc zero) a b = absurd (a refl)

@@ -4,7 +4,7 @@ use Rattle.std.proofs.Math.Path.{refl, ap}
 use Rattle.std.proofs.Common.{sym, ◌∙◌, arith}
 use Rattle.std.proofs.Math.Bool.{not}
 use Rattle.basics.specs.Lists.{any, all, from}
-use Rattle.format.specs.Record.{Rec, Net, at, kind, RecordKind, kWidths, kLink, kMiss, kRule, kNode, kGroup, kNoRecord, record_kind, of_kind}
+use Rattle.format.specs.Record.{Rec, Net, at, kind, RecordKind, k_widths, k_link, k_miss, k_rule, k_node, k_group, k_no_record, record_kind, of_kind}
 use Rattle.format.specs.Group.{bucket_kind, bucket_target, is_group, has_group, runs_there, actions_there, goes_there, buckets_there, named_there, groups_there}
 use Rattle.basics.specs.Laws.Lists.{any_keep, any_snoc, from_fails, from_passes}
 use Rattle.format.specs.Laws.Kinds.{is_group_record}
@@ -50,13 +50,13 @@ module _ (x y : Net) (same : of_kind 9 x ≡ of_kind 9 y) (r : Rec) where
   there_alike = go (record_kind (kind r))
     where
       go : (k : RecordKind) → named_there k x r ≡ named_there k y r
-      go kWidths = refl
-      go kLink = refl
-      go kMiss = actions_alike
-      go kRule = actions_alike
-      go kNode = refl
-      go kGroup = buckets_alike
-      go kNoRecord = refl
+      go k_widths = refl
+      go k_link = refl
+      go k_miss = actions_alike
+      go k_rule = actions_alike
+      go k_node = refl
+      go k_group = buckets_alike
+      go k_no_record = refl
 
 -- whether a group is there, with one record more
 pub has_more : (net : Net) (r : Rec) (sw g : ℕ) → has_group (net ++ (r ∷ [])) sw g ≡ (has_group net sw g || (is_group_record r && is_group sw g r))

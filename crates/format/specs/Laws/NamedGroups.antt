@@ -1,5 +1,5 @@
 -- Groups that good actions and buckets name are below 16.
-use Rattle.std.specs.Prelude.{◌≡◌, true, ℕ, ◌+◌, ◌*◌, ◌<◌, ◌-◌, ◌^◌, ◌≤◌, ltb, length}
+use Rattle.std.specs.Prelude.{◌≡◌, true, ℕ, ◌+◌, ◌*◌, ◌<◌, ◌^◌, ◌≤◌, ltb, length}
 use Rattle.std.proofs.Common.{sym, ◌∙◌, arith, pow_mono}
 use Rattle.format.specs.Record.{Rec, at, kind}
 use Rattle.format.specs.Group.{bucket_kind, bucket_target}

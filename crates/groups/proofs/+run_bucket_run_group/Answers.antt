@@ -7,7 +7,7 @@ use Rattle.format.specs.Record.{records}
 use mathlib.Core.Bool.{true}
 use Rattle.widths.specs.declared.Widths.{Widths}
 use Rattle.format.specs.Fields.{target_fields}
-use Rattle.format.specs.Group.{kPort, kLowerGroup, kNoTarget, target_kind}
+use Rattle.format.specs.Group.{k_port, k_lower_group, k_no_target, target_kind}
 use Rattle.format.specs.Laws.Fields.{no_target}
 use Rattle.format.specs.Laws.Records.{length_records}
 use Rattle.groups.specs.Marks.{mark}
@@ -38,7 +38,7 @@ pub run_bucket-returns-in-1 : goal.run_bucket-returns-in-1
 unfolding target_kind
 run_bucket-returns-in-1 t c =
     let a = c.args in
-    bucket_ran _ _ _ _ _ a.g a.kind a.target a.header kPort (ap target_kind c.in-1.is) _ _ _ _
+    bucket_ran _ _ _ _ _ a.g a.kind a.target a.header k_port (ap target_kind c.in-1.is) _ _ _ _
     (ran_sent _ _ _ _ _ _ _ c.send_on.ensures c.requires.stored.1.done)
 
 pub run_bucket-returns-in-2 : goal.run_bucket-returns-in-2
@@ -46,18 +46,18 @@ unfolding target_kind
 run_bucket-returns-in-2 t c =
     let a = c.args in
     let net = records a.n a.store.now in
-    bucket_ran _ _ _ _ _ a.g a.kind a.target a.header kLowerGroup (ap target_kind c.in-2.is) _ _ _ _
+    bucket_ran _ _ _ _ _ a.g a.kind a.target a.header k_lower_group (ap target_kind c.in-2.is) _ _ _ _
     (rw (lower_is net a.l.widths a.sw a.p a.g a.target a.header (lower a.l.widths a.g a.kind a.target c.requires.g_bound.1 c.in-2.is)) c.run_group.ensures)
 
 pub run_bucket-returns : goal.run_bucket-returns
 run_bucket-returns t c =
     let a = c.args in
-    bucket_ran _ _ _ _ _ a.g a.kind a.target a.header kNoTarget (no_target _ (λ e. omega arith) (λ e. omega arith)) _ _ _ _ (ran_none _ _ _ _ _ c.requires.stored.1.done)
+    bucket_ran _ _ _ _ _ a.g a.kind a.target a.header k_no_target (no_target _ (λ e. omega arith) (λ e. omega arith)) _ _ _ _ (ran_none _ _ _ _ _ c.requires.stored.1.done)
 
 pub run_bucket-returns-2 : goal.run_bucket-returns-2
 run_bucket-returns-2 t c =
     let a = c.args in
-    bucket_ran _ _ _ _ _ a.g a.kind a.target a.header kNoTarget (no_target _ (λ e. omega arith) (λ e. omega arith)) _ _ _ _ (ran_none _ _ _ _ _ c.requires.stored.1.done)
+    bucket_ran _ _ _ _ _ a.g a.kind a.target a.header k_no_target (no_target _ (λ e. omega arith) (λ e. omega arith)) _ _ _ _ (ran_none _ _ _ _ _ c.requires.stored.1.done)
 
 -- the mark has its bit
 marked : (n g h : ℕ) (marks : List ℕ) → n ≡ mark g h → g < 16 → h < 64 → 128 ≤ length marks → n / 8 < length marks

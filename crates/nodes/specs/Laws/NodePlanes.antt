@@ -8,7 +8,7 @@ use Rattle.basics.specs.Bit.{bit_of}
 use Rattle.planes.specs.Plane.{bit, plane_size}
 use Rattle.planes.specs.Laws.Places.{line_before}
 use Rattle.planes.specs.Laws.Lines.{no_bit}
-use Rattle.format.specs.Policy.{Formula, kBIT, kR, kE, kNOT, kAND, kOR, kSOME, kALL, kTC, kNone, node_kind, node_says, var_of}
+use Rattle.format.specs.Policy.{Formula, k_bit, k_r, k_e, k_not, k_and, k_or, k_some, k_all, k_tc, k_none, node_kind, node_says, var_of}
 use Rattle.walks.specs.Laws.Walks.{map_walk}
 use Rattle.lines.specs.declared.Op.TheVariants.{Not, And, Or}
 use Rattle.truth.specs.Truth.{Model, value, with_x, with_y, Truth}
@@ -57,9 +57,9 @@ all_says : {P : ℕ → Type 0} (n : ℕ) (g : ℕ → Bool) → ((z : ℕ) → 
 unfolding over
 all_says n g e = (λ t z h. (e z h).0 ((all_iff n g).0 t z h), λ r. (all_iff n g).1 (λ z h. (e z h).1 (r z h)))
 
-no_kind : (kind : ℕ) → 9 ≤ kind → node_kind kind ≡ kNone
+no_kind : (kind : ℕ) → 9 ≤ kind → node_kind kind ≡ k_none
 unfolding node_kind
-no_kind kind h = get_or-eq_default (kBIT ∷ kR ∷ kE ∷ kNOT ∷ kAND ∷ kOR ∷ kSOME ∷ kALL ∷ kTC ∷ []) kNone h
+no_kind kind h = get_or-eq_default (k_bit ∷ k_r ∷ k_e ∷ k_not ∷ k_and ∷ k_or ∷ k_some ∷ k_all ∷ k_tc ∷ []) k_none h
 
 module _ (kind a b : ℕ) where
   -- byte 3, or bytes 3 and 4, of a node of a kind with so many operands

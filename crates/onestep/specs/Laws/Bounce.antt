@@ -10,7 +10,7 @@ use Rattle.std.proofs.Math.Decide.{ℕ_discrete}
 use native.Mathlib.Omega.{arith}
 use Rattle.basics.specs.Laws.Tests.{or_left, or_right, or_cases}
 use Rattle.basics.specs.Lists.{any, member}
-use Rattle.format.specs.Record.{Rec, Net, at, ActionKind, kOutput, kSet, kInPort, kRunGroup, kNoAction, action_kind}
+use Rattle.format.specs.Record.{Rec, Net, at, ActionKind, k_output, k_set, k_in_port, k_run_group, k_no_action, action_kind}
 use Rattle.format.specs.Fields.{actions_good}
 use Rattle.format.specs.State.{state, port_of}
 use Rattle.basics.specs.Laws.Every.{in_empty, every_member}
@@ -27,13 +27,13 @@ use Rattle.onestep.specs.Laws.GoodActions.{output_pattern, used_action}
 
 -- IN_PORT is not among the actions of a record
 abbrev pub NoInPort : Rec → Type 0
-NoInPort r = (i : ℕ) → i < at r 8 → action_kind (at r (9 + 3 * i)) ≡ kInPort → ⊥
+NoInPort r = (i : ℕ) → i < at r 8 → action_kind (at r (9 + 3 * i)) ≡ k_in_port → ⊥
 
 -- an arrival at a switch of a network, and a record with good actions
 module _ (net : Net) (w : Widths) (groups : GroupsGood w net) (a : Arrival) (hs : a.switch < 2 ^ w.w) (r : Rec) (good : actions_good w r ≡ true) where
   -- action i of the record is IN_PORT
   abbrev IsInPort : ℕ → Type 0
-  IsInPort i = action_kind (at r (9 + 3 * i)) ≡ kInPort
+  IsInPort i = action_kind (at r (9 + 3 * i)) ≡ k_in_port
 
   -- a copy that departs at the arrival port was sent by IN_PORT
   by_in_port : (h i : ℕ) → h < 2 ^ w.h → UsedAction w r i → (s : ℕ) → member s (sent_by net w a.switch a.port r h i) ≡ true → port_of w s ≡ a.port → IsInPort i
@@ -41,15 +41,15 @@ module _ (net : Net) (w : Widths) (groups : GroupsGood w net) (a : Arrival) (hs 
   by_in_port h i hh U s m q = go (action_kind (at r (9 + 3 * i))) refl
     where
       go : (k : ActionKind) → action_kind (at r (9 + 3 * i)) ≡ k → IsInPort i
-      go kOutput e =
+      go k_output e =
           absurd (every_member _ _ (elsewhere w a.switch a.port h hs hh (named w (at r (10 + 3 * i)) (at r (11 + 3 * i))) (named-lt w _ _ (output_pattern w r i U e))) s
-          (ap (member s) (sym (sent_as_lem w r h i net a.switch a.port kOutput e)) ∙ m) q)
-      go kSet e = in_empty s (ap (member s) (sym (sent_as_lem w r h i net a.switch a.port kSet e)) ∙ m)
-      go kInPort e = e
-      go kRunGroup e =
+          (ap (member s) (sym (sent_as_lem w r h i net a.switch a.port k_output e)) ∙ m) q)
+      go k_set e = in_empty s (ap (member s) (sym (sent_as_lem w r h i net a.switch a.port k_set e)) ∙ m)
+      go k_in_port e = e
+      go k_run_group e =
           absurd (every_member _ _ (group_elsewhere net w groups a.switch a.port hs (at r (10 + 3 * i)) h) s
-          (ap (member s) (sym (sent_as_lem w r h i net a.switch a.port kRunGroup e)) ∙ m) q)
-      go kNoAction e = in_empty s (ap (member s) (sym (sent_as_lem w r h i net a.switch a.port kNoAction e)) ∙ m)
+          (ap (member s) (sym (sent_as_lem w r h i net a.switch a.port k_run_group e)) ∙ m) q)
+      go k_no_action e = in_empty s (ap (member s) (sym (sent_as_lem w r h i net a.switch a.port k_no_action e)) ∙ m)
 
   from_action : (k i h : ℕ) → h < 2 ^ w.h → i + k ≡ at r 8 → (s : ℕ) → member s (copies net w a r h i k) ≡ true → port_of w s ≡ a.port → (j : ℕ) × (j < at r 8) × IsInPort j
   unfolding copies
@@ -71,7 +71,7 @@ module _ (net : Net) (w : Widths) (groups : GroupsGood w net) (a : Arrival) (hs 
     in_port_sends h i hh e =
         let s = state w 1 a.switch a.port h in (
           s,
-          ap (member s) (sent_as_lem w r h i net a.switch a.port kInPort e) ∙ or_left (eqb s s) false (eq-eqb s s refl),
+          ap (member s) (sent_as_lem w r h i net a.switch a.port k_in_port e) ∙ or_left (eqb s s) false (eq-eqb s s refl),
           port_of_lem w 1 a.switch a.port h hs hp hh,
         )
 
@@ -95,7 +95,7 @@ module _ (net : Net) (w : Widths) (groups : GroupsGood w net) (a : Arrival) (hs 
             (f.0, member-append f.0 xs ys ∙ or_right (member f.0 xs) (member f.0 ys) f.1, f.2)
 
     -- a copy departs at the arrival port exactly if IN_PORT is among the record's actions
-    pub bounces_iff : a.header < 2 ^ w.h → ((s : ℕ) × (member s (sent net w a r) ≡ true) × (port_of w s ≡ a.port)) ↔ ((i : ℕ) × (i < at r 8) × (action_kind (at r (9 + 3 * i)) ≡ kInPort))
+    pub bounces_iff : a.header < 2 ^ w.h → ((s : ℕ) × (member s (sent net w a r) ≡ true) × (port_of w s ≡ a.port)) ↔ ((i : ℕ) × (i < at r 8) × (action_kind (at r (9 + 3 * i)) ≡ k_in_port))
     unfolding sent
     bounces_iff hh = (
       λ b. from_action (at r 8) 0 a.header hh (omega arith) b.0 b.1 b.2,

@@ -5,7 +5,7 @@ use Rattle.std.proofs.Math.Path.{ap}
 use Rattle.std.proofs.Math.Bool.{true, false}
 use mathlib.Core.List.{List, [], ◌∷◌, ◌++◌}
 use Rattle.basics.specs.Lists.{keep, from}
-use Rattle.format.specs.Record.{Rec, Net, at, ActionKind, kOutput, kSet, kInPort, kRunGroup, kNoAction, action_kind}
+use Rattle.format.specs.Record.{Rec, Net, at, ActionKind, k_output, k_set, k_in_port, k_run_group, k_no_action, action_kind}
 use Rattle.format.specs.State.{ordinary}
 use Rattle.format.specs.Pattern.{matches}
 use Rattle.format.specs.Laws.Patterns.{put_lt}
@@ -54,11 +54,11 @@ module _ (w : Widths) (r : Rec) (h i : ℕ) where
   header_after-lt l = go (action_kind (at r (9 + 3 * i)))
     where
       go : (k : ActionKind) → header_by k w (at r (10 + 3 * i)) (at r (11 + 3 * i)) h < 2 ^ w.h
-      go kOutput = l
-      go kSet = put_lt (at r (10 + 3 * i)) (at r (11 + 3 * i)) h w.h
-      go kInPort = l
-      go kRunGroup = l
-      go kNoAction = l
+      go k_output = l
+      go k_set = put_lt (at r (10 + 3 * i)) (at r (11 + 3 * i)) h w.h
+      go k_in_port = l
+      go k_run_group = l
+      go k_no_action = l
 
 -- what the actions from i on send
 pub copies-cons : (net : Net) (w : Widths) (a : Arrival) (r : Rec) (h i k : ℕ)

@@ -9,7 +9,7 @@ use Rattle.std.proofs.Math.Decide.{ℕ_discrete}
 use Rattle.std.proofs.Math.Dec.{eqb}
 use Rattle.basics.specs.Lists.{keep, from}
 use Rattle.format.specs.Record.{Rec, Net, at, kind, of_kind}
-use Rattle.format.specs.Group.{bucket_value, bucket_care, bucket_kind, bucket_target, TargetKind, kPort, kLowerGroup, kNoTarget, target_kind, is_group}
+use Rattle.format.specs.Group.{bucket_value, bucket_care, bucket_kind, bucket_target, TargetKind, k_port, k_lower_group, k_no_target, target_kind, is_group}
 use Rattle.format.specs.Search.{first_at}
 use Rattle.format.specs.Fields.{buckets_good}
 use Rattle.format.specs.Pattern.{pattern_good, put_bits}
@@ -64,7 +64,7 @@ GroupsGood w net = Every (λ r. kind r ≡ 9 → buckets_good w r ≡ true) net
 module _ (net : Net) (w : Widths) (groups : GroupsGood w net) (sw p : ℕ) (hs : sw < 2 ^ w.w) where
   -- the ports of a group's buckets are within their width
   PortsWithin : Rec → Type 0
-  PortsWithin r = (j : ℕ) → j < at r 8 → target_kind (bucket_kind r j) ≡ kPort → bucket_target r j < 2 ^ w.p
+  PortsWithin r = (j : ℕ) → j < at r 8 → target_kind (bucket_kind r j) ≡ k_port → bucket_target r j < 2 ^ w.p
 
   ports_within : (g : ℕ) → PortsWithin (group_record net sw g)
   unfolding PortsWithin group_record of_kind
@@ -81,9 +81,9 @@ module _ (net : Net) (w : Widths) (groups : GroupsGood w net) (sw p : ℕ) (hs :
       every_append _ (buckets_sent w sw p lower r h k) (bucket_sent w sw p lower r h k) (buckets_elsewhere lower low r within h k (omega arith)) (go (target_kind (bucket_kind r k)) refl)
     where
       go : (x : TargetKind) → target_kind (bucket_kind r k) ≡ x → Elsewhere w p (sent_to x w sw p lower (bucket_target r k) (put_bits w.h (bucket_value r k) (bucket_care r k) h))
-      go kPort e = elsewhere w sw p _ hs (put_lt (bucket_value r k) (bucket_care r k) h w.h) (bucket_target r k ∷ []) (within k l e, tt)
-      go kLowerGroup e = low (bucket_target r k) _
-      go kNoTarget e = tt
+      go k_port e = elsewhere w sw p _ hs (put_lt (bucket_value r k) (bucket_care r k) h w.h) (bucket_target r k ∷ []) (within k l e, tt)
+      go k_lower_group e = low (bucket_target r k) _
+      go k_no_target e = tt
 
   lower_elsewhere : (k g h : ℕ) → Elsewhere w p (lower_sent net w sw p k g h)
   unfolding lower_sent

@@ -6,7 +6,7 @@ use Rattle.std.proofs.Math.Bool.{true, false}
 use Rattle.std.proofs.Math.Decide.{dec_lt}
 use Rattle.std.proofs.lemmas.Nat.{and_le_r}
 use Rattle.basics.specs.Laws.Tests.{not_both, and_left}
-use Rattle.format.specs.Record.{Rec, at, ActionKind, kOutput, kRunGroup, action_kind}
+use Rattle.format.specs.Record.{Rec, at, ActionKind, k_output, k_run_group, action_kind}
 use Rattle.format.specs.Pattern.{pattern_good}
 use Rattle.format.specs.Fields.{used_fields, used_good, unused_good, action_bytes_good, action_good, actions_good}
 use Rattle.format.specs.Laws.Fields.{count_high, action_each}
@@ -38,11 +38,11 @@ module _ (w : Widths) (r : Rec) (i : ℕ) (U : UsedAction w r i) where
   used_as : (k : ActionKind) → action_kind (at r (9 + 3 * i)) ≡ k → used_fields k w value care (eqb (suc i) (at r 8)) ≡ true
   used_as k e = sym (ap (λ (x : ActionKind). used_fields x w value care (eqb (suc i) (at r 8))) e) ∙ used_good_lem
 
-  pub output_pattern : action_kind (at r (9 + 3 * i)) ≡ kOutput → pattern_good w.p (at r (10 + 3 * i)) (at r (11 + 3 * i)) ≡ true
-  output_pattern e = used_as kOutput e
+  pub output_pattern : action_kind (at r (9 + 3 * i)) ≡ k_output → pattern_good w.p (at r (10 + 3 * i)) (at r (11 + 3 * i)) ≡ true
+  output_pattern e = used_as k_output e
 
-  pub group_number : action_kind (at r (9 + 3 * i)) ≡ kRunGroup → at r (10 + 3 * i) ≤ 15
-  group_number e = leb-true value 15 (and_left (leb value 15) (eqb care 0) (used_as kRunGroup e))
+  pub group_number : action_kind (at r (9 + 3 * i)) ≡ k_run_group → at r (10 + 3 * i) ≤ 15
+  group_number e = leb-true value 15 (and_left (leb value 15) (eqb care 0) (used_as k_run_group e))
 
 -- the used actions of a record with good actions
 module _ (w : Widths) (r : Rec) (good : actions_good w r ≡ true) where

@@ -4,7 +4,7 @@ use Rattle.std.specs.Prelude.{◌≡◌, true, ℕ, ◌^◌, ◌<◌, ◌≤◌}
 use Rattle.std.proofs.Math.Decide.{dec_lt}
 use Rattle.basics.specs.Laws.Tests.{not_both, and_right}
 use Rattle.format.specs.Record.{Rec, at}
-use Rattle.format.specs.Group.{bucket_value, bucket_care, bucket_kind, bucket_target, TargetKind, kPort, kLowerGroup, target_kind, IsBucket}
+use Rattle.format.specs.Group.{bucket_value, bucket_care, bucket_kind, bucket_target, TargetKind, k_port, k_lower_group, target_kind, IsBucket}
 use Rattle.format.specs.Pattern.{pattern_good}
 use Rattle.format.specs.Fields.{target_fields, buckets_good}
 use Rattle.format.specs.Laws.Fields.{buckets_high, bucket_used, bucket_each}
@@ -16,11 +16,11 @@ module _ (w : Widths) (g k target : ℕ) (good : target_fields (target_kind k) w
   fields_as : (x : TargetKind) → target_kind k ≡ x → target_fields x w g target ≡ true
   fields_as x e = sym (ap (λ (y : TargetKind). target_fields y w g target) e) ∙ good
 
-  pub port_within : target_kind k ≡ kPort → target < 2 ^ w.p
-  port_within e = ltb-true target (2 ^ w.p) (fields_as kPort e)
+  pub port_within : target_kind k ≡ k_port → target < 2 ^ w.p
+  port_within e = ltb-true target (2 ^ w.p) (fields_as k_port e)
 
-  pub group_lower : target_kind k ≡ kLowerGroup → target < g
-  group_lower e = ltb-true target g (fields_as kLowerGroup e)
+  pub group_lower : target_kind k ≡ k_lower_group → target < g
+  group_lower e = ltb-true target g (fields_as k_lower_group e)
 
 module _ (w : Widths) (r : Rec) where
   -- the used buckets of a group with good buckets
@@ -43,5 +43,5 @@ module _ (w : Widths) (r : Rec) where
       target_as g b e I = rw (I.kind, I.target, ← e) good_target
 
       -- a port that it sends to
-      pub bucket_port : target_kind (bucket_kind r j) ≡ kPort → bucket_target r j < 2 ^ w.p
+      pub bucket_port : target_kind (bucket_kind r j) ≡ k_port → bucket_target r j < 2 ^ w.p
       bucket_port = port_within w (at r 2) (bucket_kind r j) (bucket_target r j) good_target

@@ -1,13 +1,13 @@
 -- A network that rows 3 to 10 and 16 pass is passed again with a rule replaced, removed or inserted.
-use Rattle.std.specs.Prelude.{◌≡◌, Bool, true, false, ◌&&◌, ◌||◌, ℕ, ◌+◌, ◌<◌, ◌≤◌, eqb, length, take, drop}
-use Rattle.std.proofs.Math.Path.{refl}
+use Rattle.std.specs.Prelude.{◌≡◌, Bool, true, false, cond, not, ◌&&◌, ◌||◌, ℕ, ◌+◌, ◌<◌, ◌≤◌, eqb, length, take, drop}
+use Rattle.std.proofs.Math.Path.{refl, subst⁻¹}
 use Rattle.std.proofs.Common.{sym, ap, subst, ◌∙◌, arith, ne_eqb}
 use Rattle.std.proofs.Math.Bool.{and-false}
-use mathlib.Core.List.{List, [], ◌∷◌, ◌++◌, append-nil}
+use mathlib.Core.List.{List, [], ◌∷◌, ◌++◌, append_assoc, append-nil}
 use Rattle.std.proofs.Math.Option.{none}
 use Rattle.std.proofs.lemmas.Bool.{lt-leb}
 use Rattle.basics.specs.Laws.Tests.{not_both, or_none}
-use Rattle.basics.specs.Lists.{any, all, same_numbers}
+use Rattle.basics.specs.Lists.{keep, any, all, same_numbers}
 use Rattle.format.specs.Record.{Rec, Net, kind, of_kind, same_rule, present, most_rules, widths_of}
 use Rattle.format.specs.Group.{groups_there}
 use Rattle.refusals.specs.Rows.{row4, row5, row6, row7, row8, row9, row10, row16, misses_incomplete}
@@ -198,3 +198,44 @@ module _ (front back : Net) (no_node : any is_node front ≡ false) (last : last
         alike = alike_between front [] (r ∷ []) back some_front no_rules (one_rule r k);
         whole = whole_join front (r ∷ back) t.0 (l, t.1);
       }
+
+-- rules that pass a test are removed, and nothing else
+module _ (dead : Rec → Bool) (rules_only : (r : Rec) → dead r ≡ true → kind r ≡ 4) where
+  abbrev left : Rec → Bool
+  left r = not (dead r)
+
+  -- one after the other
+  pub removed_from : (rest front : Net) → Whole (front ++ rest) → file_row [] (front ++ rest) ≡ none → PassesStill (front ++ rest) (front ++ keep left rest)
+  unfolding keep
+  removed_from [] front w e = record {
+    passes = e;
+    alike = record { some = not_empty (front ++ []) e; some' = not_empty (front ++ []) e; first = refl; same = λ k h. refl };
+    whole = w;
+  }
+  removed_from (r ∷ rest) front w e = go (dead r) refl
+      (λ u v. removed_from rest (front ++ (r ∷ [])) u v) (λ u v. removed_from rest front u v)
+    where
+      snoc : (l : Net) → (front ++ (r ∷ [])) ++ l ≡ front ++ (r ∷ l)
+      snoc l = append_assoc front (r ∷ []) l
+
+      go : (b : Bool) → dead r ≡ b
+          → (Whole ((front ++ (r ∷ [])) ++ rest) → file_row [] ((front ++ (r ∷ [])) ++ rest) ≡ none → PassesStill ((front ++ (r ∷ [])) ++ rest) ((front ++ (r ∷ [])) ++ keep left rest))
+          → (Whole (front ++ rest) → file_row [] (front ++ rest) ≡ none → PassesStill (front ++ rest) (front ++ keep left rest))
+          → PassesStill (front ++ (r ∷ rest)) (front ++ cond (not b) (r ∷ keep left rest) (keep left rest))
+      go true k stays goes =
+          let one = rule_removed front r rest (rules_only r k) w e in
+          let more = goes one.whole one.passes in
+          record {
+            passes = more.passes;
+            alike = record {
+              some = one.alike.some;
+              some' = more.alike.some';
+              first = more.alike.first ∙ one.alike.first;
+              same = λ k h. more.alike.same k h ∙ one.alike.same k h;
+            };
+            whole = more.whole;
+          }
+      go false k stays goes =
+          subst (PassesStill (front ++ (r ∷ rest))) (snoc (keep left rest))
+          (subst (λ (l : Net). PassesStill l ((front ++ (r ∷ [])) ++ keep left rest)) (snoc rest)
+          (stays (subst⁻¹ Whole (snoc rest) w) (subst⁻¹ (λ (l : Net). file_row [] l ≡ none) (snoc rest) e)))

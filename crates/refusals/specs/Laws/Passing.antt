@@ -72,6 +72,10 @@ pub neither : (f later : Refusal) → or_else f later ≡ none → (f ≡ none) 
 neither none later e = (refl, e)
 neither (some f) later e = not_some e
 
+pub or_else_none : (f : Refusal) → or_else f none ≡ f
+or_else_none none = refl
+or_else_none (some f) = refl
+
 both_none : (f later : Refusal) → f ≡ none → later ≡ none → or_else f later ≡ none
 both_none none later e q = q
 both_none (some f) later e q = not_some e

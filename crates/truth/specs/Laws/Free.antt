@@ -1,5 +1,5 @@
 -- The truth of a formula goes by the values of its free variables alone.
-use Rattle.std.specs.Prelude.{◌≡◌, refl, Bool, true, false, not, ◌&&◌, ◌↔◌, ◌⊎◌, ℕ}
+use Rattle.std.specs.Prelude.{◌≡◌, refl, Bool, true, false, not, ◌&&◌, ◌↔◌, ℕ}
 use Rattle.std.proofs.Math.Path.{sym, subst, subst₂}
 use Rattle.std.proofs.Math.Logic.{inl, inr, ⊎_elim}
 use Rattle.basics.specs.Bit.{bit_of}
