@@ -5,8 +5,7 @@ usage: python3 tools/respell.py [--list]     at the top of the repository, once,
 
 A part of a name in camel case becomes snake case. A dash stays where a definition stands before it and another, or an operator's
 word, behind it; else it becomes an underscore. Types, modules, names from Rust code, names that other libraries declare, and names
-that Rattle makes keep their spelling. A lemma that would have a
-function's name ends in _lem.
+that Rattle makes keep their spelling. A lemma that would have a function's name ends in _lem.
 """
 
 import os
@@ -16,6 +15,8 @@ import sys
 TOKEN = re.compile(r"[^\s(){}\[\].,;:\"@|=⟨⟩`]+")
 DECLARED = re.compile(r"^\s*(?:(?:pub|abbrev|unfoldable|pattern|opaque)\s+)*(?:(record|data)\s+)?([^\s:(){},.=|]+)(?:\s+[({].*?)?\s*:(?:\s|$)")
 WORDS = set("le lt eq zero suc add sub mul mod div append cons nil mem subset perm refl sym trans".split())
+# Fields and parameters say what is there after a call: the two functions of their names take another word.
+CHOSEN = {"listAfter": "list_after_call", "workAfter": "work_after_call", "list-after": "list_after", "work-after": "work_after"}
 KEYWORDS = set("use mod module open let where in record data pub abbrev unfoldable unfolding elim λ".split())
 
 
@@ -94,7 +95,7 @@ def table(root):
     names, fields, words = declared(root)
     others = foreign(root)
     plain = {snake(n) for n in words | others if "-" not in n}
-    new = {n: respelled(n, plain) for n in names if re.search(r"[A-Za-z]", n) and "◌" not in n}
+    new = {n: respelled(n, plain) for n in names - CHOSEN.keys() if re.search(r"[A-Za-z]", n) and "◌" not in n}
     taken = {}
     for name in sorted(new, key=lambda n: (n not in words, new[n] != n, n)):
         if name in others:
@@ -105,7 +106,7 @@ def table(root):
         if new[name] in taken:
             raise SystemExit(f"respell: {name} and {taken[new[name]]} would both be {new[name]}")
         taken[new[name]] = name
-    return {name: to for name, to in new.items() if to != name}, fields
+    return {name: to for name, to in new.items() if to != name} | CHOSEN, fields
 
 
 def turn(path, turned, fields):

@@ -30,5 +30,5 @@ pub record CommandBytes (c : Call) : Type 0 where
   pub store_forwarded : (m : ℕ) → c.answer ≡ forwarded m → StoreBytes (left c) m c.store c.store_after
   pub store_blocked : (policy state : ℕ) → c.answer ≡ blocked policy state → c.store_after ≡ c.store
   pub store_refused : (number place : ℕ) → c.answer ≡ CommandAnswer.refused number place → c.store_after ≡ c.store
-  pub work_judged : NotRefused c → WorkBytes (work_needed (network (start_of c))) c.work c.work_after_lem
-  pub work_refused : (number place : ℕ) → c.answer ≡ CommandAnswer.refused number place → c.work_after_lem ≡ c.work
+  pub work_judged : NotRefused c → WorkBytes (work_needed (network (start_of c))) c.work c.work_after
+  pub work_refused : (number place : ℕ) → c.answer ≡ CommandAnswer.refused number place → c.work_after ≡ c.work

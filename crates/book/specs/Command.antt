@@ -13,12 +13,12 @@ pub record Call : Type 0 where
   pub given : List ℕ
   pub answer : CommandAnswer
   pub store_after : List ℕ
-  pub work_after_lem : List ℕ
+  pub work_after : List ℕ
 
 -- a call by its parts
 abbrev pub call : List ℕ → ℕ → List ℕ → List ℕ → CommandAnswer → List ℕ → List ℕ → Call
-call store n work given answer store_after work_after_lem =
-    record { store = store; count = n; work = work; given = given; answer = answer; store_after = store_after; work_after_lem = work_after_lem }
+call store n work given answer store_after work_after =
+    record { store = store; count = n; work = work; given = given; answer = answer; store_after = store_after; work_after = work_after }
 
 -- what was installed at the call
 abbrev pub start_of : Call → Installed
@@ -28,7 +28,7 @@ start_of c = record { count = c.count; bytes = c.store }
 pub record Promised (c : Call) : Type 0 where
   pub answered : c.answer ≡ (outcome_of (start_of c) c.given (length c.work)).answer
   pub stores : c.store_after ≡ (outcome_of (start_of c) c.given (length c.work)).after.bytes
-  pub works : c.work_after_lem ≡ command_work (start_of c) c.given c.work
+  pub works : c.work_after ≡ command_work (start_of c) c.given c.work
 
 -- the network that a call's command would leave
 abbrev pub left : Call → Net

@@ -4,7 +4,7 @@ use Rattle.book.specs.Answer.{CheckAnswer, CommandAnswer}
 use Rattle.book.specs.Check.{check_answer, check_work}
 use Rattle.book.specs.Reference.{outcome_of, command_work}
 use Rattle.trails.specs.Answer.{RouteAnswer}
-use Rattle.trails.specs.Call.{RouteCall, route_answer, list_after, work_after}
+use Rattle.trails.specs.Call.{RouteCall, route_answer, list_after_call, work_after_call}
 
 -- a case with its two numbers
 abbrev pub coded : ℕ → ℕ → ℕ → ℕ
@@ -29,18 +29,18 @@ route_code RouteAnswer.no_route = coded 1 0 0
 route_code (RouteAnswer.refused number place) = coded 2 number place
 
 -- the promise of the check call, its answer coded
-pub record CheckCoded (store : List ℕ) (n : ℕ) (work : List ℕ) (code : ℕ) (work_after_lem : List ℕ) : Type 0 where
+pub record CheckCoded (store : List ℕ) (n : ℕ) (work : List ℕ) (code : ℕ) (work_after : List ℕ) : Type 0 where
   pub answered : code ≡ check_code (check_answer store n (length work))
-  pub works : work_after_lem ≡ check_work store n work
+  pub works : work_after ≡ check_work store n work
 
 -- the promise of the command call, its answer coded
-pub record CommandCoded (store : List ℕ) (n : ℕ) (work given : List ℕ) (code : ℕ) (store_after work_after_lem : List ℕ) : Type 0 where
+pub record CommandCoded (store : List ℕ) (n : ℕ) (work given : List ℕ) (code : ℕ) (store_after work_after : List ℕ) : Type 0 where
   pub answered : code ≡ command_code (outcome_of (record { count = n; bytes = store }) given (length work)).answer
   pub stores : store_after ≡ (outcome_of (record { count = n; bytes = store }) given (length work)).after.bytes
-  pub works : work_after_lem ≡ command_work (record { count = n; bytes = store }) given work
+  pub works : work_after ≡ command_work (record { count = n; bytes = store }) given work
 
 -- the promise of the route call, its answer coded
-pub record RouteCoded (c : RouteCall) (code : ℕ) (list-after work_after_lem : List ℕ) : Type 0 where
+pub record RouteCoded (c : RouteCall) (code : ℕ) (list_after work_after : List ℕ) : Type 0 where
   pub answered : code ≡ route_code (route_answer c)
-  pub lists : list-after ≡ list_after c
-  pub works : work_after_lem ≡ work_after c
+  pub lists : list_after ≡ list_after_call c
+  pub works : work_after ≡ work_after_call c

@@ -21,15 +21,15 @@ pub record CodedCall : Type 0 where
   pub given : List ℕ
   pub code : ℕ
   pub store_after : List ℕ
-  pub work_after_lem : List ℕ
+  pub work_after : List ℕ
 
 -- it keeps its promise
 abbrev pub KeepsPromise : CodedCall → Type 0
-KeepsPromise c = CommandCoded c.store c.count c.work c.given c.code c.store_after c.work_after_lem
+KeepsPromise c = CommandCoded c.store c.count c.work c.given c.code c.store_after c.work_after
 
 -- the same call with its answer decoded
 abbrev pub decoded : CodedCall → Call
-decoded c = call c.store c.count c.work c.given (command_decoded c.code) c.store_after c.work_after_lem
+decoded c = call c.store c.count c.work c.given (command_decoded c.code) c.store_after c.work_after
 
 -- calls one after the other, each with the store that the one before left and the count last answered as forwarded
 pub data CodedSeries : Installed → List CodedCall → Installed → Type 0 where
@@ -42,8 +42,8 @@ pub data CodedSeries : Installed → List CodedCall → Installed → Type 0 whe
 pub record CodedHolds (i : Installed) : Type 0 where
   pub work : List ℕ
   pub code : ℕ
-  pub work_after_lem : List ℕ
-  pub promised : CheckCoded i.bytes i.count work code work_after_lem
+  pub work_after : List ℕ
+  pub promised : CheckCoded i.bytes i.count work code work_after
   pub holds : check_decoded code ≡ CheckAnswer.holds
 
 -- decoded, such a series is one of command calls
@@ -54,7 +54,7 @@ as_series (next c d rest) = Series.next (decoded c) (command_promised d) (as_ser
 -- a command call with its answer coded
 abbrev pub coded_as : Call → CodedCall
 coded_as c =
-    record { store = c.store; count = c.count; work = c.work; given = c.given; code = command_code c.answer; store_after = c.store_after; work_after_lem = c.work_after_lem }
+    record { store = c.store; count = c.count; work = c.work; given = c.given; code = command_code c.answer; store_after = c.store_after; work_after = c.work_after }
 
 code_back : (c : Call) → Promised c → command_decoded (command_code c.answer) ≡ c.answer
 code_back c d =

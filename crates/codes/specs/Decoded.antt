@@ -118,8 +118,8 @@ pub coded_even : {store : List ℕ} {n : ℕ} {work : List ℕ} {code : ℕ} {af
 coded_even d = check_even (check_promised d)
 
 -- and the exported command call the command call's
-pub command_promised : {store : List ℕ} {n : ℕ} {work given : List ℕ} {code : ℕ} {store_after work_after_lem : List ℕ}
-    → CommandCoded store n work given code store_after work_after_lem → Promised (call store n work given (command_decoded code) store_after work_after_lem)
+pub command_promised : {store : List ℕ} {n : ℕ} {work given : List ℕ} {code : ℕ} {store_after work_after : List ℕ}
+    → CommandCoded store n work given code store_after work_after → Promised (call store n work given (command_decoded code) store_after work_after)
 command_promised {store} {n} {work} {given} c =
     record {
       answered = ap command_decoded c.answered ∙ command_decoded_lem (record { count = n; bytes = store }) given (length work);
@@ -128,6 +128,6 @@ command_promised {store} {n} {work} {given} c =
     }
 
 -- and the exported route call the route call's
-pub route_promised : {c : RouteCall} {code : ℕ} {list-after work_after_lem : List ℕ} → RouteCoded c code list-after work_after_lem
-    → RoutePromised c (route_decoded code) list-after work_after_lem
+pub route_promised : {c : RouteCall} {code : ℕ} {list_after work_after : List ℕ} → RouteCoded c code list_after work_after
+    → RoutePromised c (route_decoded code) list_after work_after
 route_promised {c} r = record { answered = ap route_decoded r.answered ∙ route_decoded_lem c; lists = r.lists; works = r.works }

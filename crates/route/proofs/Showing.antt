@@ -37,7 +37,7 @@ use Rattle.trails.specs.InNet.{IsIn, route, route_is_meant, only_answer}
 use Rattle.trails.specs.Route.{Is}
 use Rattle.trails.specs.Laws.Meant.{is_same}
 use Rattle.trails.specs.Answer.{found, no_route, refused, route_answer_of}
-use Rattle.trails.specs.Call.{of_route, with_route, RouteCall, network_of, row14, row15, route_row, route_refusal, route_for, route_answer, list_after, work_after, RoutePromised}
+use Rattle.trails.specs.Call.{of_route, with_route, RouteCall, network_of, row14, row15, route_row, route_refusal, route_for, route_answer, list_after_call, work_after_call, RoutePromised}
 use Rattle.trace.specs.Search.{Searchable, Steps, Drawn, entries, Shown}
 
 -- two lists with the same bytes
@@ -177,7 +177,7 @@ module _ (c : RouteCall) where
 
   -- a refusal leaves the list and the work as they are
   pub route_refused : (number place : ℕ) → some (number, place) ≡ route_refusal c → RoutePromised c (refused number place) c.list c.work
-  unfolding route_answer list_after work_after
+  unfolding route_answer list_after_call work_after_call
   route_refused number place e = record { answered = rw (← e) refl; lists = rw (← e) refl; works = rw (← e) refl }
 
   pub refused_early : (number place : ℕ) → some (number, place) ≡ check_refusal c.store c.count (length c.work) → some (number, place) ≡ route_refusal c
@@ -204,9 +204,9 @@ module _ (c : RouteCall) where
         no_row h = rw (passed, lt-leb count c.start inside, lt-leb count c.end within, le-ltb (length c.list) (count + 1) h) refl
 
         -- what was shown is promised
-        pub route_shown : count + 1 ≤ length c.list → (r : Routed) (list-after work_after_lem : List ℕ)
-            → Shown (network_of c) c.start c.end c.work c.list r list-after work_after_lem → RoutePromised c (route_answer_of r) list-after work_after_lem
-        unfolding route_answer list_after work_after route_for
-        route_shown h r list-after work_after_lem S =
+        pub route_shown : count + 1 ≤ length c.list → (r : Routed) (list_after work_after : List ℕ)
+            → Shown (network_of c) c.start c.end c.work c.list r list_after work_after → RoutePromised c (route_answer_of r) list_after work_after
+        unfolding route_answer list_after_call work_after_call route_for
+        route_shown h r list_after work_after S =
             let e = no_row h in
             record { answered = rw (← e) S.answer; lists = rw (← e) S.lists; works = rw (← e) S.works }

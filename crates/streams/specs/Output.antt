@@ -20,15 +20,15 @@ unfoldable pub start_answer : Net → CheckAnswer
 start_answer net = let i = installed_at_start net in check_answer i.bytes i.count work_bytes
 
 -- the check call with the program's work: its answer, and the work after it
-pub record CheckIs (store : List ℕ) (n : ℕ) (work : List ℕ) (answer : CheckAnswer) (work_after_lem : List ℕ) : Type 0 where
+pub record CheckIs (store : List ℕ) (n : ℕ) (work : List ℕ) (answer : CheckAnswer) (work_after : List ℕ) : Type 0 where
   pub answered : answer ≡ check_answer store n work_bytes
-  pub works : work_after_lem ≡ check_work store n work
+  pub works : work_after ≡ check_work store n work
 
 -- one command with the program's work: its answer, what is installed after it, and the work after it
-pub record OutcomeIs (before : Installed) (c : Rec) (work : List ℕ) (answer : CommandAnswer) (after : Installed) (work_after_lem : List ℕ) : Type 0 where
+pub record OutcomeIs (before : Installed) (c : Rec) (work : List ℕ) (answer : CommandAnswer) (after : Installed) (work_after : List ℕ) : Type 0 where
   pub answered : answer ≡ (outcome_of before c work_bytes).answer
   pub left : after ≡ (outcome_of before c work_bytes).after
-  pub works : work_after_lem ≡ command_work before c work
+  pub works : work_after ≡ command_work before c work
 
 -- each command's line, from a number on
 unfoldable pub answer_lines : ℕ → Installed → List Rec → List ℕ

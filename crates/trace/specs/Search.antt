@@ -79,7 +79,7 @@ pub record Drawn (work : List ℕ) (pitch a b : ℕ) (before : List ℕ) (count 
   pub written : after ≡ with_route answer before
 
 -- the answer of a network that no row refuses, the list with the route, and the work that a verdict needs zero
-pub record Shown (net : Net) (a b : ℕ) (work list : List ℕ) (r : Routed) (list-after work_after_lem : List ℕ) : Type 0 where
+pub record Shown (net : Net) (a b : ℕ) (work list : List ℕ) (r : Routed) (list_after work_after : List ℕ) : Type 0 where
   pub answer : route_answer_of r ≡ of_route (route net a b)
-  pub lists : list-after ≡ with_route (route net a b) list
-  pub works : work_after_lem ≡ cleared (work_needed net) work
+  pub lists : list_after ≡ with_route (route net a b) list
+  pub works : work_after ≡ cleared (work_needed net) work

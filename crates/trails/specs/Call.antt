@@ -63,15 +63,15 @@ unfoldable pub route_answer : RouteCall → RouteAnswer
 route_answer c = unless (route_refusal c) refused (of_route (route_for c))
 
 -- the list after the call: untouched by a refusal, and else with the route
-unfoldable pub list_after : RouteCall → List ℕ
-list_after c = unless (route_refusal c) (λ number place. c.list) (with_route (route_for c) c.list)
+unfoldable pub list_after_call : RouteCall → List ℕ
+list_after_call c = unless (route_refusal c) (λ number place. c.list) (with_route (route_for c) c.list)
 
 -- the work buffer after the call: untouched by a refusal, and else the length that a verdict needs is all zero
-unfoldable pub work_after : RouteCall → List ℕ
-work_after c = unless (route_refusal c) (λ number place. c.work) (cleared (work_needed (network_of c)) c.work)
+unfoldable pub work_after_call : RouteCall → List ℕ
+work_after_call c = unless (route_refusal c) (λ number place. c.work) (cleared (work_needed (network_of c)) c.work)
 
 -- the promise of the route call: its answer, and the list and the work buffer after it; the store is only read
-pub record RoutePromised (c : RouteCall) (answer : RouteAnswer) (list-after work_after_lem : List ℕ) : Type 0 where
+pub record RoutePromised (c : RouteCall) (answer : RouteAnswer) (list_after work_after : List ℕ) : Type 0 where
   pub answered : answer ≡ route_answer c
-  pub lists : list-after ≡ list_after c
-  pub works : work_after_lem ≡ work_after c
+  pub lists : list_after ≡ list_after_call c
+  pub works : work_after ≡ work_after_call c

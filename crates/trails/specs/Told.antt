@@ -16,7 +16,7 @@ use Rattle.book.specs.Laws.Bytes.{cleared_bytes}
 use Rattle.book.specs.Laws.Refusals.{Checks, checks}
 use Rattle.trails.specs.InNet.{RouteIn, IsIn, route_length, route, route_is_meant}
 use Rattle.trails.specs.Answer.{RouteAnswer, found, no_route, refused}
-use Rattle.trails.specs.Call.{RouteCall, network_of, row14, row15, route_row, route_refusal, route_for, of_route, with_route, route_answer, list_after, work_after, RoutePromised}
+use Rattle.trails.specs.Call.{RouteCall, network_of, row14, row15, route_row, route_refusal, route_for, of_route, with_route, route_answer, list_after_call, work_after_call, RoutePromised}
 
 -- the list has the states of a route, and behind them its own entries
 pub record Listed (l before after : List ℕ) : Type 0 where
@@ -25,12 +25,12 @@ pub record Listed (l before after : List ℕ) : Type 0 where
   pub behind : (j : ℕ) → length l ≤ j → get_or after j 0 ≡ get_or before j 0
 
 -- what each answer tells of the network, of the list and of the work buffer
-pub record Told (c : RouteCall) (answer : RouteAnswer) (list-after work_after_lem : List ℕ) : Type 0 where
+pub record Told (c : RouteCall) (answer : RouteAnswer) (list_after work_after : List ℕ) : Type 0 where
   pub if_found : (count : ℕ) → answer ≡ found count
-      → (l : List ℕ) × RouteIn (network_of c) c.start c.end l × (length l ≡ count) × Listed l c.list list-after
-  pub if_none : answer ≡ no_route → (Walk (states (widths_of (network_of c))) (Step (network_of c)) c.start c.end → ⊥) × (list-after ≡ c.list)
-  pub if_refused : (number place : ℕ) → answer ≡ refused number place → (list-after ≡ c.list) × (work_after_lem ≡ c.work)
-  pub work_judged : ((number place : ℕ) → answer ≡ refused number place → ⊥) → WorkBytes (work_needed (network_of c)) c.work work_after_lem
+      → (l : List ℕ) × RouteIn (network_of c) c.start c.end l × (length l ≡ count) × Listed l c.list list_after
+  pub if_none : answer ≡ no_route → (Walk (states (widths_of (network_of c))) (Step (network_of c)) c.start c.end → ⊥) × (list_after ≡ c.list)
+  pub if_refused : (number place : ℕ) → answer ≡ refused number place → (list_after ≡ c.list) × (work_after ≡ c.work)
+  pub work_judged : ((number place : ℕ) → answer ≡ refused number place → ⊥) → WorkBytes (work_needed (network_of c)) c.work work_after
 
 -- the entries of a list with a route in it
 listed : (l list : List ℕ) → length l ≤ length list → Listed l list (l ++ drop (length l) list)
@@ -51,12 +51,12 @@ no_answer : {A : Type 0} → ◌≡◌ {A = ℕ} 0 1 → A
 no_answer e = absurd (omega (arith, e))
 
 -- every answer that is promised tells this
-pub told : (c : RouteCall) (answer : RouteAnswer) (list-after work_after_lem : List ℕ) → RoutePromised c answer list-after work_after_lem → Told c answer list-after work_after_lem
-unfolding route_answer list_after work_after route_refusal route_row row15 route_for
-told c answer list-after work_after_lem p =
-    subst⁻¹ (λ (a : RouteAnswer). Told c a list-after work_after_lem) p.answered
-    (subst⁻¹ (λ (l : List ℕ). Told c (route_answer c) l work_after_lem) p.lists
-    (subst⁻¹ (Told c (route_answer c) (list_after c)) p.works
+pub told : (c : RouteCall) (answer : RouteAnswer) (list_after work_after : List ℕ) → RoutePromised c answer list_after work_after → Told c answer list_after work_after
+unfolding route_answer list_after_call work_after_call route_refusal route_row row15 route_for
+told c answer list_after work_after p =
+    subst⁻¹ (λ (a : RouteAnswer). Told c a list_after work_after) p.answered
+    (subst⁻¹ (λ (l : List ℕ). Told c (route_answer c) l work_after) p.lists
+    (subst⁻¹ (Told c (route_answer c) (list_after_call c)) p.works
     (go (check_refusal c.store c.count (length c.work)) refl (row14 net c.start c.end) (row15 net (length c.list)) refl (route net c.start c.end) (route_is_meant net c.start c.end))))
   where
     net : Net

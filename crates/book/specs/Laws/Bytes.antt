@@ -147,14 +147,14 @@ module _ (i : Installed) (c : Rec) (work : List ℕ) where
 
 -- a call with another answer, store after and work after
 abbrev with_left : Call → CommandAnswer → List ℕ → List ℕ → Call
-with_left c answer store_after work_after_lem = call c.store c.count c.work c.given answer store_after work_after_lem
+with_left c answer store_after work_after = call c.store c.count c.work c.given answer store_after work_after
 
 -- the command call
 pub command_bytes : (c : Call) → Promised c → CommandBytes c
 unfolding outcome_of command_work
 command_bytes c d =
     let o = outcome_of (start_of c) c.given (length c.work) in
-    subst⁻¹ (λ (a : CommandAnswer). CommandBytes (with_left c a c.store_after c.work_after_lem)) d.answered
-    (subst⁻¹ (λ (s : List ℕ). CommandBytes (with_left c o.answer s c.work_after_lem)) d.stores
+    subst⁻¹ (λ (a : CommandAnswer). CommandBytes (with_left c a c.store_after c.work_after)) d.answered
+    (subst⁻¹ (λ (s : List ℕ). CommandBytes (with_left c o.answer s c.work_after)) d.stores
     (subst⁻¹ (λ (w : List ℕ). CommandBytes (with_left c o.answer o.after.bytes w)) d.works
     (leaves_bytes (start_of c) c.given c.work (command_refusal c.store c.count (length c.work) c.given) refl (verdict (left c)))))

@@ -39,7 +39,7 @@ check_is {store} {n} d w = record { answered = d.answered ∙ ap (check_answer s
 
 -- a command call that keeps its promise, with the program's work, and the count last answered as forwarded
 pub outcome_is : (c : Call) → Promised c → length c.work ≡ work_bytes → (count : ℕ) → count ≡ count_after c.count c.answer
-    → OutcomeIs (start_of c) c.given c.work c.answer (installed_with count c.store_after) c.work_after_lem
+    → OutcomeIs (start_of c) c.given c.work c.answer (installed_with count c.store_after) c.work_after
 outcome_is c d w count e =
     record {
       answered = d.answered ∙ ap (λ (k : ℕ). (outcome_of (start_of c) c.given k).answer) w;
