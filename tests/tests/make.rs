@@ -168,7 +168,11 @@ fn what_is_not_proved_is_not_taken_for_proved() {
     for _ in 0..2 {
         let made = project.make();
         assert!(!made.ended_well);
-        assert!(made.calls.len() == 1 && made.calls[0].starts_with("rt all check"), "{:?}", made.calls);
+        assert!(
+            made.calls.len() == 1 && made.calls[0].starts_with("rt all check"),
+            "{:?}",
+            made.calls
+        );
         assert!(made.written.contains("records: failed"), "{}", made.written);
     }
 }
