@@ -168,6 +168,20 @@ fn theorems_exist() {
 }
 
 #[test]
+fn names_each_edit() {
+    let crates = root().join("crates");
+    let mut edits = BTreeSet::new();
+    for folder in entries(&crates).unwrap() {
+        let files = entries(&crates.join(&folder).join("must-fail")).unwrap_or_default();
+        let labels = files.iter().filter_map(|file| file.strip_suffix(".edit"));
+        edits.extend(labels.map(|label| format!("{folder}/{label}")));
+    }
+    let document = document();
+    let named: BTreeSet<String> = document.edits().unwrap().iter().map(|e| e.to_string()).collect();
+    assert_eq!(named, edits);
+}
+
+#[test]
 fn has_the_index_of_the_edits() {
     let edits = edits::read(&root()).unwrap();
     let made = edits::with_index(&text(), &edits::index(&edits)).unwrap();

@@ -5,6 +5,7 @@ pub mod Answer
 pub mod Check
 pub mod Reference
 pub mod Command
+pub mod ByResult
 pub mod AsAdd
 pub mod Bytes
 pub mod Laws
