@@ -4,6 +4,7 @@
 use std::io::Write;
 use std::path::PathBuf;
 use std::process::{Command, Output, Stdio};
+use std::sync::atomic::{AtomicUsize, Ordering};
 
 /// Network K and its two adds as a text.
 pub const K: &str = concat!(env!("CARGO_MANIFEST_DIR"), "/../examples/k/network.txt");
@@ -62,12 +63,17 @@ pub fn complains(arguments: &[&str], input: &[u8], status: i32, words: &str) {
     assert!(ran.said.contains(words), "{arguments:?}: {}", ran.said);
 }
 
-/// A file of its own with these bytes.
+/// A file of its own with these bytes. It is there whole at once, as tests that run side by side may
+/// write the same.
 pub fn file(name: &str, bytes: &[u8]) -> String {
+    static WRITTEN: AtomicUsize = AtomicUsize::new(0);
     let folder = PathBuf::from(env!("CARGO_TARGET_TMPDIR"));
     std::fs::create_dir_all(&folder).unwrap();
     let path = folder.join(format!("{name}-{}", std::process::id()));
-    std::fs::write(&path, bytes).unwrap();
+    let number = WRITTEN.fetch_add(1, Ordering::Relaxed);
+    let part = folder.join(format!("part-{}-{number}", std::process::id()));
+    std::fs::write(&part, bytes).unwrap();
+    std::fs::rename(&part, &path).unwrap();
     path.to_str().unwrap().to_string()
 }
 
