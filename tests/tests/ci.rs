@@ -90,7 +90,7 @@ fn what_fails_is_told() {
     assert_eq!(last_line(&[("PROOFS", "4 passed, 1 failed")]), Err("4 passed, 1 failed".into()));
     let cut = last_line(&[("PROOFS", "cut")]);
     assert_eq!(cut, Err("the proofs end without 'N passed, 0 failed'".into()));
-    let bad = "rt: ok: 2 crates proved; must-fail edits: 3 refused, 1 bad\n5 passed, 0 failed";
+    let bad = "rt: ok; must-fail edits: 3 refused, 1 bad; the others are kept\n5 passed, 0 failed";
     let told = "an edit that the prover must refuse cannot be applied or read";
     assert_eq!(last_line(&[("PROOFS", bad)]), Err(told.into()));
     for part in ["fmt", "clippy", "test"] {
