@@ -8,6 +8,7 @@ use wegbaro_tests::reading::code;
 use wegbaro_tests::reading::document::{Document, Pinned};
 use wegbaro_tests::reading::edits::{self, Edit, BEGIN, END};
 use wegbaro_tests::reading::sources::{entries, listed, Place, Sources};
+use wegbaro_tests::reading::specs;
 use wegbaro_tests::reading::walk::{walk, Stop};
 
 /// Where the walk ends. What these compute is not believed but proved to be what is meant.
@@ -150,12 +151,8 @@ fn names_each_export() {
 #[test]
 fn names_each_promise_that_requires_nothing() {
     let (sources, document) = (sources(), document());
-    let requires = |path: &str| {
-        let place = sources.function(path).unwrap();
-        sources.files[&place.file].functions[&place.name].body.contains("requires")
-    };
-    let promised = document.promised().unwrap();
-    let free: BTreeSet<&str> = promised.into_iter().filter(|path| !requires(path)).collect();
+    let free = |path: &&str| sources.requires_nothing(&sources.function(path).unwrap()).unwrap();
+    let free: BTreeSet<&str> = document.promised().unwrap().into_iter().filter(free).collect();
     assert_eq!(document.unconditional().unwrap(), free);
 }
 
@@ -268,6 +265,134 @@ fn call(size: Size, part: Part)
     assert_eq!(uses, ["crates/low/src/parts.rt: Part", "crates/low/src/lib.rt: Size"]);
     let clauses = " requires { size < 8 } requires { part < 8 } ensures { result }";
     assert_eq!(file.functions["call"].body, clauses);
+}
+
+#[test]
+fn reads_types_methods_and_what_holds_of_them() {
+    let text = "pub mod parts;
+
+use low::parts::Part;
+
+const MOST: usize = 80;
+
+pub struct Empty;
+
+pub struct Line<'a> {
+    bytes: &'a [u8; low::SIZE],
+    pub ghost short: { few bytes },
+}
+
+impl<'a, F: Fn(u8) -> u8> Model for Line<'a, F> {
+    ghost view = { λ l. shown l };
+
+    pub(crate) fn first<'b>(&'b self) -> Part
+        requires { some self }
+    {
+        inner()
+    }
+}
+
+fn first<F: Fn(u8) -> Part>(line: &Line, f: F) -> Part
+    ensures { result }
+{
+";
+    let file = code::parse("high/src/lib.rt", text).unwrap();
+    let uses: Vec<String> = file.uses.values().map(Place::to_string).collect();
+    assert_eq!(uses, ["crates/low/src/parts.rt: Part", "crates/low/src/lib.rt: SIZE"]);
+    let defined: Vec<&String> = file.definitions.keys().collect();
+    assert_eq!(defined, ["Empty", "Line", "MOST"]);
+    assert_eq!(file.definitions["Empty"].body, " pub struct Empty;");
+    for part in ["{ few bytes }", "{ λ l. shown l }"] {
+        assert!(file.definitions["Line"].body.contains(part), "{part}");
+    }
+    assert_eq!(file.held, BTreeSet::from(["Line".to_string()]));
+    let functions: Vec<&String> = file.functions.keys().collect();
+    assert_eq!(functions, ["Line::first", "first"]);
+    let method = &file.functions["Line::first"];
+    assert_eq!(method.body, " requires { some self }");
+    assert!(method.statement.ends_with("fn first<'b>(&'b self) -> Part { Line"), "{method:?}");
+    assert_eq!(code::parameters(&file.functions["first"].statement), "(line: &Line, f: F)");
+}
+
+#[test]
+fn refuses_code_that_it_cannot_read() {
+    for text in ["use low::*;", "use low::Size as Width;", "use low::{", "ghost use Rattle.low;"] {
+        assert!(code::parse("high/src/lib.rt", text).is_err(), "{text}");
+    }
+    let held = "impl Model for Size {\n    ghost view = { λ s. s };\n}\n";
+    assert!(code::parse("high/src/lib.rt", held).is_err());
+    assert!(code::parse("high/src/lib.rt", &format!("struct Size;\n{held}")).is_ok());
+}
+
+#[test]
+fn counts_what_holds_of_a_type_as_required() {
+    let mut sources = Sources::default();
+    let low = "pub struct Plain {
+    n: u8,
+}
+
+pub struct Held {
+    ghost small: { n },
+}
+
+pub struct Modelled;
+
+impl Model for Modelled {
+    ghost invariant = { λ m. m };
+}
+
+impl Modelled {
+    pub fn own(self)
+        ensures { self }
+    {
+    }
+}
+
+pub enum Deep {
+    Is(Held),
+}
+";
+    let high = "use low::{Deep, Held, Modelled, Plain};
+
+fn plain(p: Plain) -> Held
+    ensures { p }
+{
+}
+
+fn asks(p: Plain)
+    requires { p }
+    ensures { p }
+{
+}
+
+fn held(h: &Held)
+    ensures { h }
+{
+}
+
+fn modelled(m: Modelled)
+    ensures { m }
+{
+}
+
+fn deep<'a, F: Fn(u8) -> u8>(f: F, d: &'a Option<Deep>)
+    ensures { d }
+{
+}
+";
+    sources.add("low/src/lib.rt", low).unwrap();
+    sources.add("high/src/lib.rt", high).unwrap();
+    for (path, free) in [
+        ("high::plain", true),
+        ("high::asks", false),
+        ("high::held", false),
+        ("high::modelled", false),
+        ("high::deep", false),
+        ("low::Modelled::own", false),
+    ] {
+        let place = sources.function(path).unwrap();
+        assert_eq!(sources.requires_nothing(&place), Ok(free), "{path}");
+    }
 }
 
 /// A call of a crate `high`, whose promise goes over the names of a crate `low`.
@@ -432,6 +557,58 @@ fn follows_a_change_of_the_files() {
     one(small(SAME, third, &[]), used);
     let unused = "crates/low/specs/Base.antt: Shape is named, and no promise uses it";
     one(small(SAME, ("square n", "n"), &[]), unused);
+}
+
+#[test]
+fn follows_what_holds_of_a_type_its_model_its_constants_and_its_methods() {
+    let extra = |user: &str| {
+        format!(
+            "crates/low/specs/Base.antt: extra is used by {user} (low/src/lib.rt), and not named"
+        )
+    };
+    let taken = "ghost use Rattle.low.specs.Base.{extra};\n\npub struct Size {\n    bits: u8,";
+    let size = "pub struct Size {\n    bits: u8,";
+    let held = format!("{taken}\n    pub ghost few: {{ extra }},");
+    one(small(SAME, (size, &held), &[]), &extra("Size"));
+    for member in [
+        "impl Model for Size {\n    ghost view = { λ s. extra };",
+        "impl Model for Size {\n    ghost invariant =\n        { λ s. extra };",
+        "impl<'a> From<&'a u8> for Size {\n    ghost from_gives = { extra };",
+    ] {
+        let modelled = format!("{taken}\n}}\n\n{member}");
+        one(small(SAME, (size, &modelled), &[]), &extra("Size"));
+    }
+    let method = format!(
+        "{taken}\n}}\n\nimpl Size {{\n    pub fn get(&self) -> u8\n        ensures {{ extra }}\n    {{"
+    );
+    let promised = ("| `run` | `Kept` |", "| `run` | `Kept` |\n| `low::Size::get` | `extra` |");
+    one(small(promised, (size, &method), &[]), &extra("Size::get"));
+    assert_eq!(small(SAME, (size, &method), &[]), Ok(vec![]));
+
+    let most = "crates/low/src/lib.rt: MOST is used by";
+    let array = "const MOST: usize = 8;\n\npub struct Size {\n    bits: [u8; MOST],";
+    one(small(SAME, (size, array), &[]), &format!("{most} Size (low/src/lib.rt), and not named"));
+    let constant = format!("const MOST: usize = 8;\n\n{size}");
+    assert_eq!(small(SAME, (size, &constant), &[]), Ok(vec![]));
+    let path = ("run(size: Size)", "run(size: Size, by: low::parts::Part)");
+    assert!(small(SAME, path, &[]).is_err());
+    let path = ("run(size: Size)", "run(size: low::Size)");
+    assert_eq!(small(SAME, path, &[]), Ok(vec![]));
+}
+
+#[test]
+fn finds_what_is_declared() {
+    for (path, name, file) in [
+        ("Rattle.low.specs.declared.Size", "Size", "low/src/lib.rt: Size"),
+        ("Rattle.low.specs.declared.parts.Part", "Part", "low/src/parts.rt: Part"),
+        ("Rattle.low.specs.declared.parts.Part.TheVariants", "Bit", "low/src/parts.rt: Part"),
+        ("Rattle.low.specs.declared.parts.TheConstants", "MOST", "low/src/parts.rt: MOST"),
+        ("Rattle.low.specs.declared.TheConstants", "MOST", "low/src/lib.rt: MOST"),
+        ("Rattle.low.specs.declared.Size.TheConstants", "MOST", "low/src/lib.rt: Size"),
+    ] {
+        let place = specs::used(path, name).unwrap();
+        assert_eq!(place.to_string(), format!("crates/{file}"), "{path}");
+    }
 }
 
 #[test]

@@ -1,11 +1,16 @@
 -- Rows 12, 16 and 13 by what a command fails, and the first that refuses it.
-use borrow.Author.Tests.{eq-eqb, ne_eqb, lt-ltb, le-ltb, le-leb, lt-leb}
+use borrow.Author.Tests.{eq-eqb, ne_eqb, le-ltb, le-leb, lt-leb}
 use mathlib.Core.Path.{◌≡◌, ◌∙◌}
 use mathlib.Core.Bool.{true, false, not, and-true, and-false, or-true}
 use mathlib.Core.Option.{none, some}
 use Prim.Native.Nat.{◌≤◌, ◌<◌}
 use lib.ListN.{length}
-use Rattle.format.specs.Record.{Rec, Net, kind, of_kind, present, widths_of}
+use native.Mathlib.Decide.{dec_lt}
+use native.Mathlib.Omega.{arith}
+use Rattle.format.specs.Record.{Rec, Net, kind, command_kind, of_kind, present, widths_of}
+use Rattle.format.specs.declared.kinds.CommandKind.TheVariants.{Unknown as k_no_command}
+use Rattle.widths.specs.declared.Widths.{Widths}
+use Rattle.effect.specs.Laws.Applied.{no_command}
 use Rattle.refusals.specs.Rows.{row12, row13, row16_command}
 use Rattle.format.specs.Fields.{command_good}
 use Rattle.refusals.specs.Refusal.{command_row}
@@ -16,17 +21,25 @@ module _ (net : Net) (c : Rec) where
   unfolding row12
   wrong_length h = rw (ne_eqb _ _ h)
 
-  pub low_kind : kind c < 6 → row12 net c ≡ true
-  unfolding row12
-  low_kind h = simp (lt-ltb _ _ h, or-true)
+  unnamed : (w : Widths) → command_kind (kind c) ≡ k_no_command → command_good w c ≡ false
+  unfolding command_good
+  unnamed w e = rw (e, and-false)
 
-  pub high_kind : 8 < kind c → row12 net c ≡ true
-  unfolding row12
-  high_kind h = simp (lt-ltb _ _ h, or-true)
+  low_kind : kind c < 6 → command_kind (kind c) ≡ k_no_command
+  low_kind h = no_command (kind c) (λ e. omega arith) (λ e. omega arith) (λ e. omega arith)
 
-  pub by_fields : length c ≡ 24 → 6 ≤ kind c → kind c ≤ 8 → row12 net c ≡ not (command_good (widths_of net) c)
+  high_kind : 8 < kind c → command_kind (kind c) ≡ k_no_command
+  high_kind h = no_command (kind c) (λ e. omega arith) (λ e. omega arith) (λ e. omega arith)
+
+  -- good fields have one of the three kinds
+  pub by_fields : length c ≡ 24 → row12 net c ≡ not (command_good (widths_of net) c)
   unfolding row12
-  by_fields l h k = rw (eq-eqb _ _ l, le-ltb _ _ h, le-ltb _ _ k)
+  by_fields l = go (dec_lt (kind c) 6) (dec_lt 8 (kind c))
+    where
+      go : Dec (kind c < 6) → Dec (8 < kind c) → row12 net c ≡ not (command_good (widths_of net) c)
+      go (yes h) d = simp (unnamed (widths_of net) (low_kind h), or-true)
+      go (no h) (yes k) = simp (unnamed (widths_of net) (high_kind k), or-true)
+      go (no h) (no k) = rw (eq-eqb _ _ l, le-ltb (kind c) 6 (omega arith), le-ltb 8 (kind c) (omega arith))
 
   pub no_add : adds_new net c ≡ false → row13 net c ≡ false
   no_add h = row_13 net c ∙ rw h

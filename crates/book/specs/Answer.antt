@@ -1,9 +1,10 @@
 -- What the two calls answer, in document 01's words.
-use Rattle.std.specs.Prelude.{ℕ}
-use Rattle.book.specs.declared.Checked.{Checked}
-use Rattle.book.specs.declared.Checked.TheVariants.{Holds, Violated, Refused}
+use Rattle.std.specs.Prelude.{ℕ, Option, None, Some, Result, Ok, Err}
+use Rattle.refusals.specs.Numbers.{row_number}
+use Rattle.refusals.specs.declared.Refused.{Refused}
+use Rattle.judgement.specs.declared.Violation.{Violation}
 use Rattle.book.specs.declared.Commanded.{Commanded}
-use Rattle.book.specs.declared.Commanded.TheVariants as commanded
+use Rattle.book.specs.declared.Commanded.TheVariants.{Forwarded, Blocked}
 
 -- the check call: holds; violated, with policy and state; refused, with number and place
 pub data CheckAnswer : Type 0 where
@@ -17,14 +18,14 @@ pub data CommandAnswer : Type 0 where
   blocked : ℕ → ℕ → CommandAnswer
   refused : ℕ → ℕ → CommandAnswer
 
--- what each case of the check call's enum stands for
-abbrev pub check_answer_of : Checked → CheckAnswer
-check_answer_of Holds = CheckAnswer.holds
-check_answer_of (Violated policy state) = CheckAnswer.violated policy state
-check_answer_of (Refused number place) = CheckAnswer.refused number place
+-- what each case of the check call's result stands for
+abbrev pub check_answer_of : Result (Option Violation) Refused → CheckAnswer
+check_answer_of (Ok None) = CheckAnswer.holds
+check_answer_of (Ok (Some v)) = CheckAnswer.violated v.policy v.state
+check_answer_of (Err r) = CheckAnswer.refused (row_number r.row) r.place
 
--- what each case of the command call's enum stands for
-abbrev pub command_answer_of : Commanded → CommandAnswer
-command_answer_of (commanded.Forwarded count) = CommandAnswer.forwarded count
-command_answer_of (commanded.Blocked policy state) = CommandAnswer.blocked policy state
-command_answer_of (commanded.Refused number place) = CommandAnswer.refused number place
+-- what each case of the command call's result stands for
+abbrev pub command_answer_of : Result Commanded Refused → CommandAnswer
+command_answer_of (Ok (Forwarded count)) = CommandAnswer.forwarded count
+command_answer_of (Ok (Blocked v)) = CommandAnswer.blocked v.policy v.state
+command_answer_of (Err r) = CommandAnswer.refused (row_number r.row) r.place

@@ -1,18 +1,11 @@
-// The check call and the command call: specifications only, with the types of their answers.
+// The check call and the command call: specifications only, with the type of the command call's answers.
 #![tactic(auto)]
 
-// What the check call answers.
-#[derive(Clone, Copy)]
-pub enum Checked {
-    Holds,
-    Violated { policy: usize, state: usize },
-    Refused { number: usize, place: usize },
-}
+use judgement::Violation;
 
-// What the command call answers.
+// What the command call answers to a command that no row refuses.
 #[derive(Clone, Copy)]
 pub enum Commanded {
     Forwarded { count: usize },
-    Blocked { policy: usize, state: usize },
-    Refused { number: usize, place: usize },
+    Blocked(Violation),
 }

@@ -14,14 +14,12 @@ use Rattle.scan.specs.Layout.{LayoutOf}
 use Rattle.format.specs.declared.Version.{Version}
 use Rattle.scan.specs.declared.Layout.{Layout}
 use Rattle.format.specs.Laws.Records.{length_flat, length_records}
-use Rattle.verdict.specs.declared.judge.Judged.{Judged}
-use Rattle.verdict.specs.declared.judge.Judged.TheVariants as judged
+use Rattle.std.specs.Prelude.{Option as Answered, Some as Broken, None as Whole, Ok}
+use Rattle.judgement.specs.declared.Violation.{Violation}
 use Rattle.judgement.specs.Verdict.{Verdict, holds, violated}
 use Rattle.judgement.specs.Judgement.{verdict}
 use Rattle.verdict.specs.Judge.{verdict_of, Judgeable, Judges}
-use Rattle.book.specs.declared.Checked.{Checked}
 use Rattle.book.specs.Answer.{CheckAnswer, CommandAnswer, forwarded, blocked, check_answer_of}
-use Rattle.calls.specs.Verdicts.{checked_as}
 use Rattle.effect.specs.Apply.{applied}
 use Rattle.commands.specs.Effect.{padded, BufferRoom, Built}
 use Rattle.admission.specs.Admission.{Known}
@@ -40,9 +38,9 @@ pub judgeable : (store work : List ℕ) (n : ℕ) (l : Layout) → n * 24 ≤ le
     → file_row [] (records n store) ≡ none → work_needed (records n store) ≤ length work → Judgeable n l store work
 judgeable store work n l room laid passes enough = record { clean = record { room = room; laid = laid; passes = passes }; room = enough }
 
-same_answer : (j : Judged) → check_answer_of (checked_as j) ≡ of_verdict (verdict_of j)
-same_answer judged.Holds = refl
-same_answer (judged.Violated p x) = refl
+same_answer : (j : Answered Violation) → check_answer_of (Ok j) ≡ of_verdict (verdict_of j)
+same_answer Whole = refl
+same_answer (Broken v) = refl
 
 -- the check call
 module _ (store : List ℕ) (n : ℕ) (work : List ℕ) where
@@ -50,17 +48,12 @@ module _ (store : List ℕ) (n : ℕ) (work : List ℕ) where
   unfolding check_answer check_work
   check_refused k p e = record { answered = rw (← e) refl; works = rw (← e) refl }
 
-  pub check_ready : none ≡ check_refusal store n (length work) → (l : Layout) → LayoutOf (records n store) l → Judgeable n l store work
-  check_ready e l laid =
-      let c = checks store n (length work) (sym e) in
-      judgeable store work n l (omega (arith, c.arguments.few, c.arguments.long)) laid c.file c.enough
-
-  pub check_judged : none ≡ check_refusal store n (length work) → (j : Judged) (r : Checked) (after : List ℕ) → r ≡ checked_as j
-      → Judges (records n store) work j after → CheckPromised store n work (check_answer_of r) after
+  pub check_judged : check_refusal store n (length work) ≡ none → (j : Answered Violation) (after : List ℕ)
+      → Judges (records n store) work j after → CheckPromised store n work (check_answer_of (Ok j)) after
   unfolding check_answer check_work cleared
-  check_judged e j r after q J = record {
-    answered = rw (← e) (ap check_answer_of q ∙ same_answer j ∙ ap of_verdict J.answer);
-    works = rw (← e) J.work;
+  check_judged e j after J = record {
+    answered = rw e (same_answer j ∙ ap of_verdict J.answer);
+    works = rw e J.work;
   }
 
 -- which of the rows refuses a command
@@ -155,7 +148,7 @@ module _ (store : List ℕ) (n : ℕ) (work : List ℕ) (given : Rec) (e : comma
     unfolding outcome_of
     stepped v q = rw (e, ← same, q) refl
 
-    module _ (j : Judged) (after : List ℕ) (J : Judges (records count next) work j after) where
+    module _ (j : Answered Violation) (after : List ℕ) (J : Judges (records count next) work j after) where
       verdict_is : verdict result ≡ verdict_of j
       verdict_is = sym (J.answer ∙ ap verdict read)
 
@@ -163,17 +156,17 @@ module _ (store : List ℕ) (n : ℕ) (work : List ℕ) (given : Rec) (e : comma
       unfolding command_work cleared
       work_is = J.work ∙ ap (λ (k : ℕ). replicate k 0 ++ drop k work) same_work ∙ rw e refl
 
-      pub command_blocked : (p x : ℕ) → j ≡ judged.Violated p x → Promised (call store n work given (blocked p x) store after)
+      pub command_blocked : (v : Violation) → j ≡ Broken v → Promised (call store n work given (blocked v.policy v.state) store after)
       unfolding judgedStep
-      command_blocked p x q =
-          let s = stepped (violated p x) (verdict_is ∙ ap verdict_of q) in
+      command_blocked v q =
+          let s = stepped (violated v.policy v.state) (verdict_is ∙ ap verdict_of q) in
           record {
             answered = sym (ap (λ (o : Outcome). o.answer) s);
             stores = sym (ap (λ (o : Outcome). o.after.bytes) s);
             works = work_is;
           }
 
-      pub command_forwarded : (store' : List ℕ) → j ≡ judged.Holds → store' ≡ next ++ drop store_bytes store
+      pub command_forwarded : (store' : List ℕ) → j ≡ Whole → store' ≡ next ++ drop store_bytes store
           → Promised (call store n work given (forwarded count) store' after)
       unfolding judgedStep
       command_forwarded store' q b =

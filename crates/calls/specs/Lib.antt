@@ -1,2 +1,1 @@
--- The check call and the command call.
-pub mod Verdicts
+-- The check call and the command call: their promises are defined in `book`.

@@ -1,18 +1,18 @@
 -- Who leads an arrival, one rule after the other, ends at the rules that act.
 use borrow.Author.Tests.{eq-eqb, ne_eqb, eqb-true}
-use mathlib.Core.Path.{◌≡◌, sym, ap, subst, subst⁻¹, ◌∙◌}
+use mathlib.Core.Path.{◌≡◌, sym, ap, subst⁻¹, ◌∙◌}
 use mathlib.Core.Bool.{Bool, true, false, cond, ◌&&◌}
-use mathlib.Core.List.{[], ◌∷◌}
+use mathlib.Core.List.{List, [], ◌∷◌}
 use mathlib.Core.Logic.{◌⊎◌, inl, inr}
-use Prim.Native.Nat.{ℕ, suc, ◌+◌, ◌^◌, ◌<◌, ◌≤◌}
+use Prim.Native.Nat.{ℕ, ◌+◌, ◌^◌, ◌<◌, ◌≤◌}
 use native.Mathlib.Decide.{ℕ_discrete, dec_lt}
 use native.Mathlib.Omega.{arith}
 use lib.Dec.{eqb}
-use lib.ListN.{length, get_or}
+use lib.ListN.{length, get_or, replicate}
 use Rattle.basics.specs.Bit.{bit_of}
 use Rattle.basics.specs.Laws.Tests.{same_test}
 use Rattle.basics.specs.Lists.{keep, any}
-use Rattle.format.specs.Record.{Rec, Net, at, priority, of_kind, widths_of}
+use Rattle.format.specs.Record.{Rec, Net, priority, of_kind, widths_of}
 use Rattle.format.specs.State.{state}
 use Rattle.widths.specs.Widths.{within_limits}
 use Rattle.basics.specs.Laws.Every.{every_at, at_every, keep_same, any_fails, any_kept, any_more}
@@ -21,12 +21,15 @@ use Rattle.widths.specs.declared.Widths.{Widths}
 use Rattle.choice.specs.declared.leads.Lead.{Lead}
 use Rattle.onestep.specs.Chosen.{Arrival, rule_matches, chosen}
 use Rattle.onestep.specs.ByBytes.{arrival, rank_of}
+use Rattle.choice.specs.declared.RuleSet.{RuleSet}
 use Rattle.choice.specs.RuleSets.{SetsOf}
 use Rattle.onestep.specs.Laws.Chosen.{NoneOutranks, chosen_exactly, chosen_miss}
-use Rattle.choice.specs.Laws.RuleSets.{match_by_sets}
-use Rattle.choice.specs.Leads.{Tables, lead_at, Room, Empty, raised, Painted, Leads, AllLead}
+use Rattle.std.proofs.lemmas.List.{get_or-replicate}
+use Rattle.choice.specs.Laws.Arriving.{arriving-lt}
+use Rattle.choice.specs.Leads.{most_arriving, no_lead, lead_at, raised, Painted, Leads, AllLead}
 use Rattle.choice.proofs.PaintedLeads.{takes_lead, joins_lead, stays_behind}
 use Rattle.choice.proofs.Ranks.{rank_true, rank_false, ranked, unranked}
+use Rattle.choice.proofs.MatchedRules.{match_by_sets}
 
 -- of the rules before number j, x has the highest rank of one that matches, and the first and the last that has it
 pub record Led (w : Widths) (a : Arrival) (rules : Net) (j : ℕ) (x : Lead) : Type 0 where
@@ -183,42 +186,33 @@ module _ (net : Net) (a : Arrival) (x : Lead) (L : Led (widths_of net) a (of_kin
 led_all : (net : Net) (w : Widths) → w ≡ widths_of net → (a : Arrival) (x : Lead) → Led w a (of_kind 4 net) (length (of_kind 4 net)) x → Leads net w a x
 led_all net w widths a x = subst⁻¹ (λ (v : Widths). Led v a (of_kind 4 net) (length (of_kind 4 net)) x → Leads net v a x) widths (led_own net a x)
 
--- the tables have who leads each arrival, by the rules before number j
-pub record LedBy (net : Net) (w : Widths) (j : ℕ) (t : Tables) : Type 0 where
-  pub room : Room t
-  pub leads : (sw p h : ℕ) → sw < 2 ^ w.w → p < 2 ^ w.p → h < 2 ^ w.h → Led w (arrival sw p h) (of_kind 4 net) j (lead_at t (state w 0 sw p h))
+-- the table has who leads each arrival, by the rules before number j
+abbrev pub LedBy : Net → Widths → ℕ → List Lead → Type 0
+LedBy net w j leads = (sw p h : ℕ) → sw < 2 ^ w.w → p < 2 ^ w.p → h < 2 ^ w.h → Led w (arrival sw p h) (of_kind 4 net) j (lead_at leads (state w 0 sw p h))
 
 module _ (net : Net) (w : Widths) where
-  pub led_by_none : (t : Tables) → Empty t → LedBy net w 0 t
-  led_by_none t E = record { room = E.room; leads = λ sw p h hs hp hh. led_none w (arrival sw p h) (of_kind 4 net) _ (E.none (state w 0 sw p h)) }
+  pub led_by_none : within_limits w ≡ true → LedBy net w 0 (replicate most_arriving no_lead)
+  led_by_none limits sw p h hs hp hh =
+      led_none w (arrival sw p h) (of_kind 4 net) _
+      (ap (λ (x : Lead). x.rank) (get_or-replicate most_arriving (state w 0 sw p h) no_lead no_lead (arriving-lt w limits sw p h hs hp hh)))
 
   -- rule j is painted over the arrivals that it matches
-  pub led_by_more : within_limits w ≡ true → (j sw₀ ports headers rank : ℕ) (t t' : Tables) → LedBy net w j t
-      → SetsOf w (get_or (of_kind 4 net) j []) ports headers → sw₀ ≡ at (get_or (of_kind 4 net) j []) 1 → rank ≡ suc (priority (get_or (of_kind 4 net) j []))
-      → Painted w (λ v. eqb sw₀ v.switch && bit_of ports v.port && bit_of headers v.header) rank j t t' → LedBy net w (j + 1) t'
-  led_by_more limits j sw₀ ports headers rank t t' L S es er P = record { room = P.room; leads = each }
+  pub led_by_more : (j : ℕ) (rule : RuleSet) (t t' : List Lead) → LedBy net w j t → SetsOf w (get_or (of_kind 4 net) j []) rule
+      → Painted w (λ v. eqb rule.switch v.switch && bit_of rule.ports v.port && bit_of rule.headers v.header) rule.rank j t t' → LedBy net w (j + 1) t'
+  led_by_more j rule t t' L S P sw p h hs hp hh = subst⁻¹ (Led w v (of_kind 4 net) (j + 1)) (P.leads sw p h hs hp hh) (go _ (sym (match_by_sets w r rule S sw p h hp hh)))
     where
       r : Rec
       r = get_or (of_kind 4 net) j []
 
-      each : (sw p h : ℕ) → sw < 2 ^ w.w → p < 2 ^ w.p → h < 2 ^ w.h → Led w (arrival sw p h) (of_kind 4 net) (j + 1) (lead_at t' (state w 0 sw p h))
-      each sw p h hs hp hh = subst⁻¹ (Led w v (of_kind 4 net) (j + 1)) (P.leads sw p h hs hp hh) (go _ (sym tested))
-        where
-          v : Arrival
-          v = arrival sw p h
+      v : Arrival
+      v = arrival sw p h
 
-          x : Lead
-          x = lead_at t (state w 0 sw p h)
+      x : Lead
+      x = lead_at t (state w 0 sw p h)
 
-          tested : rule_matches w v r ≡ (eqb sw₀ sw && bit_of ports p && bit_of headers h)
-          tested =
-              match_by_sets w r ports headers S sw p h (record { limits = limits; port = hp; header = hh })
-              ∙ ap (λ (n : ℕ). eqb n sw && bit_of ports p && bit_of headers h) (sym es)
+      go : (b : Bool) → b ≡ rule_matches w v r → Led w v (of_kind 4 net) (j + 1) (cond b (raised rule.rank j x) x)
+      go true e = led_raised w v (of_kind 4 net) j x (L sw p h hs hp hh) rule.rank (rank_true w v r (sym e) ∙ sym S.rank) (omega (arith, S.rank))
+      go false e = led_passed w v (of_kind 4 net) j x (L sw p h hs hp hh) (rank_false w v r (sym e))
 
-          go : (b : Bool) → b ≡ rule_matches w v r → Led w v (of_kind 4 net) (j + 1) (cond b (raised rank j x) x)
-          go true e = led_raised w v (of_kind 4 net) j x (L.leads sw p h hs hp hh) rank (rank_true w v r (sym e) ∙ sym er) (omega arith)
-          go false e = led_passed w v (of_kind 4 net) j x (L.leads sw p h hs hp hh) (rank_false w v r (sym e))
-
-  pub led_by_all : w ≡ widths_of net → (j : ℕ) (t : Tables) → j ≡ length (of_kind 4 net) → LedBy net w j t → AllLead net w t
-  led_by_all widths j t e L sw p h hs hp hh =
-      led_all net w widths (arrival sw p h) (lead_at t (state w 0 sw p h)) (subst (λ (k : ℕ). Led w (arrival sw p h) (of_kind 4 net) k (lead_at t (state w 0 sw p h))) e (L.leads sw p h hs hp hh))
+  pub led_by_all : w ≡ widths_of net → (t : List Lead) → LedBy net w (length (of_kind 4 net)) t → AllLead net w t
+  led_by_all widths t L sw p h hs hp hh = led_all net w widths (arrival sw p h) (lead_at t (state w 0 sw p h)) (L sw p h hs hp hh)

@@ -1,13 +1,13 @@
 -- Painting a rule over the arrivals that it matches, set after set.
 use borrow.Author.Tests.{lt-ltb, le-ltb, eq-eqb, ne_eqb}
 use mathlib.Core.Path.{◌≡◌, refl, sym, ap, ◌∙◌}
-use mathlib.Core.Bool.{Bool, true, false, cond, ◌&&◌, ◌||◌, and-false, or-false}
+use mathlib.Core.Bool.{Bool, true, false, cond, ◌&&◌, ◌||◌, or-false}
 use mathlib.Core.List.{List}
 use Prim.Native.Nat.{ℕ, ◌+◌, ◌^◌, ◌<◌}
 use native.Mathlib.Decide.{ℕ_discrete, dec_lt}
 use native.Mathlib.Omega.{arith}
 use lib.Dec.{eqb, ltb}
-use lib.ListN.{length, get_or, set, length-set}
+use lib.ListN.{length, set}
 use lib.Seq.{get_or-set_same, get_or-set_other}
 use Rattle.basics.specs.Bit.{bit_of}
 use Rattle.format.specs.State.{state, header_of, port_of, switch_of}
@@ -16,7 +16,7 @@ use Rattle.widths.specs.declared.Widths.{Widths}
 use Rattle.choice.specs.declared.leads.Lead.{Lead}
 use Rattle.onestep.specs.Chosen.{Arrival}
 use Rattle.onestep.specs.ByBytes.{arrival}
-use Rattle.choice.specs.Leads.{most_arriving, Tables, tables, lead_at, Room, raised, Raised, Painted}
+use Rattle.choice.specs.Leads.{no_lead, lead_at, raised, Painted}
 
 -- who leads after a rule, by its rank
 module _ (r j : ℕ) (x : Lead) where
@@ -42,38 +42,23 @@ again r j x = go (dec_lt x.rank r) (ℕ_discrete x.rank r)
     go (no h) (no q) = ap (raised r j) (stays_behind r j x (omega (arith, q)))
 
 -- counting a rule for one state
-module _ (s r j : ℕ) (R F L : List ℕ) (room : Room (tables R F L)) (h : s < most_arriving) where
-  in_table : (l : List ℕ) → length l ≡ most_arriving → s < length l
-  in_table l e = omega arith
+-- a rule is counted for the state s, and for no other
+module _ (s r j : ℕ) (leads : List Lead) (h : s < length leads) where
+  abbrev pub counted : List Lead
+  counted = set leads s (raised r j (lead_at leads s))
 
-  pub counted_takes : get_or R s 0 < r → Raised s r j (tables R F L) (tables (set R s r) (set F s j) (set L s j))
-  counted_takes lt = record {
-    room = record { ranks = length-set R s r ∙ room.ranks; firsts = length-set F s j ∙ room.firsts; lasts = length-set L s j ∙ room.lasts };
-    here = rw (get_or-set_same R s r 0 (in_table R room.ranks), get_or-set_same F s j 0 (in_table F room.firsts), get_or-set_same L s j 0 (in_table L room.lasts))
-        (sym (takes_lead r j (lead_at (tables R F L) s) lt));
-    others = λ t n. rw (get_or-set_other R s t r 0 n, get_or-set_other F s t j 0 n, get_or-set_other L s t j 0 n);
-  }
+  counted_here : lead_at counted s ≡ raised r j (lead_at leads s)
+  counted_here = get_or-set_same leads s (raised r j (lead_at leads s)) no_lead h
 
-  pub counted_joins : get_or R s 0 ≡ r → Raised s r j (tables R F L) (tables R F (set L s j))
-  counted_joins e = record {
-    room = record { ranks = room.ranks; firsts = room.firsts; lasts = length-set L s j ∙ room.lasts };
-    here = rw (get_or-set_same L s j 0 (in_table L room.lasts)) (sym (joins_lead r j (lead_at (tables R F L) s) e));
-    others = λ t n. rw (get_or-set_other L s t j 0 n);
-  }
-
-  pub counted_not : r < get_or R s 0 → Raised s r j (tables R F L) (tables R F L)
-  counted_not lt = record { room = room; here = sym (stays_behind r j (lead_at (tables R F L) s) lt); others = λ t n. refl }
+  counted_other : (t : ℕ) → (t ≡ s → ⊥) → lead_at counted t ≡ lead_at leads t
+  counted_other t n = get_or-set_other leads s t (raised r j (lead_at leads s)) no_lead n
 
 module _ (w : Widths) (r j : ℕ) where
-  painted_none : (t : Tables) → Room t → Painted w (λ a. false) r j t t
-  painted_none t R = record { room = R; leads = λ sw p h hs hp hh. refl }
-
   -- which arrivals pass may be said in other words
-  painted_as : (f g : Arrival → Bool) (a b : Tables)
+  painted_as : (f g : Arrival → Bool) (a b : List Lead)
       → ((sw p h : ℕ) → sw < 2 ^ w.w → p < 2 ^ w.p → h < 2 ^ w.h → f (arrival sw p h) ≡ g (arrival sw p h))
       → Painted w f r j a b → Painted w g r j a b
   painted_as f g a b e P = record {
-    room = P.room;
     leads = λ sw p h hs hp hh. P.leads sw p h hs hp hh ∙ ap (λ (t : Bool). cond t (raised r j (lead_at a (state w 0 sw p h))) (lead_at a (state w 0 sw p h))) (e sw p h hs hp hh);
   }
 
@@ -84,9 +69,8 @@ module _ (w : Widths) (r j : ℕ) where
   either false true x y z e q = q ∙ ap (raised r j) e
   either false false x y z e q = q ∙ e
 
-  painted_both : (f g : Arrival → Bool) (a b c : Tables) → Painted w f r j a b → Painted w g r j b c → Painted w (λ v. f v || g v) r j a c
+  painted_both : (f g : Arrival → Bool) (a b c : List Lead) → Painted w f r j a b → Painted w g r j b c → Painted w (λ v. f v || g v) r j a c
   painted_both f g a b c A B = record {
-    room = B.room;
     leads = λ sw p h hs hp hh. either (f (arrival sw p h)) (g (arrival sw p h)) _ _ _ (A.leads sw p h hs hp hh) (B.leads sw p h hs hp hh);
   }
 
@@ -95,9 +79,12 @@ module _ (w : Widths) (r j : ℕ) where
     abbrev here : Arrival → Bool
     here v = eqb sw v.switch && eqb v.port p && eqb v.header h
 
-    pub painted_one : (a b : Tables) → Raised s r j a b → Painted w (λ v. eqb sw v.switch && eqb v.port p && eqb v.header h) r j a b
-    painted_one a b R = record { room = R.room; leads = each }
+    pub painted_one : (a : List Lead) → s < length a → Painted w (λ v. eqb sw v.switch && eqb v.port p && eqb v.header h) r j a (set a s (raised r j (lead_at a s)))
+    painted_one a low = record { leads = each }
       where
+        b : List Lead
+        b = counted s r j a low
+
         each : (x y z : ℕ) → x < 2 ^ w.w → y < 2 ^ w.p → z < 2 ^ w.h
             → lead_at b (state w 0 x y z) ≡ cond (here (arrival x y z)) (raised r j (lead_at a (state w 0 x y z))) (lead_at a (state w 0 x y z))
         each x y z hx hy hz = go (ℕ_discrete x sw) (ℕ_discrete y p) (ℕ_discrete z h)
@@ -108,19 +95,16 @@ module _ (w : Widths) (r j : ℕ) where
             go : Dec (x ≡ sw) → Dec (y ≡ p) → Dec (z ≡ h) → Is
             go (yes u) (yes v) (yes t) =
                 let q : state w 0 x y z ≡ s = ap (λ (m : ℕ). state w 0 m y z) u ∙ ap (λ (m : ℕ). state w 0 sw m z) v ∙ ap (state w 0 sw p) t ∙ sym is in
-                rw (eq-eqb sw x (sym u), eq-eqb y p v, eq-eqb z h t, q) R.here
-            go (no u) d e = rw (ne_eqb sw x (λ q. u (sym q))) (R.others (state w 0 x y z) (λ q. u (sym (switch_of_lem w 0 x y z hx hy hz) ∙ ap (switch_of w) (q ∙ is) ∙ switch_of_lem w 0 sw p h hs hp hh)))
-            go (yes u) (no v) e = rw (eq-eqb sw x (sym u), ne_eqb y p v) (R.others (state w 0 x y z) (λ q. v (sym (port_of_lem w 0 x y z hx hy hz) ∙ ap (port_of w) (q ∙ is) ∙ port_of_lem w 0 sw p h hs hp hh)))
-            go (yes u) (yes v) (no t) = rw (eq-eqb sw x (sym u), eq-eqb y p v, ne_eqb z h t) (R.others (state w 0 x y z) (λ q. t (sym (header_of_lem w 0 x y z hx hy hz) ∙ ap (header_of w) (q ∙ is) ∙ header_of_lem w 0 sw p h hs hp hh)))
+                rw (eq-eqb sw x (sym u), eq-eqb y p v, eq-eqb z h t, q) (counted_here s r j a low)
+            go (no u) d e = rw (ne_eqb sw x (λ q. u (sym q))) (counted_other s r j a low (state w 0 x y z) (λ q. u (sym (switch_of_lem w 0 x y z hx hy hz) ∙ ap (switch_of w) (q ∙ is) ∙ switch_of_lem w 0 sw p h hs hp hh)))
+            go (yes u) (no v) e = rw (eq-eqb sw x (sym u), ne_eqb y p v) (counted_other s r j a low (state w 0 x y z) (λ q. v (sym (port_of_lem w 0 x y z hx hy hz) ∙ ap (port_of w) (q ∙ is) ∙ port_of_lem w 0 sw p h hs hp hh)))
+            go (yes u) (yes v) (no t) = rw (eq-eqb sw x (sym u), eq-eqb y p v, ne_eqb z h t) (counted_other s r j a low (state w 0 x y z) (λ q. t (sym (header_of_lem w 0 x y z hx hy hz) ∙ ap (header_of w) (q ∙ is) ∙ header_of_lem w 0 sw p h hs hp hh)))
 
 -- the numbers below k that pass
 abbrev below : ℕ → (ℕ → Bool) → ℕ → Bool
 below k f x = ltb x k && f x
 
 module _ (f : ℕ → Bool) (x : ℕ) where
-  below_none : below 0 f x ≡ false
-  below_none = ap (λ (t : Bool). t && f x) (le-ltb x 0 (omega arith))
-
   below_all : (k : ℕ) → x < k → below k f x ≡ f x
   below_all k h = ap (λ (t : Bool). t && f x) (lt-ltb x k h)
 
@@ -146,27 +130,21 @@ up_to among number f k v = among (below k f (number v)) v
 
 -- a set of ports or of headers, one number after the other
 module _ (w : Widths) (r j : ℕ) (among : Bool → Arrival → Bool) (number : Arrival → ℕ) (f : ℕ → Bool)
-    (none : (v : Arrival) → among false v ≡ false) (joined : (s t : Bool) (v : Arrival) → (among s v || among t v) ≡ among (s || t) v) where
+    (joined : (s t : Bool) (v : Arrival) → (among s v || among t v) ≡ among (s || t) v) where
   abbrev before : ℕ → Arrival → Bool
   before = up_to among number f
 
-  pub painted_start : (t : Tables) → Room t → Painted w (up_to among number f 0) r j t t
-  painted_start t R =
-      painted_as w r j (λ v. false) (before 0) t t
-      (λ sw p h hs hp hh. let v = arrival sw p h in sym (ap (λ (b : Bool). among b v) (below_none f (number v)) ∙ none v))
-      (painted_none w r j t R)
-
-  pub painted_in : (k : ℕ) (a b c : Tables) → f k ≡ true → Painted w (up_to among number f k) r j a b → Painted w (λ v. among (eqb (number v) k) v) r j b c → Painted w (up_to among number f (k + 1)) r j a c
+  pub painted_in : (k : ℕ) (a b c : List Lead) → f k ≡ true → Painted w (up_to among number f k) r j a b → Painted w (λ v. among (eqb (number v) k) v) r j b c → Painted w (up_to among number f (k + 1)) r j a c
   painted_in k a b c e A B =
       painted_as w r j (λ v. before k v || among (eqb (number v) k) v) (before (k + 1)) a c
       (λ sw p h hs hp hh. let v = arrival sw p h in joined (below k f (number v)) (eqb (number v) k) v ∙ ap (λ (b : Bool). among b v) (below_in f (number v) k e))
       (painted_both w r j (before k) (λ v. among (eqb (number v) k) v) a b c A B)
 
-  pub painted_out : (k : ℕ) (a b : Tables) → f k ≡ false → Painted w (up_to among number f k) r j a b → Painted w (up_to among number f (k + 1)) r j a b
+  pub painted_out : (k : ℕ) (a b : List Lead) → f k ≡ false → Painted w (up_to among number f k) r j a b → Painted w (up_to among number f (k + 1)) r j a b
   painted_out k a b e A =
       painted_as w r j (before k) (before (k + 1)) a b (λ sw p h hs hp hh. let v = arrival sw p h in ap (λ (b : Bool). among b v) (below_out f (number v) k e)) A
 
-  pub painted_end : (k : ℕ) (a b : Tables) → ((sw p h : ℕ) → p < 2 ^ w.p → h < 2 ^ w.h → number (arrival sw p h) < k)
+  pub painted_end : (k : ℕ) (a b : List Lead) → ((sw p h : ℕ) → p < 2 ^ w.p → h < 2 ^ w.h → number (arrival sw p h) < k)
       → Painted w (up_to among number f k) r j a b → Painted w (λ v. among (f (number v)) v) r j a b
   painted_end k a b l A =
       painted_as w r j (before k) (λ v. among (f (number v)) v) a b
@@ -178,14 +156,6 @@ of_port sw h t v = eqb sw v.switch && t && eqb v.header h
 
 abbrev pub of_header : ℕ → ℕ → Bool → Arrival → Bool
 of_header sw ports t v = eqb sw v.switch && bit_of ports v.port && t
-
-none_middle : (a b : Bool) → (a && false && b) ≡ false
-none_middle true b = refl
-none_middle false b = refl
-
-none_last : (a b : Bool) → (a && b && false) ≡ false
-none_last true b = and-false b
-none_last false b = refl
 
 join_middle : (a s t b : Bool) → ((a && s && b) || (a && t && b)) ≡ (a && (s || t) && b)
 join_middle true true true true = refl
@@ -200,14 +170,8 @@ join_last true true s t = refl
 join_last true false s t = refl
 join_last false b s t = refl
 
-pub port_none : (sw h : ℕ) (v : Arrival) → of_port sw h false v ≡ false
-port_none sw h v = none_middle (eqb sw v.switch) (eqb v.header h)
-
 pub port_joined : (sw h : ℕ) (s t : Bool) (v : Arrival) → (of_port sw h s v || of_port sw h t v) ≡ of_port sw h (s || t) v
 port_joined sw h s t v = join_middle (eqb sw v.switch) s t (eqb v.header h)
-
-pub header_none : (sw ports : ℕ) (v : Arrival) → of_header sw ports false v ≡ false
-header_none sw ports v = none_last (eqb sw v.switch) (bit_of ports v.port)
 
 pub header_joined : (sw ports : ℕ) (s t : Bool) (v : Arrival) → (of_header sw ports s v || of_header sw ports t v) ≡ of_header sw ports (s || t) v
 header_joined sw ports s t v = join_last (eqb sw v.switch) (bit_of ports v.port) s t

@@ -1,4 +1,3 @@
 -- Laws that are cited, and need not be read to believe a promise.
 pub mod Arriving
 pub mod GoodRecords
-pub mod RuleSets

@@ -1,20 +1,25 @@
--- What the patterns of rules match, worked out once for each rule.
-use Rattle.std.specs.Prelude.{List, [], ℕ, ◌-◌, ◌<◌, ◌≤◌, get_or}
-use Rattle.format.specs.Record.{Rec, Net, at}
+-- What the records of rules say, worked out once for each rule.
+use Rattle.std.specs.Prelude.{◌≡◌, List, [], ℕ, suc, ◌<◌, length, get_or}
+use Rattle.format.specs.Record.{Rec, Net, at, priority, of_kind}
 use Rattle.patterns.specs.Matched.{MatchedSet}
 use Rattle.widths.specs.declared.Widths.{Widths}
-use Rattle.scan.specs.declared.Layout.{Layout}
+use Rattle.choice.specs.declared.RuleSet.{RuleSet}
 
--- the ports and the headers that a rule's two patterns match
-pub record SetsOf (w : Widths) (r : Rec) (ports headers : ℕ) : Type 0 where
-  pub port : MatchedSet w.p (at r 4) (at r 5) ports
-  pub header : MatchedSet w.h (at r 6) (at r 7) headers
+-- a rule's switch, its rank where it matches, and the ports and the headers that its two patterns match
+pub record SetsOf (w : Widths) (r : Rec) (rule : RuleSet) : Type 0 where
+  pub switch : rule.switch ≡ at r 1
+  pub rank : rule.rank ≡ suc (priority r)
+  pub port : MatchedSet w.p (at r 4) (at r 5) rule.ports
+  pub header : MatchedSet w.h (at r 6) (at r 7) rule.headers
 
--- those of the rules before place i, each at its number among the rules
-abbrev pub SetsBefore : ℕ → Net → Layout → List ℕ → List ℕ → Type 0
-SetsBefore i net l ports headers =
-    (k : ℕ) → k < i → l.rules ≤ k → SetsOf l.widths (get_or net k []) (get_or ports (k - l.rules) 0) (get_or headers (k - l.rules) 0)
+-- in place of a rule where there is none
+abbrev pub no_rule : RuleSet
+no_rule = record { switch = 0; rank = 0; ports = 0; headers = 0 }
+
+-- those of the first k rules of a network, each at its number among the rules
+abbrev pub SetsBefore : ℕ → Net → Widths → List RuleSet → Type 0
+SetsBefore k net w sets = (j : ℕ) → j < k → SetsOf w (get_or (of_kind 4 net) j []) (get_or sets j no_rule)
 
 -- those of all rules
-abbrev pub RuleSets : Net → Layout → List ℕ → List ℕ → Type 0
-RuleSets net l ports headers = SetsBefore l.nodes net l ports headers
+abbrev pub RuleSets : Net → Widths → List RuleSet → Type 0
+RuleSets net w sets = SetsBefore (length (of_kind 4 net)) net w sets

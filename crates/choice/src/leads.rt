@@ -4,15 +4,14 @@ ghost use Rattle.std.specs.Prelude.{◌≡◌, true, ◌&&◌, ◌^◌, ◌<◌,
 ghost use Rattle.basics.specs.Bit.{bit_of};
 ghost use Rattle.format.specs.Record.{records};
 ghost use Rattle.widths.specs.Widths.{within_limits};
-ghost use Rattle.scan.specs.Stored.{Stored};
 ghost use Rattle.choice.specs.RuleSets.{RuleSets};
-ghost use Rattle.choice.specs.Leads.{most_arriving, tables, lead_at, Room, Empty, Raised, Painted, AllLead};
+ghost use Rattle.choice.specs.Leads.{raised, Painted, AllLead};
 
-use crate::priority_rank;
+use crate::RuleSet;
 use patterns::in_set;
 use records::MOST_RULES;
-use scan::Layout;
-use states::{number, values};
+use scan::network::Network;
+use states::{Frame, values};
 use widths::Widths;
 
 // How many states arrive, at most.
@@ -27,131 +26,70 @@ pub struct Lead {
     pub last: u8,
 }
 
-// Counts rule j, which has this rank, for the arriving state s, which it matches.
-fn raise(
-    ranks: &mut [u32; MOST_ARRIVING],
-    firsts: &mut [u8; MOST_ARRIVING],
-    lasts: &mut [u8; MOST_ARRIVING],
-    s: usize,
-    rank: u32,
-    j: u8,
-)
-    requires { (s < most_arriving) × Room (tables ranks.old firsts.old lasts.old) }
-    ensures { Raised s rank j (tables ranks.old firsts.old lasts.old) (tables ranks.new firsts.new lasts.new) }
-{
-    if ranks[s] < rank {
-        ranks[s] = rank;
-        firsts[s] = j;
-        lasts[s] = j;
-        return;
-    }
-    if ranks[s] == rank {
-        lasts[s] = j;
-    }
-}
+impl Lead {
+    // No rule matches.
+    pub const NONE: Self = Lead {
+        rank: 0,
+        first: 0,
+        last: 0,
+    };
 
-// Counts rule j for the arrivals at a switch with header h, at each port of a set.
-fn raise_ports(
-    ranks: &mut [u32; MOST_ARRIVING],
-    firsts: &mut [u8; MOST_ARRIVING],
-    lasts: &mut [u8; MOST_ARRIVING],
-    w: Widths,
-    sw: u8,
-    ports: u64,
-    h: u8,
-    rank: u32,
-    j: u8,
-)
-    requires w_value { (within_limits w ≡ true) × (sw < 2 ^ w.w) × (h < 2 ^ w.h) }
-    requires room { Room (tables ranks.old firsts.old lasts.old) }
-    ensures { Painted w (λ a. eqb sw a.switch && bit_of ports a.port && eqb a.header h) rank j (tables ranks.old firsts.old lasts.old) (tables ranks.new firsts.new lasts.new) }
-{
-    let end = values(w.p);
-    let mut p: u8 = 0;
-    while p < end {
-        if in_set(ports, p) {
-            raise(ranks, firsts, lasts, number(w, 0, sw, p, h), rank, j);
+    // Counts rule j, which has this rank.
+    #[tactic(auto, using(crate::proofs::PaintedLeads::takes_lead, crate::proofs::PaintedLeads::joins_lead, crate::proofs::PaintedLeads::stays_behind))]
+    fn raise(&mut self, rank: u32, j: u8)
+        ensures { self.new ≡ raised rank j self.old }
+    {
+        if self.rank < rank {
+            *self = Lead {
+                rank,
+                first: j,
+                last: j,
+            };
+        } else if self.rank == rank {
+            self.last = j;
         }
-        p += 1;
     }
 }
 
-// Counts rule j for the arrivals at its switch, at each port of a set with each header of another.
-fn raise_rule(
-    ranks: &mut [u32; MOST_ARRIVING],
-    firsts: &mut [u8; MOST_ARRIVING],
-    lasts: &mut [u8; MOST_ARRIVING],
-    w: Widths,
-    sw: u8,
-    ports: u64,
-    headers: u64,
-    rank: u32,
-    j: u8,
-)
-    requires w_value { (within_limits w ≡ true) × (sw < 2 ^ w.w) }
-    requires room { Room (tables ranks.old firsts.old lasts.old) }
-    ensures { Painted w (λ a. eqb sw a.switch && bit_of ports a.port && bit_of headers a.header) rank j (tables ranks.old firsts.old lasts.old) (tables ranks.new firsts.new lasts.new) }
+// Counts rule j for the arrivals at its switch with this header, at each port that it matches.
+#[tactic(auto, using(widths::specs::Laws::Limits::limits))]
+fn raise_ports(leads: &mut [Lead; MOST_ARRIVING], w: Widths, rule: &RuleSet, header: u8, j: u8)
+    requires { (within_limits w ≡ true) × (rule.now.switch < 2 ^ w.w) × (header < 2 ^ w.h) }
+    ensures { Painted w (λ a. eqb rule.now.switch a.switch && bit_of rule.now.ports a.port && eqb a.header header) rule.now.rank j leads.old leads.new }
 {
-    let end = values(w.h);
-    let mut h: u8 = 0;
-    while h < end {
-        if in_set(headers, h) {
-            raise_ports(ranks, firsts, lasts, w, sw, ports, h, rank, j);
+    for port in 0..values(w.p) {
+        if in_set(rule.ports, port) {
+            let frame = Frame {
+                switch: rule.switch,
+                port,
+                header,
+            };
+            leads[frame.arriving(w)].raise(rule.rank, j);
         }
-        h += 1;
     }
 }
 
-// Finds for each arrival which rules lead, in tables of zeros. What the patterns of each rule match is given, as by rule_sets.
-pub fn find_leads(
-    store: &[u8],
-    n: usize,
-    l: Layout,
-    ports: &[u64; MOST_RULES],
-    headers: &[u64; MOST_RULES],
-    ranks: &mut [u32; MOST_ARRIVING],
-    firsts: &mut [u8; MOST_ARRIVING],
-    lasts: &mut [u8; MOST_ARRIVING],
-)
-    requires stored { Stored n l store.now × RuleSets (records n store.now) l ports.now headers.now }
-    requires empty { Empty (tables ranks.old firsts.old lasts.old) }
-    ensures { AllLead (records n store.now) l.widths (tables ranks.new firsts.new lasts.new) }
+// Counts rule j for the arrivals that it matches.
+#[tactic(auto, using(widths::specs::Laws::Limits::limits))]
+fn raise_rule(leads: &mut [Lead; MOST_ARRIVING], w: Widths, rule: &RuleSet, j: u8)
+    requires { (within_limits w ≡ true) × (rule.now.switch < 2 ^ w.w) }
+    ensures { Painted w (λ a. eqb rule.now.switch a.switch && bit_of rule.now.ports a.port && bit_of rule.now.headers a.header) rule.now.rank j leads.old leads.new }
 {
-    let w = l.widths;
-    let mut i = l.rules;
-    while i < l.nodes {
-        let a = i * 24 + 1;
-        let e = a + 20;
-        let body = &store[a..e];
-        let j = i - l.rules;
-        raise_rule(
-            ranks,
-            firsts,
-            lasts,
-            w,
-            body[0],
-            ports[j],
-            headers[j],
-            priority_rank(body),
-            j as u8,
-        );
-        i += 1;
+    for header in 0..values(w.h) {
+        if in_set(rule.headers, header) {
+            raise_ports(leads, w, rule, header, j);
+        }
     }
 }
 
-// What the tables have for the arriving state s.
-pub fn lead_at(
-    ranks: &[u32; MOST_ARRIVING],
-    firsts: &[u8; MOST_ARRIVING],
-    lasts: &[u8; MOST_ARRIVING],
-    s: usize,
-) -> Lead
-    requires { s < most_arriving }
-    ensures { result ≡ lead_at (tables ranks.now firsts.now lasts.now) s }
+// Finds for each arrival, by the number of its state, which rules lead.
+pub fn find_leads(net: &Network, sets: &[RuleSet; MOST_RULES], leads: &mut [Lead; MOST_ARRIVING])
+    requires { RuleSets (records net.now.n net.now.store.now) net.now.layout.widths sets.now }
+    ensures { AllLead (records net.now.n net.now.store.now) net.now.layout.widths leads.new }
 {
-    Lead {
-        rank: ranks[s],
-        first: firsts[s],
-        last: lasts[s],
+    let l = net.layout;
+    leads.fill(Lead::NONE);
+    for j in 0..l.nodes - l.rules {
+        raise_rule(leads, l.widths, &sets[j], j as u8);
     }
 }

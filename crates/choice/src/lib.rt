@@ -1,95 +1,79 @@
-// Which rules match an arrival, and their ranks.
+// The rules of a network, and which of them act on an arrival.
 #![tactic(auto)]
 
-ghost use Rattle.std.specs.Prelude.{◌≡◌, true, suc, length};
-ghost use Rattle.format.specs.Record.{at, most_rules, priority, records};
+ghost use Rattle.std.specs.Prelude.{◌≡◌, true, ◌&&◌, cond, ◌<◌, eqb, length};
+ghost use Rattle.basics.specs.Bit.{bit_of};
+ghost use Rattle.format.specs.Record.{records};
 ghost use Rattle.widths.specs.Widths.{within_limits};
-ghost use Rattle.patterns.specs.Matched.{MatchedSet};
-ghost use Rattle.onestep.specs.Chosen.{rule_matches};
-ghost use Rattle.onestep.specs.ByBytes.{arrival, FrameWithin, of_body, rank_of};
 ghost use Rattle.choice.specs.RuleSets.{SetsOf, RuleSets};
-ghost use Rattle.scan.specs.Stored.{Stored};
+
+pub mod leads;
+pub mod rules;
 
 use patterns::{in_set, matched};
 use records::MOST_RULES;
-use scan::Layout;
+use scan::network::Network;
+use states::Frame;
 use widths::Widths;
 
-pub mod leads;
-
-// The ports that the rule of that body matches.
-fn ports_matched(w: Widths, body: &[u8]) -> u64
-    requires { (length body.now ≡ 20) × (within_limits w ≡ true) }
-    ensures { MatchedSet w.p (at (of_body body.now) 4) (at (of_body body.now) 5) result }
-{
-    matched(w.p, body[3], body[4])
+// A rule: its switch, its rank, which is one above its priority, and the ports and the headers that its patterns match, number x
+// as bit x.
+#[derive(Clone, Copy)]
+pub struct RuleSet {
+    pub switch: u8,
+    pub rank: u32,
+    pub ports: u64,
+    pub headers: u64,
 }
 
-// The headers that the rule of that body matches.
-fn headers_matched(w: Widths, body: &[u8]) -> u64
-    requires { (length body.now ≡ 20) × (within_limits w ≡ true) }
-    ensures { MatchedSet w.h (at (of_body body.now) 6) (at (of_body body.now) 7) result }
-{
-    matched(w.h, body[5], body[6])
-}
+impl RuleSet {
+    // In place of a rule where there is none.
+    pub const NONE: Self = RuleSet {
+        switch: 0,
+        rank: 0,
+        ports: 0,
+        headers: 0,
+    };
 
-// Works out what the patterns of each rule match, for the rule's number among the rules: a set of ports and one of headers.
-pub fn rule_sets(
-    store: &[u8],
-    n: usize,
-    l: Layout,
-    ports: &mut [u64; MOST_RULES],
-    headers: &mut [u64; MOST_RULES],
-)
-    requires stored { Stored n l store.now }
-    requires ports_len { (length ports.old ≡ most_rules) × (length headers.old ≡ most_rules) }
-    ensures { RuleSets (records n store.now) l ports.new headers.new }
-{
-    let w = l.widths;
-    let mut i = l.rules;
-    while i < l.nodes {
-        let a = i * 24 + 1;
-        let e = a + 20;
-        let body = &store[a..e];
-        let j = i - l.rules;
-        ports[j] = ports_matched(w, body);
-        headers[j] = headers_matched(w, body);
-        i += 1;
+    // What the record of a rule says.
+    #[tactic(auto, using(widths::specs::Laws::Limits::limits), unfolding(format::specs::Record::priority))]
+    fn of_record(w: Widths, rule: &[u8]) -> Self
+        requires { (length rule.now ≡ 24) × (within_limits w ≡ true) }
+        ensures { SetsOf w rule.now result }
+    {
+        RuleSet {
+            switch: rule[1],
+            rank: 1 + u32::from(rule[2]) + 256 * u32::from(rule[3]),
+            ports: matched(w.p, rule[4], rule[5]),
+            headers: matched(w.h, rule[6], rule[7]),
+        }
+    }
+
+    // The rule matches a frame that arrives.
+    fn matches(self, frame: Frame) -> bool
+        requires { (frame.port < 64) × (frame.header < 64) }
+        ensures { result ≡ (eqb self.switch frame.switch && bit_of self.ports frame.port && bit_of self.headers frame.header) }
+    {
+        self.switch == frame.switch
+            && in_set(self.ports, frame.port)
+            && in_set(self.headers, frame.header)
+    }
+
+    // Its rank for a frame that arrives: 0 where it does not match.
+    fn rank_for(self, frame: Frame) -> u32
+        requires { (frame.port < 64) × (frame.header < 64) }
+        ensures { result ≡ cond (eqb self.switch frame.switch && bit_of self.ports frame.port && bit_of self.headers frame.header) self.rank 0 }
+    {
+        if self.matches(frame) { self.rank } else { 0 }
     }
 }
 
-// The rule of that body matches the arrival, where ports and headers are what its patterns match.
-fn rule_matches(w: Widths, body: &[u8], ports: u64, headers: u64, sw: u8, p: u8, h: u8) -> bool
-    requires body_len { (length body.now ≡ 20) × SetsOf w (of_body body.now) ports headers }
-    requires frame_within { FrameWithin w p h }
-    ensures { result ≡ rule_matches w (arrival sw p h) (of_body body.now) }
+// Works out what each rule says, by its number among the rules.
+fn rule_sets(net: &Network, sets: &mut [RuleSet; MOST_RULES])
+    ensures { RuleSets (records net.now.n net.now.store.now) net.now.layout.widths sets.new }
 {
-    if body[0] != sw {
-        return false;
-    }
-    if !in_set(ports, p) {
-        return false;
-    }
-    in_set(headers, h)
-}
-
-// The rank of the rule of that body where it matches: one above its priority.
-pub fn priority_rank(body: &[u8]) -> u32
-    requires { length body.now ≡ 20 }
-    ensures { result ≡ suc (priority (of_body body.now)) }
-{
-    1 + body[1] as u32 + 256 * body[2] as u32
-}
-
-// The rank of the rule of that body: 0 where it does not match, else one above its priority.
-pub fn rank(w: Widths, body: &[u8], ports: u64, headers: u64, sw: u8, p: u8, h: u8) -> u32
-    requires body_len { (length body.now ≡ 20) × SetsOf w (of_body body.now) ports headers }
-    requires frame_within { FrameWithin w p h }
-    ensures { result ≡ rank_of w (arrival sw p h) (of_body body.now) }
-{
-    if rule_matches(w, body, ports, headers, sw, p, h) {
-        priority_rank(body)
-    } else {
-        0
+    let l = net.layout;
+    for j in 0..l.nodes - l.rules {
+        sets[j] = RuleSet::of_record(l.widths, net.record(l.rules + j));
     }
 }

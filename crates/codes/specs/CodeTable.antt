@@ -1,5 +1,5 @@
 -- Codes as numbers, as the header `wegbaro.h` tells them: the case in bits 0 and 1, the first number in bits 2 to 17, the second in bits 18 to 33, written by hand: by computation.
-use Rattle.std.specs.Prelude.{◌≡◌, refl, List, [], ◌∷◌, map, ℕ}
+use Rattle.std.specs.Prelude.{◌≡◌, refl, List, [], ◌∷◌, map}
 use Rattle.book.specs.Answer.{CheckAnswer, CommandAnswer}
 use Rattle.trails.specs.Answer.{RouteAnswer}
 use Rattle.codes.specs.Code.{check_code, command_code, route_code}

@@ -2,7 +2,7 @@
 use mathlib.Core.Path.{◌≡◌, refl, sym, ap, ◌∙◌}
 use mathlib.Core.Bool.{Bool, true, false, cond}
 use mathlib.Core.List.{List, [], ◌∷◌, ◌++◌}
-use mathlib.Core.Option.{none, some}
+use Rattle.std.specs.Prelude.{Some, None}
 use Prim.Native.Nat.{ℕ, suc, ◌+◌, ◌≤◌}
 use native.Mathlib.Omega.{arith}
 use lib.ListN.{take, drop, take-append-drop}
@@ -49,7 +49,7 @@ module _ (c : Rec) (s : List ℕ) (n : ℕ) where
   net = records n s
 
   module _ (g : Net → Net) (over : (r : Rec) (rs : Net) → same_rule c r ≡ false → g (r ∷ rs) ≡ r ∷ g rs) where
-    at_same : (k : ℕ) → some k ≡ found_rule c net → g net ≡ take k net ++ g (record_at s k ∷ drop (k + 1) net)
+    at_same : (k : ℕ) → Some k ≡ found_rule c net → g net ≡ take k net ++ g (record_at s k ∷ drop (k + 1) net)
     at_same k e =
         from_first (same_rule c) g over net ∙ ap (λ (m : ℕ). take m net ++ g (drop m net)) (at_first c s n k e)
         ∙ ap (λ (l : Net). take k net ++ g l) (at_record c s n k e).1
@@ -63,20 +63,20 @@ module _ (c : Rec) (s : List ℕ) (n : ℕ) where
   removed_over r rs t = rw (t, removed)
 
   -- modify
-  pub changed_at : (f : Rec → Rec) (k : ℕ) → some k ≡ found_rule c net → changed f c net ≡ spliced net k (k + 1) (f (record_at s k))
+  pub changed_at : (f : Rec → Rec) (k : ℕ) → Some k ≡ found_rule c net → changed f c net ≡ spliced net k (k + 1) (f (record_at s k))
   unfolding changed
   changed_at f k e = at_same (changed f c) (changed_over f) k e ∙ rw ((at_record c s n k e).0, changed)
 
   -- delete
-  pub removed_at : (k : ℕ) → some k ≡ found_rule c net → removed c net ≡ joined net k (k + 1)
+  pub removed_at : (k : ℕ) → Some k ≡ found_rule c net → removed c net ≡ joined net k (k + 1)
   unfolding removed
   removed_at k e = at_same (removed c) removed_over k e ∙ rw ((at_record c s n k e).0, removed)
 
-  pub removed_absent : none ≡ found_rule c net → removed c net ≡ joined net n n
+  pub removed_absent : None ≡ found_rule c net → removed c net ≡ joined net n n
   removed_absent e = removed_none c net (sym (found_absent c net e)) ∙ all_kept s n
 
   -- add
-  pub added_at : (k : ℕ) → some k ≡ found_rule c net → added c net ≡ spliced net k (k + 1) (as_rule c)
+  pub added_at : (k : ℕ) → Some k ≡ found_rule c net → added c net ≡ spliced net k (k + 1) (as_rule c)
   unfolding added
   added_at k e = rw (sym (found_present c net k e), added) (changed_at (λ r. as_rule c) k e)
 

@@ -2,7 +2,7 @@
 use mathlib.Core.Path.{◌≡◌, refl, sym, ap, ap₂, subst, ◌∙◌}
 use mathlib.Core.Bool.{Bool, true, false, cond, ◌||◌, false≢true}
 use mathlib.Core.List.{List, [], ◌∷◌}
-use mathlib.Core.Option.{none, some}
+use Rattle.std.specs.Prelude.{Some, None}
 use Prim.Native.Nat.{ℕ, suc, ◌+◌, ◌<◌, ◌≤◌}
 use native.Mathlib.Omega.{arith}
 use native.Mathlib.Numerals.{add-one}
@@ -39,30 +39,30 @@ first-le t (r ∷ rs) = go (t r) (first_at t rs) (first-le t rs)
     go true k h = omega arith
     go false k h = omega arith
 
-at_told : (b : Bool) (m k : ℕ) → some k ≡ cond b (some m) none → m ≡ k
+at_told : (b : Bool) (m k : ℕ) → Some k ≡ cond b (Some m) None → m ≡ k
 at_told true m k e = cc
-at_told false m k e = let z : ◌≡◌ {A = ℕ} 0 1 = cc in absurd (omega arith)
+at_told false m k e = cc
 
 -- the same rule as c among the records of a store
 module _ (c : Rec) (s : List ℕ) (n : ℕ) where
   abbrev net : Net
   net = records n s
 
-  pub at_first : (k : ℕ) → some k ≡ found_rule c net → first_at (same_rule c) net ≡ k
+  pub at_first : (k : ℕ) → Some k ≡ found_rule c net → first_at (same_rule c) net ≡ k
   unfolding found_rule
   at_first k e = at_told (present c net) (first_at (same_rule c) net) k e
 
-  at_here : (k : ℕ) → some k ≡ found_rule c net → Here (same_rule c) net k
+  at_here : (k : ℕ) → Some k ≡ found_rule c net → Here (same_rule c) net k
   unfolding present
   at_here k e =
       subst (Here (same_rule c) net) (at_first k e)
       (first_here (same_rule c) net (sym (found_present c net k e)))
 
   -- the same rule is one of the records
-  pub at_below : (k : ℕ) → some k ≡ found_rule c net → k < n
+  pub at_below : (k : ℕ) → Some k ≡ found_rule c net → k < n
   at_below k e = omega (arith, ap length (at_here k e).2, length-drop k net, length_records n s)
 
-  pub at_record : (k : ℕ) → some k ≡ found_rule c net → (same_rule c (record_at s k) ≡ true) × (drop k net ≡ record_at s k ∷ drop (k + 1) net)
+  pub at_record : (k : ℕ) → Some k ≡ found_rule c net → (same_rule c (record_at s k) ≡ true) × (drop k net ≡ record_at s k ∷ drop (k + 1) net)
   at_record k e =
       let h = at_here k e in
       let l = at_below k e in

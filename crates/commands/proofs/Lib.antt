@@ -2,3 +2,4 @@
 pub mod EffectInStore
 pub mod FoundRule
 pub mod RecordBytes
+pub mod Named

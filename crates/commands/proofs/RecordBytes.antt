@@ -5,11 +5,12 @@ use Prim.Native.Nat.{ℕ, zero, suc, ◌+◌, ◌-◌, ◌*◌, ◌≤◌}
 use native.Mathlib.Omega.{arith}
 use lib.ListN.{length, take, drop, replicate, length-append, length-drop}
 use lib.Seq.{take_all, take-add, take_at, drop_at, length-take-le}
-use Rattle.planes.specs.Lines.{Cleared, Put}
+use borrow.Rule.Slice.PartMut.{put_mid}
+use Rattle.std.proofs.lemmas.Slice.{take-put_mid}
+use Rattle.std.proofs.lemmas.List.{length-replicate}
 use Rattle.format.specs.Record.{Rec, Net, store_bytes, records, flat}
 use Rattle.format.specs.Laws.Records.{flat_append, length_records, records_split}
-use Rattle.commands.specs.Effect.{padded, filled, spliced, joined, BufferRoom}
-use Rattle.planes.specs.Laws.Copies.{put_upto, cleared_upto}
+use Rattle.commands.specs.Effect.{padded, filled, spliced, joined, Room}
 
 flat_records : (n : ℕ) (s : List ℕ) → flat (records n s) ≡ take (n * 24) s
 unfolding flat records
@@ -51,48 +52,40 @@ module _ (s : List ℕ) (n : ℕ) where
       ∙ omega (arith, l, length-take-le i (records n s) (omega arith), length-drop j (records n s))
 
   -- room for a network is room for the records that it is made of
-  pub room_spliced : {next : List ℕ} {net : Net} (i j : ℕ) (r : Rec) → net ≡ spliced (records n s) i j r → i ≤ n
-      → BufferRoom next s n (length net) → BufferRoom next s n (i + 1 + (n - j))
-  room_spliced {next} i j r e h room = subst (BufferRoom next s n) (ap length e ∙ length_spliced i j r h) room
+  pub room_spliced : {next : List ℕ} {net : Net} (i j : ℕ) (r : Rec) → net ≡ spliced (records n s) i j r → i ≤ n → Room next (length net) → Room next (i + 1 + (n - j))
+  room_spliced {next} i j r e h room = subst (Room next) (ap length e ∙ length_spliced i j r h) room
 
-  pub room_joined : {next : List ℕ} {net : Net} (i j : ℕ) → net ≡ joined (records n s) i j → i ≤ n
-      → BufferRoom next s n (length net) → BufferRoom next s n (i + (n - j))
-  room_joined {next} i j e h room = subst (BufferRoom next s n) (ap length e ∙ length_joined i j h) room
+  pub room_joined : {next : List ℕ} {net : Net} (i j : ℕ) → net ≡ joined (records n s) i j → i ≤ n → Room next (length net) → Room next (i + (n - j))
+  room_joined {next} i j e h room = subst (Room next) (ap length e ∙ length_joined i j h) room
 
--- bytes that are put after those in front, and zeros after them
-pub finished : (b b₁ b₂ part : List ℕ) (at end : ℕ) → length b ≡ store_bytes → end ≡ at + length part → end ≤ store_bytes
-    → Put part at (length part) b b₁ → Cleared end (store_bytes - end) b₁ b₂ → b₂ ≡ padded (take at b ++ part)
+-- bytes that are written after those in front, and zeros after them
+pub finished : (b copied zeros : List ℕ) (at end k m : ℕ) → length b ≡ store_bytes → end ≡ at + length copied → end ≤ store_bytes → zeros ≡ replicate (store_bytes - end) 0
+    → end ≤ length (put_mid at k b copied) → length (put_mid end m (put_mid at k b copied) zeros) ≡ store_bytes
+    → put_mid end m (put_mid at k b copied) zeros ≡ padded (take at b ++ copied)
 unfolding padded
-finished b b₁ b₂ part at end w q h u z =
-    let e : end + (store_bytes - end) ≡ store_bytes = omega arith in
-    let k : end ≡ length (take at b ++ part) = omega (arith, length-append (take at b) part, length-take-le at b (omega arith)) in
-    sym (take_all store_bytes b₂ (omega (arith, z.len, u.len)))
-    ∙ ap (λ (m : ℕ). take m b₂) (sym e)
-    ∙ cleared_upto z (omega (arith, u.len))
-    ∙ ap₂ (λ (x : List ℕ) (m : ℕ). x ++ replicate (store_bytes - m) 0) (ap (λ (m : ℕ). take m b₁) q ∙ put_upto part u (omega arith)) k
+finished b copied zeros at end k m w e h z l q =
+    let c : length zeros ≡ store_bytes - end = ap length z ∙ length-replicate (store_bytes - end) 0 in
+    let f : end ≡ length (take at b ++ copied) = omega (arith, length-append (take at b) copied, length-take-le at b (omega arith)) in
+    sym (take_all store_bytes (put_mid end m (put_mid at k b copied) zeros) (omega arith))
+    ∙ take-put_mid end m (put_mid at k b copied) zeros store_bytes (omega arith) l
+    ∙ ap₂ (λ (x : List ℕ) (y : List ℕ). x ++ y) (take-put_mid at k b copied end e (omega arith)) z
+    ∙ ap (λ (n : ℕ). take at b ++ copied ++ replicate (store_bytes - n) 0) f
 
-module _ (store next b₁ : List ℕ) (n i j : ℕ) (order : (i ≤ j) × (j ≤ n)) (stored : n * 24 ≤ length store) (fits : i * 24 ≤ length next)
-    (u : Put (take (i * 24 - 0) store) 0 (length (take (i * 24 - 0) store)) next b₁) where
+module _ (store b₁ : List ℕ) (n i j : ℕ) (order : (i ≤ j) × (j ≤ n)) (same : take (i * 24) b₁ ≡ take (i * 24) store) where
   -- the records in front
   front : take (i * 24) b₁ ≡ flat (take i (records n store))
-  front =
-      let z : i * 24 - 0 ≡ i * 24 = omega arith in
-      let l : length (take (i * 24 - 0) store) ≡ i * 24 = length-take-le (i * 24 - 0) store (omega arith) ∙ z in
-      let q : i * 24 ≡ 0 + length (take (i * 24 - 0) store) = omega arith in
-      ap (λ (m : ℕ). take m b₁) q ∙ put_upto (take (i * 24 - 0) store) u (omega arith) ∙ ap (λ (m : ℕ). take m store) z ∙ sym (flat_take store n i (omega arith))
+  front = same ∙ sym (flat_take store n i (omega arith))
 
   pub joined_bytes : (b : List ℕ) → b ≡ padded (take (i * 24) b₁ ++ flat (drop j (records n store))) → b ≡ filled (joined (records n store) i j)
   joined_bytes b e =
       e ∙ ap padded (ap (λ (x : List ℕ). x ++ flat (drop j (records n store))) front ∙ sym (flat_append (take i (records n store)) (drop j (records n store))))
 
-  pub spliced_bytes : (r b₂ b : List ℕ) → length r ≡ 24 → i * 24 + 24 ≤ length next → Put r (i * 24) (length r) b₁ b₂ → b ≡ padded (take (i * 24 + 24) b₂ ++ flat (drop j (records n store)))
+  pub spliced_bytes : (r w b₂ b : List ℕ) → w ≡ r → take (i * 24 + 24) b₂ ≡ take (i * 24) b₁ ++ w → b ≡ padded (take (i * 24 + 24) b₂ ++ flat (drop j (records n store)))
       → b ≡ filled (spliced (records n store) i j r)
   unfolding flat
-  spliced_bytes r b₂ b l h v e =
-      let front-and-rule : take (i * 24 + 24) b₂ ≡ flat (take i (records n store)) ++ r =
-      ap (λ (m : ℕ). take (i * 24 + m) b₂) (sym l) ∙ put_upto r v (omega (arith, u.len)) ∙ ap (λ (x : List ℕ). x ++ r) front in
+  spliced_bytes r w b₂ b q v e =
       e
       ∙ ap padded
-      (ap (λ (x : List ℕ). x ++ flat (drop j (records n store))) front-and-rule
+      (ap (λ (x : List ℕ). x ++ flat (drop j (records n store))) (v ∙ ap₂ (λ (x : List ℕ) (y : List ℕ). x ++ y) front q)
       ∙ append_assoc (flat (take i (records n store))) r (flat (drop j (records n store)))
       ∙ sym (flat_append (take i (records n store)) (r ∷ drop j (records n store))))

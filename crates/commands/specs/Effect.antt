@@ -1,6 +1,7 @@
 -- The effect of a command in code: what its functions are lent, and what they leave.
 use Rattle.std.specs.Prelude.{◌≡◌, Bool, List, ◌∷◌, ◌++◌, ℕ, ◌-◌, ◌*◌, ◌≤◌, ltb, length, take, drop, replicate}
-use Rattle.format.specs.Record.{Rec, Net, most_records, store_bytes, kind, flat}
+use Rattle.format.specs.Record.{Rec, Net, most_records, store_bytes, kind, records, flat}
+use Rattle.commands.specs.declared.stored.Stored.{Stored}
 
 -- bytes, then zeros to byte 15,768
 unfoldable pub padded : List ℕ → List ℕ
@@ -26,6 +27,15 @@ above_rules r = ltb 4 (kind r)
 pub record BufferRoom (next store : List ℕ) (n count : ℕ) : Type 0 where
   pub wide : length next ≡ store_bytes
   pub stored : n * 24 ≤ length store
+  pub fits : count ≤ most_records
+
+-- the records of a store, as a network
+abbrev pub net_of : Stored → Net
+net_of s = records s.n s.store.now
+
+-- a buffer of 15,768 bytes for `count` records
+pub record Room (next : List ℕ) (count : ℕ) : Type 0 where
+  pub wide : length next ≡ store_bytes
   pub fits : count ≤ most_records
 
 -- the network's records are counted, and stand in the buffer, then zeros

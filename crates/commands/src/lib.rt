@@ -5,167 +5,170 @@ ghost use Rattle.std.specs.Prelude.{◌≡◌, false, ◌++◌, ◌+◌, ◌-◌
 ghost use Rattle.format.specs.Record.{store_bytes, kind, present, records, flat};
 ghost use Rattle.format.specs.Search.{first_at};
 ghost use Rattle.effect.specs.Apply.{as_rule, with_actions, inserted, added, removed, applied};
-ghost use Rattle.commands.specs.Effect.{padded, spliced, joined, above_rules, BufferRoom, Built};
+ghost use Rattle.commands.specs.Effect.{padded, spliced, joined, above_rules, BufferRoom, net_of, Room, Built};
 
 use format::Version;
-use rows::rules::Found;
+use format::kinds::CommandKind;
+use records::{STORE_BYTES, record};
+use rows::rules::find_rule;
+use stored::Stored;
+
+mod stored;
 
 // The rule of a command.
+#[tactic(auto, unfolding(effect::specs::Apply::as_rule))]
 fn as_rule(given: &[u8]) -> [u8; 24]
     requires { length given.now ≡ 24 }
     ensures { result ≡ as_rule given.now }
 {
     let mut rule = [0u8; 24];
-    planes::put(&mut rule, 0, given);
+    rule.copy_from_slice(given);
     rule[0] = 4;
     rule
 }
 
 // A rule with the action count and actions of a command.
+#[tactic(auto, unfolding(effect::specs::Apply::with_actions))]
 fn with_actions(given: &[u8], r: &[u8]) -> [u8; 24]
     requires { (length given.now ≡ 24) × (length r.now ≡ 24) }
     ensures { result ≡ with_actions given.now r.now }
 {
     let mut rule = [0u8; 24];
-    planes::put(&mut rule, 0, r);
-    planes::put(&mut rule, 8, &given[8..21]);
+    rule.copy_from_slice(r);
+    rule[8..21].copy_from_slice(&given[8..21]);
     rule
 }
 
-// The place of a new rule: before the first record of a higher kind.
-fn place(store: &[u8], n: usize) -> usize
-    requires { n * 24 ≤ length store.now }
-    ensures { result ≡ first_at above_rules (records n store.now) }
+// The place of a new rule: before the first record of a higher kind, by the order of kind bytes, which their names do not have.
+#[tactic(auto, using(rows::specs::Laws::Found::none_yet, rows::specs::Laws::Found::none_more, rows::specs::Laws::Found::first_found, rows::specs::Laws::Found::first_none, format::specs::Laws::Records::record_kind_lem))]
+fn place(before: Stored) -> usize
+    ensures { result ≡ first_at above_rules (net_of before.entry) }
 {
-    let mut i = 0;
-    while i < n {
-        if 4 < store[i * 24] {
+    for i in 0..before.n {
+        if 4 < before.store[i * 24] {
             return i;
         }
-        i += 1;
     }
-    n
+    before.n
 }
 
 // After the first `at` bytes of next, the store's records from number j up to n, then zeros.
-fn finish(next: &mut [u8], at: usize, store: &[u8], n: usize, j: usize)
-    requires { (length next.old ≡ store_bytes) × (n * 24 ≤ length store.now) × (j ≤ n) × (at + (n - j) * 24 ≤ store_bytes) }
-    ensures { next.new ≡ padded (take at next.old ++ flat (drop j (records n store.now))) }
+fn finish(next: &mut [u8], at: usize, before: Stored, j: usize)
+    requires { (length next.old ≡ store_bytes) × (j ≤ before.n) × (at + (before.n - j) * 24 ≤ store_bytes) }
+    ensures { next.new ≡ padded (take at next.old ++ flat (drop j (net_of before.entry))) }
 {
     let b = j * 24;
-    let e = n * 24;
-    planes::put(next, at, &store[b..e]);
+    let e = before.n * 24;
     let end = at + (e - b);
-    planes::clear(next, end, records::STORE_BYTES - end);
+    next[at..end].copy_from_slice(&before.store[b..e]);
+    next[end..].fill(0);
 }
 
 // Makes next the n records with a rule in place of those from i up to j, and counts them.
-fn splice(next: &mut [u8], store: &[u8], n: usize, rule: &[u8; 24], i: usize, j: usize) -> usize
-    requires buffer_room { BufferRoom next.old store.now n (i + 1 + (n - j)) }
-    requires i_le_j { (i ≤ j) × (j ≤ n) }
-    ensures { Built (spliced (records n store.now) i j rule.now) result next.new }
+fn splice(next: &mut [u8], before: Stored, rule: &[u8; 24], i: usize, j: usize) -> usize
+    requires buffer_room { Room next.old (i + 1 + (before.n - j)) }
+    requires i_le_j { (i ≤ j) × (j ≤ before.n) }
+    ensures { Built (spliced (net_of before.entry) i j rule.now) result next.new }
 {
     let a = i * 24;
-    planes::put(next, 0, &store[0..a]);
-    planes::put(next, a, rule);
-    finish(next, a + 24, store, n, j);
-    i + 1 + (n - j)
+    next[..a].copy_from_slice(&before.store[..a]);
+    next[a..a + 24].copy_from_slice(rule);
+    finish(next, a + 24, before, j);
+    i + 1 + (before.n - j)
 }
 
-// Makes next the n records without those from i up to j, and counts them.
-fn join(next: &mut [u8], store: &[u8], n: usize, i: usize, j: usize) -> usize
-    requires buffer_room { BufferRoom next.old store.now n (i + (n - j)) }
-    requires i_le_j { (i ≤ j) × (j ≤ n) }
-    ensures { Built (joined (records n store.now) i j) result next.new }
+// Makes next the n records without those from i up to j, and counts them: apart from splice, since one for both, over a rule that
+// may be missing, is no plainer.
+fn join(next: &mut [u8], before: Stored, i: usize, j: usize) -> usize
+    requires buffer_room { Room next.old (i + (before.n - j)) }
+    requires i_le_j { (i ≤ j) × (j ≤ before.n) }
+    ensures { Built (joined (net_of before.entry) i j) result next.new }
 {
     let a = i * 24;
-    planes::put(next, 0, &store[0..a]);
-    finish(next, a, store, n, j);
-    i + (n - j)
+    next[..a].copy_from_slice(&before.store[..a]);
+    finish(next, a, before, j);
+    i + (before.n - j)
 }
 
 // A new rule, after the last rule.
-fn insert(next: &mut [u8], store: &[u8], n: usize, given: &[u8]) -> usize
-    requires buffer_room { BufferRoom next.old store.now n (length (inserted given.now (records n store.now))) }
+#[tactic(auto, using(crate::proofs::EffectInStore::new_below, crate::proofs::EffectInStore::inserted_new, crate::proofs::RecordBytes::length_spliced))]
+fn insert(next: &mut [u8], before: Stored, given: &[u8]) -> usize
+    requires buffer_room { Room next.old (length (inserted given.now (net_of before))) }
     requires given_len { length given.now ≡ 24 }
-    ensures { Built (inserted given.now (records n store.now)) result next.new }
+    ensures { Built (inserted given.now (net_of before.entry)) result next.new }
 {
-    let rule = as_rule(given);
-    let i = place(store, n);
-    splice(next, store, n, &rule, i, i)
+    let i = place(before);
+    splice(next, before, &as_rule(given), i, i)
 }
 
 // Add: replaces the same rule in its place, or else goes after the last rule.
-fn add(next: &mut [u8], store: &[u8], n: usize, given: &[u8]) -> usize
-    requires buffer_room { BufferRoom next.old store.now n (length (added given.now (records n store.now))) }
+#[tactic(auto, using(crate::proofs::FoundRule::at_below, crate::proofs::EffectInStore::added_at, crate::proofs::RecordBytes::length_spliced, rows::specs::Laws::Found::found_absent, effect::specs::Laws::RulePlace::added_new))]
+fn add(next: &mut [u8], before: Stored, given: &[u8]) -> usize
+    requires buffer_room { Room next.old (length (added given.now (net_of before))) }
     requires given_len { length given.now ≡ 24 }
-    ensures { Built (added given.now (records n store.now)) result next.new }
+    ensures { Built (added given.now (net_of before.entry)) result next.new }
 {
-    let f = rows::rules::find_rule(store, n, given);
-    match f {
-        Found::At(i) => {
-            let replacing = as_rule(given);
-            splice(next, store, n, &replacing, i, i + 1)
-        }
-        Found::Nothing => insert(next, store, n, given),
+    match find_rule(before.store, before.n, given) {
+        Some(i) => splice(next, before, &as_rule(given), i, i + 1),
+        None => insert(next, before, given),
     }
 }
 
 // Modify without its rule: in 1.0 it acts as an add, in 1.3 it changes nothing.
-fn modify_absent(version: Version, next: &mut [u8], store: &[u8], n: usize, given: &[u8]) -> usize
-    requires buffer_room { BufferRoom next.old store.now n (length (applied version given.now (records n store.now))) }
-    requires given_len { (length given.now ≡ 24) × (kind given.now ≡ 7) × (present given.now (records n store.now) ≡ false) }
-    ensures { Built (applied version given.now (records n store.now)) result next.new }
+#[tactic(auto, using(crate::proofs::EffectInStore::all_kept, crate::proofs::RecordBytes::length_joined, effect::specs::Laws::Applied::modify_adds, effect::specs::Laws::Applied::modify_nothing))]
+fn modify_absent(version: Version, next: &mut [u8], before: Stored, given: &[u8]) -> usize
+    requires buffer_room { Room next.old (length (applied version given.now (net_of before))) }
+    requires given_len { (length given.now ≡ 24) × (kind given.now ≡ 7) × (present given.now (net_of before) ≡ false) }
+    ensures { Built (applied version given.now (net_of before.entry)) result next.new }
 {
     match version {
-        Version::OpenFlow10 => insert(next, store, n, given),
-        Version::OpenFlow13 => join(next, store, n, n, n),
+        Version::OpenFlow10 => insert(next, before, given),
+        Version::OpenFlow13 => join(next, before, before.n, before.n),
     }
 }
 
 // Modify: replaces the action count and actions of the same rule, or else goes by the version.
-fn modify(version: Version, next: &mut [u8], store: &[u8], n: usize, given: &[u8]) -> usize
-    requires buffer_room { BufferRoom next.old store.now n (length (applied version given.now (records n store.now))) }
+#[tactic(auto, using(crate::proofs::FoundRule::at_below, crate::proofs::EffectInStore::changed_at, crate::proofs::RecordBytes::length_spliced, rows::specs::Laws::Found::found_present, rows::specs::Laws::Found::found_absent, effect::specs::Laws::Applied::modify_there))]
+fn modify(version: Version, next: &mut [u8], before: Stored, given: &[u8]) -> usize
+    requires buffer_room { Room next.old (length (applied version given.now (net_of before))) }
     requires given_len { (length given.now ≡ 24) × (kind given.now ≡ 7) }
-    ensures { Built (applied version given.now (records n store.now)) result next.new }
+    ensures { Built (applied version given.now (net_of before.entry)) result next.new }
 {
-    let f = rows::rules::find_rule(store, n, given);
-    match f {
-        Found::At(i) => {
-            let a = i * 24;
-            let e = a + 24;
-            let changed = with_actions(given, &store[a..e]);
-            splice(next, store, n, &changed, i, i + 1)
+    match find_rule(before.store, before.n, given) {
+        Some(i) => {
+            let changed = with_actions(given, record(before.store, i));
+            splice(next, before, &changed, i, i + 1)
         }
-        Found::Nothing => modify_absent(version, next, store, n, given),
+        None => modify_absent(version, next, before, given),
     }
 }
 
 // Delete: removes the same rule and closes up.
-fn delete(next: &mut [u8], store: &[u8], n: usize, given: &[u8]) -> usize
-    requires buffer_room { BufferRoom next.old store.now n (length (removed given.now (records n store.now))) }
+#[tactic(auto, using(crate::proofs::FoundRule::at_below, crate::proofs::EffectInStore::removed_at, crate::proofs::EffectInStore::removed_absent, crate::proofs::RecordBytes::length_joined))]
+fn delete(next: &mut [u8], before: Stored, given: &[u8]) -> usize
+    requires buffer_room { Room next.old (length (removed given.now (net_of before))) }
     requires given_len { length given.now ≡ 24 }
-    ensures { Built (removed given.now (records n store.now)) result next.new }
+    ensures { Built (removed given.now (net_of before.entry)) result next.new }
 {
-    let f = rows::rules::find_rule(store, n, given);
-    match f {
-        Found::At(i) => join(next, store, n, i, i + 1),
-        Found::Nothing => join(next, store, n, n, n),
+    match find_rule(before.store, before.n, given) {
+        Some(i) => join(next, before, i, i + 1),
+        None => join(next, before, before.n, before.n),
     }
 }
 
 // Makes next the network that a command would leave, and counts its records.
+#[tactic(auto, using(crate::proofs::Named::acts_add, crate::proofs::Named::acts_modify, crate::proofs::Named::acts_delete, crate::proofs::Named::acts_none, crate::proofs::EffectInStore::all_kept, crate::proofs::RecordBytes::length_joined))]
 pub fn apply_to(version: Version, next: &mut [u8], store: &[u8], n: usize, given: &[u8]) -> usize
     requires buffer_room { BufferRoom next.old store.now n (length (applied version given.now (records n store.now))) }
     requires given_len { length given.now ≡ 24 }
     ensures { Built (applied version given.now (records n store.now)) result next.new }
 {
-    let kind = given[0];
-    match kind {
-        6 => add(next, store, n, given),
-        7 => modify(version, next, store, n, given),
-        8 => delete(next, store, n, given),
-        0..=5 | 9..=255 => join(next, store, n, n, n),
+    let before = Stored { store, n };
+    match CommandKind::from(given[0]) {
+        CommandKind::Add => add(next, before, given),
+        CommandKind::Modify => modify(version, next, before, given),
+        CommandKind::Delete => delete(next, before, given),
+        CommandKind::Unknown => join(next, before, n, n),
     }
 }
 
@@ -174,5 +177,5 @@ pub fn write_back(store: &mut [u8], next: &[u8])
     requires { (length next.now ≡ store_bytes) × (store_bytes ≤ length store.old) }
     ensures { store.new ≡ next.now ++ drop store_bytes store.old }
 {
-    planes::put(store, 0, next);
+    store[..STORE_BYTES].copy_from_slice(next);
 }

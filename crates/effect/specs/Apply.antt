@@ -1,6 +1,8 @@
 -- The effect of a command on the records of a network: add, modify and delete in strict form.
 use Rattle.std.specs.Prelude.{true, false, [], ◌∷◌, ◌++◌, ltb, take, drop}
-use Rattle.format.specs.Record.{Rec, Net, kind, CommandKind, k_add, k_modify, k_delete, k_no_command, same_rule, present}
+use Rattle.format.specs.Record.{Rec, Net, kind, same_rule, present}
+use Rattle.format.specs.declared.kinds.CommandKind.{CommandKind}
+use Rattle.format.specs.declared.kinds.CommandKind.TheVariants.{Add as k_add, Modify as k_modify, Delete as k_delete, Unknown as k_no_command}
 use Rattle.format.specs.Version.{version_of, acting}
 use Rattle.format.specs.declared.Version.{Version}
 

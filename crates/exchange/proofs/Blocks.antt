@@ -1,10 +1,10 @@
 -- Blocks of eight by eight bits are read and written byte by byte, and a plane is exchanged block by block.
-use mathlib.Core.Path.{◌≡◌, refl, sym, ap, ap₂, ◌∙◌}
+use mathlib.Core.Path.{◌≡◌, sym, ap, ap₂, ◌∙◌}
 use mathlib.Core.Bool.{◌||◌}
 use mathlib.Core.List.{List}
 use mathlib.Core.Logic.{◌⊎◌, inl, inr, ⊎_elim}
 use Prim.Native.Nat.{ℕ, ◌+◌, ◌-◌, ◌*◌, ◌/◌, ◌%◌, ◌^◌, ◌<◌, ◌≤◌}
-use native.Mathlib.Nat.{not-suc-le-zero, add-mul}
+use native.Mathlib.Nat.{add-mul}
 use native.Mathlib.Decide.{ℕ_discrete}
 use native.Mathlib.Omega.{arith}
 use lib.ListN.{length, get_or, set, length-set}
@@ -12,7 +12,6 @@ use lib.Seq.{get_or-set_same, get_or-set_other}
 use lib.Bits.{bit_or}
 use Rattle.basics.specs.Bit.{bit_of}
 use Rattle.planes.specs.Plane.{cell, plane_size}
-use Rattle.planes.specs.Lines.{Made}
 use Rattle.basics.specs.Laws.Bits.{bit_or_lem, bit_above}
 use Rattle.planes.specs.Laws.Places.{bit_at, line_before, same_place}
 use Rattle.planes.specs.Laws.Lines.{plane_kept}
@@ -24,10 +23,6 @@ pub record Read (a pitch : ℕ) (bytes : List ℕ) (i v : ℕ) : Type 0 where
   pub bits : (k j : ℕ) → i + k < 8 → j < 8 → bit_of v (k * 8 + j) ≡ bit_of (get_or bytes (a + (i + k) * pitch) 0) j
 
 module _ (a pitch : ℕ) (bytes : List ℕ) where
-  -- at first there are none
-  pub read_none : (v : ℕ) → Read a pitch bytes 8 v
-  read_none v = record { bits = λ k j h l. absurd (omega arith) }
-
   -- one byte more
   pub read_more : (i v b : ℕ) → 0 < i → b ≡ get_or bytes (a + (i - 1) * pitch) 0 → b < 256 → Read a pitch bytes i v
       → Read a pitch bytes (i - 1) (bit_or (v * 2 ^ 8 % 2 ^ 64) b)
@@ -47,20 +42,7 @@ module _ (a pitch : ℕ) (bytes : List ℕ) where
           ∙ R.bits (k - 1) j (omega (arith, n)) l
           ∙ ap (λ (m : ℕ). bit_of (get_or bytes (a + m * pitch) 0) j) q
 
-  -- in the end there are all
-  pub read_all : (i v : ℕ) → i ≤ 0 → Read a pitch bytes i v → Block a pitch bytes v
-  read_all i v z R =
-      record {
-        bits = λ k j h l.
-            let e : i + k ≡ k = omega arith in
-            R.bits k j (omega arith) l ∙ ap (λ (m : ℕ). bit_of (get_or bytes (a + m * pitch) 0) j) e;
-      }
-
 module _ (a pitch v : ℕ) (before : List ℕ) where
-  -- at first nothing is written
-  pub spread_none : Spread a pitch 0 v before before
-  spread_none = record { len = refl; here = λ i j h l. absurd (not-suc-le-zero h); others = λ m n. refl }
-
   -- one byte more
   pub spread_more : (n b : ℕ) (l : List ℕ) → 0 < pitch → a + n * pitch < length l → b ≡ v / 2 ^ (n * 8) % 256 → Spread a pitch n v before l
       → Spread a pitch (n + 1) v before (set l (a + n * pitch) b)
@@ -79,10 +61,6 @@ module _ (a pitch v : ℕ) (before : List ℕ) where
           ap (λ (m : ℕ). bit_of m j) (get_or-set_other l (a + n * pitch) (a + i * pitch) b 0 (λ x. omega (arith, x, line_before i n pitch less)))
           ∙ S.here i j less k
 
-  -- in the end all are
-  pub spread_all : (n : ℕ) (l : List ℕ) → n ≤ 8 → 8 ≤ n → Spread a pitch n v before l → Spread a pitch 8 v before l
-  spread_all n l h g S = let e : n ≡ 8 = omega arith in rw e at S
-
 -- byte q of line 8 * p + i of a plane
 line_of : (base pitch p q i : ℕ) → base + p * 8 * pitch + q + i * pitch ≡ base + (p * 8 + i) * pitch + q
 line_of base pitch p q i = omega (arith, add-mul (p * 8) i pitch)
@@ -96,16 +74,6 @@ line_within pitch p q i hp hq hi =
 module _ (from to pitch : ℕ) where
   abbrev S : ℕ
   S = pitch * 8
-
-  -- at first nothing is exchanged
-  pub blocked_none : (a : List ℕ) → Blocked from to pitch 0 0 a a
-  blocked_none a =
-      record {
-        len = refl;
-        under = λ m h. refl;
-        over = λ m h. refl;
-        done = λ u v hu hv h. absurd (⊎_elim (λ k. not-suc-le-zero k) (λ k. not-suc-le-zero k.1) h);
-      }
 
   -- one block more
   module _ (apart : (from + plane_size pitch ≤ to) ⊎ (to + plane_size pitch ≤ from)) (c r v w : ℕ) (a l m : List ℕ) (hc : c < pitch) (hr : r < pitch)
@@ -164,19 +132,3 @@ module _ (from to pitch : ℕ) where
         go x y hx hy k (yes e) (yes f) = inside x y hx hy e f
         go x y hx hy k (no e) d = outside x y hy (λ q. e q.0) ∙ T.done x y hx hy (before x y k (λ q. e q.0))
         go x y hx hy k (yes e) (no f) = outside x y hy (λ q. f q.1) ∙ T.done x y hx hy (before x y k (λ q. f q.1))
-
-  -- after the last byte the next eight lines begin
-  pub blocked_lines : (c r : ℕ) (a l : List ℕ) → pitch ≤ r → Blocked from to pitch c r a l → Blocked from to pitch (c + 1) 0 a l
-  blocked_lines c r a l end T = record { len = T.len; under = T.under; over = T.over; done = λ x y hx hy k. T.done x y hx hy (earlier x y hy k) }
-    where
-      earlier : (x y : ℕ) → y < S → (x / 8 < c + 1) ⊎ ((x / 8 ≡ c + 1) × (y / 8 < 0)) → (x / 8 < c) ⊎ ((x / 8 ≡ c) × (y / 8 < r))
-      earlier x y hy (inl k) = go (ℕ_discrete (x / 8) c)
-        where
-          go : Dec (x / 8 ≡ c) → (x / 8 < c) ⊎ ((x / 8 ≡ c) × (y / 8 < r))
-          go (yes e) = inr (e, omega arith)
-          go (no e) = inl (omega (arith, e))
-      earlier x y hy (inr k) = absurd (not-suc-le-zero k.1)
-
-  -- after the last lines the plane is exchanged
-  pub blocked_all : (c : ℕ) (a l : List ℕ) → pitch ≤ c → Blocked from to pitch c 0 a l → Made (λ x y. cell a from pitch y x) pitch to S a l
-  blocked_all c a l end T = record { len = T.len; here = λ x y hx hy. T.done x y hx hy (inl (omega arith)); under = T.under; over = T.over }

@@ -8,12 +8,18 @@ use native.Mathlib.Nat.{not-suc-le-zero}
 use native.Mathlib.Decide.{ℕ_discrete, dec_lt}
 use native.Mathlib.Omega.{arith}
 use Rattle.planes.specs.Plane.{bit, cell, plane_size}
-use Rattle.planes.specs.Lines.{BitSet, Cleared, Made}
+use Rattle.planes.specs.Lines.{BitSet, Cleared, Loaded, Made}
 use Rattle.planes.specs.Laws.Places.{byte_at, line_before, same_place}
-use Rattle.planes.specs.Laws.Lines.{plane_kept}
+use Rattle.planes.specs.Laws.Lines.{plane_kept, loaded_bit}
 use Rattle.planes.specs.Laws.Planes.{made_cleared}
-use Rattle.words.specs.Words.{First}
+use Rattle.words.specs.Words.{Lacks}
+use Rattle.words.specs.Laws.Seeking.{front_bit}
+use lib.ListN.{take}
 use Rattle.exchange.specs.Swapped.{Swapped}
+
+-- a copy of a line has its states
+pub copied : (at pitch : ℕ) (l copy : List ℕ) → Loaded at pitch l copy → (u : ℕ) → u < pitch * 8 → bit (take pitch copy) u ≡ bit l (at * 8 + u)
+copied at pitch l copy L u hu = front_bit copy pitch u hu ∙ loaded_bit at pitch l copy L u hu
 
 module _ (from to pitch : ℕ) (apart : (from + plane_size pitch ≤ to) ⊎ (to + plane_size pitch ≤ from)) where
   abbrev S : ℕ
@@ -34,15 +40,26 @@ module _ (from to pitch : ℕ) (apart : (from + plane_size pitch ≤ to) ⊎ (to
   same_bits : (x y : ℕ) (a l : List ℕ) → Swapped from to pitch x y a l → (u v : ℕ) → u < S → v < S → cell l from pitch u v ≡ cell a from pitch u v
   same_bits x y a l T = plane_kept from pitch a l (λ m lo hi. ⊎_elim (λ q. T.under m (omega arith)) (λ q. T.over m (omega arith)) apart)
 
-  module _ (x y : ℕ) (a l : List ℕ) (T : Swapped from to pitch x y a l) where
+  -- what line x has is what it had before
+  pub had_line : (x : ℕ) (a l line : List ℕ) → Swapped from to pitch x 0 a l → x < S → ((u : ℕ) → u < S → bit line u ≡ cell l from pitch x u)
+      → (u : ℕ) → u < S → bit line u ≡ cell a from pitch x u
+  had_line x a l line T hx h u hu = h u hu ∙ same_bits x 0 a l T x u hx hu
+
+  module _ (x y : ℕ) (a l line : List ℕ) (same : (u : ℕ) → u < S → bit line u ≡ cell a from pitch x u) (T : Swapped from to pitch x y a l) where
+    -- a state that line x lacks is not set
+    not_had : (z : ℕ) → Lacks line y z → (u v : ℕ) → u < S → v < S → v ≡ x → y ≤ u → u < z → cell l to pitch u v ≡ cell a from pitch v u
+    not_had z F u v hu hv e h k =
+        T.clear u v hu hv (inr (e, h))
+        ∙ sym (ap (λ (v : ℕ). cell a from pitch v u) e ∙ sym (same u hu) ∙ F.none u h k)
+
     -- where line x has none of the next states, nothing is set
-    pub swapped_over : (z : ℕ) → x < S → First l (from + x * pitch) pitch y z → Swapped from to pitch x z a l
-    swapped_over z hx F =
+    pub swapped_over : (z : ℕ) → y ≤ z → Lacks line y z → Swapped from to pitch x z a l
+    swapped_over z h F =
         record { len = T.len; under = T.under; over = T.over; done = done; clear = λ u v hu hv k. T.clear u v hu hv (later k) }
       where
         later : {u v : ℕ} → (x < v) ⊎ ((v ≡ x) × (z ≤ u)) → (x < v) ⊎ ((v ≡ x) × (y ≤ u))
         later (inl k) = inl k
-        later {u} (inr k) = inr (k.0, omega (arith, k.1, F.later))
+        later {u} (inr k) = inr (k.0, omega (arith, k.1, h))
 
         done : (u v : ℕ) → u < S → v < S → (v < x) ⊎ ((v ≡ x) × (u < z)) → cell l to pitch u v ≡ cell a from pitch v u
         done u v hu hv (inl k) = T.done u v hu hv (inl k)
@@ -50,12 +67,10 @@ module _ (from to pitch : ℕ) (apart : (from + plane_size pitch ≤ to) ⊎ (to
           where
             go : Dec (u < y) → cell l to pitch u v ≡ cell a from pitch v u
             go (yes i) = T.done u v hu hv (inr (e, i))
-            go (no i) =
-                T.clear u v hu hv (inr (e, omega (arith, i)))
-                ∙ sym (ap (λ (v : ℕ). cell a from pitch v u) e ∙ sym (same_bits x y a l T x u hx hu) ∙ F.none u (omega (arith, i)) k)
+            go (no i) = not_had z F u v hu hv e (omega (arith, i)) k
 
     -- where line x has y, the exchanged bit is set
-    pub swapped_set : (m : List ℕ) → x < S → y < S → bit l ((from + x * pitch) * 8 + y) ≡ true → BitSet ((to + y * pitch) * 8 + x) l m → Swapped from to pitch x (y + 1) a m
+    pub swapped_set : (m : List ℕ) → x < S → y < S → bit line y ≡ true → BitSet ((to + y * pitch) * 8 + x) l m → Swapped from to pitch x (y + 1) a m
     swapped_set m hx hy has B =
         record {
           len = B.len ∙ T.len;
@@ -69,7 +84,7 @@ module _ (from to pitch : ℕ) (apart : (from + plane_size pitch ≤ to) ⊎ (to
         place = byte_at (to + y * pitch) x
 
         has_before : cell a from pitch x y ≡ true
-        has_before = sym (same_bits x y a l T x y hx hy) ∙ has
+        has_before = sym (same y hy) ∙ has
 
         later : {u v : ℕ} → (x < v) ⊎ ((v ≡ x) × (y + 1 ≤ u)) → (x < v) ⊎ ((v ≡ x) × (y ≤ u))
         later (inl k) = inl k
@@ -92,22 +107,26 @@ module _ (from to pitch : ℕ) (apart : (from + plane_size pitch ≤ to) ⊎ (to
         done u v hu hv k (no e) d = B.others _ (λ q. e (same_place to pitch u v y x hv hx q).0) ∙ T.done u v hu hv (before k (λ q. e q.0))
         done u v hu hv k (yes e) (no f) = B.others _ (λ q. f (same_place to pitch u v y x hv hx q).1) ∙ T.done u v hu hv (before k (λ q. f q.1))
 
-  -- after the last state the next line begins
-  pub swapped_line : (x y : ℕ) (a l : List ℕ) → S ≤ y → Swapped from to pitch x y a l → Swapped from to pitch (x + 1) 0 a l
-  swapped_line x y a l end T =
-      record { len = T.len; under = T.under; over = T.over; done = λ u v hu hv k. T.done u v hu hv (earlier hu k); clear = λ u v hu hv k. T.clear u v hu hv (later k) }
-    where
-      earlier : {u v : ℕ} → u < S → (v < x + 1) ⊎ ((v ≡ x + 1) × (u < 0)) → (v < x) ⊎ ((v ≡ x) × (u < y))
-      earlier {u} {v} hu (inl k) = go (ℕ_discrete v x)
-        where
-          go : Dec (v ≡ x) → (v < x) ⊎ ((v ≡ x) × (u < y))
-          go (yes e) = inr (e, omega (arith, hu, end))
-          go (no e) = inl (omega (arith, e))
-      earlier hu (inr k) = absurd (not-suc-le-zero k.1)
+    -- where it has none of all that are left, the next line begins
+    pub swapped_line : Lacks line y S → Swapped from to pitch (x + 1) 0 a l
+    swapped_line F =
+        record { len = T.len; under = T.under; over = T.over; done = done; clear = λ u v hu hv k. T.clear u v hu hv (later k) }
+      where
+        later : {u v : ℕ} → (x + 1 < v) ⊎ ((v ≡ x + 1) × (0 ≤ u)) → (x < v) ⊎ ((v ≡ x) × (y ≤ u))
+        later (inl k) = inl (omega (arith, k))
+        later (inr k) = inl (omega (arith, k.0))
 
-      later : {u v : ℕ} → (x + 1 < v) ⊎ ((v ≡ x + 1) × (0 ≤ u)) → (x < v) ⊎ ((v ≡ x) × (y ≤ u))
-      later {u} {v} (inl k) = inl (omega (arith, k))
-      later {u} {v} (inr k) = inl (omega (arith, k.0))
+        here : (u v : ℕ) → u < S → v < S → v ≡ x → Dec (u < y) → cell l to pitch u v ≡ cell a from pitch v u
+        here u v hu hv e (yes i) = T.done u v hu hv (inr (e, i))
+        here u v hu hv e (no i) = not_had S F u v hu hv e (omega (arith, i)) hu
+
+        done : (u v : ℕ) → u < S → v < S → (v < x + 1) ⊎ ((v ≡ x + 1) × (u < 0)) → cell l to pitch u v ≡ cell a from pitch v u
+        done u v hu hv (inr k) = absurd (not-suc-le-zero k.1)
+        done u v hu hv (inl k) = go (ℕ_discrete v x)
+          where
+            go : Dec (v ≡ x) → cell l to pitch u v ≡ cell a from pitch v u
+            go (yes e) = here u v hu hv e (dec_lt u y)
+            go (no e) = T.done u v hu hv (inl (omega (arith, e)))
 
   -- after the last line the plane is exchanged
   pub swapped_all : (a l : List ℕ) → Swapped from to pitch S 0 a l → Made (λ x y. cell a from pitch y x) pitch to S a l

@@ -8,17 +8,16 @@ ghost use Rattle.planes.specs.Lines.{Made};
 ghost use Rattle.exchange.specs.Swapped.{Swapped};
 ghost use Rattle.exchange.specs.Blocks.{Block, Turned, Spread, Blocked};
 
+use words::States;
+
 // Sets, in the plane at to, bit x of the line of each state that line x of the plane at from has.
 fn swap_line(work: &mut [u8], from: usize, to: usize, pitch: usize, x: usize)
     requires { Apart from to pitch (length work.old) × (x < pitch * 8) × (pitch % 8 ≡ 0) }
     ensures { (before : List ℕ) → Swapped from to pitch x 0 before work.old → Swapped from to pitch (x + 1) 0 before work.new }
 {
-    let states = pitch * 8;
-    let line = from + x * pitch;
-    let mut y = words::next_at(work, line, pitch, 0);
-    while y < states {
+    let line = planes::load_line(work, from + x * pitch, pitch);
+    for y in States::of(&line[..pitch]) {
         planes::set_at(work, to + y * pitch, x);
-        y = words::next_at(work, line, pitch, y + 1);
     }
 }
 
@@ -29,10 +28,8 @@ fn by_bits(work: &mut [u8], from: usize, to: usize, pitch: usize)
 {
     let states = pitch * 8;
     planes::clear(work, to, states * pitch);
-    let mut x: usize = 0;
-    while x < states {
+    for x in 0..states {
         swap_line(work, from, to, pitch, x);
-        x += 1;
     }
 }
 
@@ -42,9 +39,7 @@ fn block_at(p: &[u8], a: usize, pitch: usize) -> u64
     ensures { Block a pitch p.now result }
 {
     let mut v: u64 = 0;
-    let mut i: usize = 8;
-    while 0 < i {
-        i -= 1;
+    for i in (0..8).rev() {
         v = (v << 8) | (p[a + i * pitch] as u64);
     }
     v
@@ -72,10 +67,8 @@ fn put_block(p: &mut [u8], a: usize, pitch: usize, v: u64)
     requires { (a + 7 * pitch < length p.old) × (0 < pitch) × (pitch ≤ 128) }
     ensures { Spread a pitch 8 v p.old p.new }
 {
-    let mut i: usize = 0;
-    while i < 8 {
+    for i in 0..8 {
         p[a + i * pitch] = ((v >> (i * 8)) % 256) as u8;
-        i += 1;
     }
 }
 
@@ -93,10 +86,8 @@ fn turn_lines(work: &mut [u8], from: usize, to: usize, pitch: usize, c: usize)
     requires { Apart from to pitch (length work.old) × (c < pitch) }
     ensures { (before : List ℕ) → Blocked from to pitch c 0 before work.old → Blocked from to pitch (c + 1) 0 before work.new }
 {
-    let mut r: usize = 0;
-    while r < pitch {
+    for r in 0..pitch {
         turn_block(work, from, to, pitch, c, r);
-        r += 1;
     }
 }
 
@@ -105,10 +96,8 @@ fn by_blocks(work: &mut [u8], from: usize, to: usize, pitch: usize)
     requires { Apart from to pitch (length work.old) }
     ensures { Made (λ x y. cell work.old from pitch y x) pitch to (pitch * 8) work.old work.new }
 {
-    let mut c: usize = 0;
-    while c < pitch {
+    for c in 0..pitch {
         turn_lines(work, from, to, pitch, c);
-        c += 1;
     }
 }
 
@@ -117,11 +106,10 @@ fn sampled(work: &[u8], from: usize, pitch: usize) -> usize
     requires { (from + plane_size pitch ≤ length work.now) × (pitch ≤ 128) }
 {
     let size = pitch * 8 * pitch;
-    let mut count: usize = 0;
-    let mut at: usize = 0;
-    while at + 8 <= size {
-        count += (u64::count_ones(block_at(work, from + at, 1)) % 128) as usize;
-        at += pitch * 4 + 8;
+    let step = pitch * 4 + 8;
+    let mut count = 0;
+    for i in 0..(size + step - 8) / step {
+        count += words::eight(work, from + i * step).count_ones() as usize;
     }
     count
 }

@@ -1,12 +1,22 @@
 -- The fields of a record, as its kind reads them: ranges, widths, patterns, actions and unnamed bytes.
 use Rattle.std.specs.Prelude.{Bool, true, false, not, ◌&&◌, ℕ, suc, ◌+◌, ◌*◌, ◌^◌, eqb, leb, ltb, take, drop}
 use Rattle.basics.specs.Lists.{all, from}
-use Rattle.format.specs.Record.{Rec, most_policies, at, kind, RecordKind, k_widths, k_link, k_miss, k_rule, k_node, k_group, k_no_record, record_kind, CommandKind, k_add, k_modify, k_delete, k_no_command, command_kind, ActionKind, k_output, k_set, k_in_port, k_run_group, k_no_action, action_kind}
-use Rattle.format.specs.Group.{bucket_value, bucket_care, bucket_kind, bucket_target, TargetKind, k_port, k_lower_group, k_no_target, target_kind}
+use Rattle.format.specs.Record.{Rec, most_policies, at, kind, record_kind, command_kind, action_kind}
+use Rattle.format.specs.declared.kinds.RecordKind.{RecordKind}
+use Rattle.format.specs.declared.kinds.CommandKind.{CommandKind}
+use Rattle.format.specs.declared.kinds.ActionKind.{ActionKind}
+use Rattle.format.specs.declared.kinds.RecordKind.TheVariants.{Widths as k_widths, Link as k_link, Miss as k_miss, Rule as k_rule, Node as k_node, Group as k_group, Unknown as k_no_record}
+use Rattle.format.specs.declared.kinds.CommandKind.TheVariants.{Add as k_add, Modify as k_modify, Delete as k_delete, Unknown as k_no_command}
+use Rattle.format.specs.declared.kinds.ActionKind.TheVariants.{Output as k_output, Set as k_set, InPort as k_in_port, RunGroup as k_run_group, Unknown as k_no_action}
+use Rattle.format.specs.Group.{bucket_value, bucket_care, bucket_kind, bucket_target, target_kind}
+use Rattle.format.specs.declared.kinds.TargetKind.{TargetKind}
+use Rattle.format.specs.declared.kinds.TargetKind.TheVariants.{Port as k_port, LowerGroup as k_lower_group, Unknown as k_no_target}
 use Rattle.widths.specs.Widths.{width}
 use Rattle.format.specs.Version.{version_good}
 use Rattle.format.specs.Pattern.{pattern_good}
-use Rattle.format.specs.Policy.{NodeKind, k_bit, k_r, k_e, k_not, k_and, k_or, k_some, k_all, k_tc, k_none, node_kind}
+use Rattle.format.specs.Policy.{node_kind}
+use Rattle.format.specs.declared.kinds.NodeKind.{NodeKind}
+use Rattle.format.specs.declared.kinds.NodeKind.TheVariants.{Bit as k_bit, R as k_r, E as k_e, Not as k_not, And as k_and, Or as k_or, Some as k_some, All as k_all, Tc as k_tc, Unknown as k_none}
 use Rattle.widths.specs.declared.Widths.{Widths}
 
 -- the bytes from the first up to the last are zero

@@ -1,8 +1,12 @@
 -- The groups of a network: their buckets, and whether one that is named is there.
 use Rattle.std.specs.Prelude.{◌≡◌, Bool, true, not, ◌&&◌, ◌||◌, [], ◌∷◌, ℕ, ◌+◌, ◌*◌, eqb, get_or}
 use Rattle.basics.specs.Lists.{any, all, from}
-use Rattle.format.specs.Record.{Rec, Net, at, kind, RecordKind, k_widths, k_link, k_miss, k_rule, k_node, k_group, k_no_record, record_kind, of_kind}
+use Rattle.format.specs.Record.{Rec, Net, at, kind, record_kind, of_kind}
+use Rattle.format.specs.declared.kinds.RecordKind.{RecordKind}
+use Rattle.format.specs.declared.kinds.RecordKind.TheVariants.{Widths as k_widths, Link as k_link, Miss as k_miss, Rule as k_rule, Node as k_node, Group as k_group, Unknown as k_no_record}
 use Rattle.format.specs.declared.Bucket.{Bucket}
+use Rattle.format.specs.declared.kinds.TargetKind.{TargetKind}
+use Rattle.format.specs.declared.kinds.TargetKind.TheVariants.{Port as k_port, LowerGroup as k_lower_group, Unknown as k_no_target}
 
 -- bucket j of a group has four bytes: its header value,
 abbrev pub bucket_value : Rec → ℕ → ℕ
@@ -26,10 +30,6 @@ pub record IsBucket (r : Rec) (j : ℕ) (b : Bucket) : Type 0 where
   pub care : b.care ≡ bucket_care r j
   pub kind : b.kind ≡ bucket_kind r j
   pub target : b.target ≡ bucket_target r j
-
--- the kinds of targets, and none
-pub data TargetKind : Type 0 where
-  k_port k_lower_group k_no_target : TargetKind
 
 -- a port is 1, a group 2
 unfoldable pub target_kind : ℕ → TargetKind

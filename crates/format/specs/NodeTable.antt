@@ -3,7 +3,8 @@ use Rattle.std.specs.Prelude.{◌≡◌, refl, Bool, true, false, [], ◌∷◌,
 use Rattle.basics.specs.Lists.{from}
 use Rattle.format.specs.Record.{Net}
 use Rattle.format.specs.NetK.{record24, node}
-use Rattle.format.specs.Policy.{X, Y, absent, BIT, R, E, NOT, AND, OR, SOME, ALL, TC, node_kind, node_says, first_nodes, formula, free}
+use Rattle.format.specs.Policy.{absent, BIT, R, E, NOT, AND, OR, SOME, ALL, TC, node_kind, node_says, first_nodes, formula, free}
+use Rattle.format.specs.declared.kinds.Var.TheVariants.{X, Y}
 
 -- each node kind with every variable and every pair: byte 2 its kind, bytes 3 and 4
 unfoldable pub nodes : Net

@@ -2,10 +2,10 @@
 use Rattle.std.specs.Prelude.{Bool, true, false, cond, not, ◌&&◌, ◌||◌, [], ◌∷◌, ℕ, zero, suc, ◌-◌, ◌/◌, ◌%◌, max, eqb, length, get_or}
 use Rattle.basics.specs.Lists.{keep}
 use Rattle.format.specs.Record.{Rec, Net, at, kind}
-
--- the two variables: X is 0, Y is 1
-pub data Var : Type 0 where
-  X Y : Var
+use Rattle.format.specs.declared.kinds.Var.{Var}
+use Rattle.format.specs.declared.kinds.Var.TheVariants.{X, Y}
+use Rattle.format.specs.declared.kinds.NodeKind.{NodeKind}
+use Rattle.format.specs.declared.kinds.NodeKind.TheVariants.{Bit as k_bit, R as k_r, E as k_e, Not as k_not, And as k_and, Or as k_or, Some as k_some, All as k_all, Tc as k_tc, Unknown as k_none}
 
 -- the policy logic; `absent` is no node, and false
 pub data Formula : Type 0 where
@@ -22,10 +22,6 @@ pub data Formula : Type 0 where
 abbrev pub var_of : ℕ → Var
 var_of zero = X
 var_of (suc n) = Y
-
--- the kinds of nodes, and none
-pub data NodeKind : Type 0 where
-  k_bit k_r k_e k_not k_and k_or k_some k_all k_tc k_none : NodeKind
 
 -- BIT is 0, R 1, E 2, NOT 3, AND 4, OR 5, SOME 6, ALL 7, TC 8
 unfoldable pub node_kind : ℕ → NodeKind

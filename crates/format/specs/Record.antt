@@ -2,6 +2,12 @@
 use Rattle.std.specs.Prelude.{Bool, ◌&&◌, ◌||◌, List, [], ◌∷◌, ◌++◌, ℕ, zero, suc, ◌+◌, ◌*◌, eqb, get_or, take, drop}
 use Rattle.basics.specs.Lists.{keep, any, same_numbers}
 use Rattle.widths.specs.declared.Widths.{Widths}
+use Rattle.format.specs.declared.kinds.RecordKind.{RecordKind}
+use Rattle.format.specs.declared.kinds.RecordKind.TheVariants.{Widths as k_widths, Link as k_link, Miss as k_miss, Rule as k_rule, Node as k_node, Group as k_group, Unknown as k_no_record}
+use Rattle.format.specs.declared.kinds.CommandKind.{CommandKind}
+use Rattle.format.specs.declared.kinds.CommandKind.TheVariants.{Add as k_add, Modify as k_modify, Delete as k_delete, Unknown as k_no_command}
+use Rattle.format.specs.declared.kinds.ActionKind.{ActionKind}
+use Rattle.format.specs.declared.kinds.ActionKind.TheVariants.{Output as k_output, Set as k_set, InPort as k_in_port, RunGroup as k_run_group, Unknown as k_no_action}
 
 -- a record is its 24 bytes
 abbrev pub Rec : Type 0
@@ -43,25 +49,13 @@ at r k = get_or r k 0
 abbrev pub kind : Rec → ℕ
 kind r = at r 0
 
--- the kinds of records that a network has, and none
-pub data RecordKind : Type 0 where
-  k_widths k_link k_miss k_rule k_node k_group k_no_record : RecordKind
-
 -- the kind that a kind byte names: 1 to 5, and 9
 unfoldable pub record_kind : ℕ → RecordKind
 record_kind k = get_or (k_no_record ∷ k_widths ∷ k_link ∷ k_miss ∷ k_rule ∷ k_node ∷ k_no_record ∷ k_no_record ∷ k_no_record ∷ k_group ∷ []) k k_no_record
 
--- the kinds of commands, and none
-pub data CommandKind : Type 0 where
-  k_add k_modify k_delete k_no_command : CommandKind
-
 -- the kind that a kind byte names: from 6 on
 unfoldable pub command_kind : ℕ → CommandKind
 command_kind k = get_or (k_no_command ∷ k_no_command ∷ k_no_command ∷ k_no_command ∷ k_no_command ∷ k_no_command ∷ k_add ∷ k_modify ∷ k_delete ∷ []) k k_no_command
-
--- the kinds of actions, and none
-pub data ActionKind : Type 0 where
-  k_output k_set k_in_port k_run_group k_no_action : ActionKind
 
 -- OUTPUT is 1, SET 2, IN_PORT 3, running a group 4
 unfoldable pub action_kind : ℕ → ActionKind

@@ -1,6 +1,8 @@
 -- The wire version of a network's switches, and what a command acts as in each.
 use Rattle.std.specs.Prelude.{Bool, true, false, cond, ◌||◌, [], ◌∷◌, ℕ, eqb, get_or, drop}
-use Rattle.format.specs.Record.{Rec, Net, at, kind, CommandKind, k_add, k_modify, k_delete, k_no_command, command_kind, present}
+use Rattle.format.specs.Record.{Rec, Net, at, kind, command_kind, present}
+use Rattle.format.specs.declared.kinds.CommandKind.{CommandKind}
+use Rattle.format.specs.declared.kinds.CommandKind.TheVariants.{Add as k_add, Modify as k_modify, Delete as k_delete, Unknown as k_no_command}
 use Rattle.format.specs.declared.Version.{Version}
 use Rattle.format.specs.declared.Version.TheVariants.{OpenFlow10, OpenFlow13}
 

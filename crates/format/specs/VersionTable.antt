@@ -1,6 +1,7 @@
 -- Which bytes are a version, which version they name, and what a command acts as in each, written by hand: by computation.
 use Rattle.std.specs.Prelude.{◌≡◌, refl, true, false, [], ◌∷◌, map}
-use Rattle.format.specs.Record.{CommandKind, k_add, k_modify, k_delete}
+use Rattle.format.specs.declared.kinds.CommandKind.{CommandKind}
+use Rattle.format.specs.declared.kinds.CommandKind.TheVariants.{Add as k_add, Modify as k_modify, Delete as k_delete}
 use Rattle.format.specs.Version.{version_good, version_named, acts_as}
 use Rattle.format.specs.declared.Version.TheVariants.{OpenFlow10, OpenFlow13}
 

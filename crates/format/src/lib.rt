@@ -1,6 +1,8 @@
 // The records of 24 bytes: specifications only, with the types that these use.
 #![tactic(auto)]
 
+pub mod kinds;
+
 // The wire version of a network's switches.
 #[derive(Clone, Copy)]
 pub enum Version {

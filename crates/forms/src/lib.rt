@@ -1,10 +1,13 @@
 // The forms in which the tests of a node stand in the work buffer.
 #![tactic(auto)]
 
-ghost use Rattle.std.specs.Prelude.{◌≡◌, ℕ, ◌*◌, ◌<◌};
+ghost use Rattle.std.specs.Prelude.{◌≡◌, ◌*◌, ◌≤◌, ◌<◌};
+ghost use Rattle.planes.specs.Plane.{plane_size};
 ghost use Rattle.lines.specs.Shapes.{Plane};
-ghost use Rattle.forms.specs.declared.Form.TheVariants.{OfX, OfY, Both, Turned};
-ghost use Rattle.forms.specs.Forms.{turned, form_of, turn_code, tests, place, Pairs};
+ghost use Rattle.forms.specs.Forms.{turned, line_form, tests, place, Pairs, turned_joined};
+
+use format::kinds::Var;
+use lines::Op;
 
 // A line over X, a line over Y, a plane, a plane with X and Y exchanged; with the byte at which it starts.
 #[derive(Clone, Copy)]
@@ -15,144 +18,115 @@ pub enum Form {
     Turned(usize),
 }
 
-// The form that a code names, of a node whose own plane starts at own; size is that of a plane.
-pub fn form_of(code: u8, own: usize, size: usize) -> Form
-    ensures { result ≡ form_of code own size }
-{
-    match code {
-        0 => Form::OfX(own),
-        1 => Form::OfX(own),
-        2 => Form::OfY(own),
-        3 => Form::Both(own),
-        4 => Form::Turned(own),
-        5 => Form::Both(0),
-        6 => Form::Turned(0),
-        7 => Form::Both(size),
-        8..=255 => Form::Turned(size),
+impl Form {
+    // The line over a variable that starts at a byte.
+    pub fn line(v: Var, at: usize) -> Self
+        ensures { result ≡ line_form v at }
+    {
+        match v {
+            Var::X => Form::OfX(at),
+            Var::Y => Form::OfY(at),
+        }
+    }
+
+    // The same tests with X and Y exchanged.
+    pub fn turned(self) -> Self
+        ensures { result ≡ turned self }
+    {
+        match self {
+            Form::OfX(at) => Form::OfY(at),
+            Form::OfY(at) => Form::OfX(at),
+            Form::Both(at) => Form::Turned(at),
+            Form::Turned(at) => Form::Both(at),
+        }
+    }
+
+    // The byte at which it starts.
+    pub fn start(self) -> usize
+        ensures { result ≡ place self }
+    {
+        match self {
+            Form::OfX(at) | Form::OfY(at) | Form::Both(at) | Form::Turned(at) => at,
+        }
+    }
+
+    // The test with X = x, Y = y.
+    pub fn test(self, work: &[u8], x: usize, y: usize, pitch: usize) -> bool
+        requires plane { Plane work.now pitch (place self) }
+        requires x_bound { (x < pitch * 8) × (y < pitch * 8) }
+        ensures { result ≡ tests self work.now pitch x y }
+    {
+        match self {
+            Form::OfX(at) => planes::get_at(work, at, x),
+            Form::OfY(at) => planes::get_at(work, at, y),
+            Form::Both(at) => planes::get_at(work, at + x * pitch, y),
+            Form::Turned(at) => planes::get_at(work, at + y * pitch, x),
+        }
+    }
+
+    // How it is taken together with another: lines as a line, and a plane line by line rather than bit by bit.
+    pub fn beside(self, other: Form) -> Way
+        ensures { Pairs self other result }
+    {
+        match (self, other) {
+            (Form::OfX(_), Form::OfX(_)) => Way::Over(Var::X),
+            (Form::OfX(_), Form::OfY(_)) => Way::Straight,
+            (Form::OfY(_), Form::OfX(_)) => Way::Straight,
+            (Form::OfY(_), Form::OfY(_)) => Way::Over(Var::Y),
+            (Form::Both(_), Form::Turned(_)) => Way::Mixed,
+            (Form::Turned(_), Form::Both(_)) => Way::Mixed,
+            (Form::Turned(_), _) => Way::Exchanged,
+            (_, Form::Turned(_)) => Way::Exchanged,
+            (Form::Both(_), _) => Way::Straight,
+            (_, Form::Both(_)) => Way::Straight,
+        }
     }
 }
 
-// The code of the same tests with X and Y exchanged.
-pub fn turn_code(code: u8) -> u8
-    ensures { result ≡ turn_code code }
-{
-    match code {
-        0 => 2,
-        1 => 2,
-        2 => 1,
-        3 => 4,
-        4 => 3,
-        5 => 6,
-        6 => 5,
-        7 => 8,
-        8..=255 => 7,
-    }
-}
-
-// The same tests with X and Y exchanged.
-pub fn turn(f: Form) -> Form
-    ensures { result ≡ turned f }
-{
-    match f {
-        Form::OfX(at) => Form::OfY(at),
-        Form::OfY(at) => Form::OfX(at),
-        Form::Both(at) => Form::Turned(at),
-        Form::Turned(at) => Form::Both(at),
-    }
-}
-
-// The byte at which a form starts.
-pub fn start(f: Form) -> usize
-    ensures { result ≡ place f }
-{
-    match f {
-        Form::OfX(at) => at,
-        Form::OfY(at) => at,
-        Form::Both(at) => at,
-        Form::Turned(at) => at,
-    }
-}
-
-// The test of a form with X = x, Y = y.
-pub fn test(work: &[u8], f: Form, x: usize, y: usize, pitch: usize) -> bool
-    requires plane { Plane work.now pitch (place f) }
-    requires x_bound { (x < pitch * 8) × (y < pitch * 8) }
-    ensures { result ≡ tests f work.now pitch x y }
-{
-    match f {
-        Form::OfX(at) => planes::get_at(work, at, x),
-        Form::OfY(at) => planes::get_at(work, at, y),
-        Form::Both(at) => planes::get_at(work, at + x * pitch, y),
-        Form::Turned(at) => planes::get_at(work, at + y * pitch, x),
-    }
-}
-
-// How two forms are taken together: as lines over X, as lines over Y, as planes, as planes with X and Y exchanged, as planes
-// of which the first, or the second, is to be exchanged before.
+// How two forms are taken together: as lines over a variable, as planes, as planes with X and Y exchanged, as planes of which
+// one is to be exchanged before.
 #[derive(Clone, Copy)]
 pub enum Way {
-    OverX,
-    OverY,
+    Over(Var),
     Straight,
     Exchanged,
-    FirstTurned,
-    SecondTurned,
+    Mixed,
 }
 
-// A line over X beside another form.
-fn beside_x(b: Form) -> Way
-    ensures { (at : ℕ) → Pairs (OfX at) b result }
-{
-    match b {
-        Form::OfX(_) => Way::OverX,
-        Form::OfY(_) => Way::Straight,
-        Form::Both(_) => Way::Straight,
-        Form::Turned(_) => Way::Exchanged,
+// An operation on the tests of two forms.
+#[derive(Clone, Copy)]
+pub struct Joined {
+    pub op: Op,
+    pub first: Form,
+    pub second: Form,
+}
+
+impl Joined {
+    // The same with X and Y exchanged.
+    pub fn turned(self) -> Self
+        ensures { result ≡ turned_joined self }
+    {
+        Joined {
+            op: self.op,
+            first: self.first.turned(),
+            second: self.second.turned(),
+        }
     }
 }
 
-// A line over Y beside another form.
-fn beside_y(b: Form) -> Way
-    ensures { (at : ℕ) → Pairs (OfY at) b result }
-{
-    match b {
-        Form::OfX(_) => Way::Straight,
-        Form::OfY(_) => Way::OverY,
-        Form::Both(_) => Way::Straight,
-        Form::Turned(_) => Way::Exchanged,
-    }
+// The plane in which the form of a node is made: it starts at byte base, in lines of pitch bytes.
+#[derive(Clone, Copy)]
+pub struct Site {
+    pub base: usize,
+    pub pitch: usize,
 }
 
-// A plane beside another form.
-fn beside_plane(b: Form) -> Way
-    ensures { (at : ℕ) → Pairs (Both at) b result }
-{
-    if let Form::Turned(_) = b {
-        return Way::SecondTurned;
-    }
-    Way::Straight
-}
-
-// A plane with X and Y exchanged beside another form.
-fn beside_turned(b: Form) -> Way
-    ensures { (at : ℕ) → Pairs (Turned at) b result }
-{
-    match b {
-        Form::OfX(_) => Way::Exchanged,
-        Form::OfY(_) => Way::Exchanged,
-        Form::Both(_) => Way::FirstTurned,
-        Form::Turned(_) => Way::Exchanged,
-    }
-}
-
-// How two forms are taken together: lines as a line, and a plane line by line rather than bit by bit.
-pub fn pairing(a: Form, b: Form) -> Way
-    ensures { Pairs a b result }
-{
-    match a {
-        Form::OfX(_) => beside_x(b),
-        Form::OfY(_) => beside_y(b),
-        Form::Both(_) => beside_plane(b),
-        Form::Turned(_) => beside_turned(b),
+impl Site {
+    // The bytes of the plane.
+    pub fn size(self) -> usize
+        requires { self.pitch ≤ 128 }
+        ensures { result ≡ plane_size self.pitch }
+    {
+        self.pitch * 8 * self.pitch
     }
 }

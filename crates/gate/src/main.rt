@@ -6,9 +6,15 @@ ghost use Rattle.book.specs.Answer.{check_answer_of, command_answer_of};
 ghost use Rattle.streams.specs.Reading.{ReadBehind, PieceRead, Loads};
 ghost use Rattle.streams.specs.Output.{installed_with, CheckIs, OutcomeIs};
 
-use book::{Checked, Commanded};
+use book::Commanded;
+use judgement::Violation;
+use refusals::Refused;
 use std::io::{Print, Read, Stdin, Stdout};
-use streams::input::{Later, Next, Piece, Said};
+use streams::input::{Later, Next, ReadFailed};
+use streams::text::Line;
+
+// The bytes of the program's work buffer.
+const WORK_BYTES: usize = 65536;
 
 // How many network records were read, and what came after them.
 #[derive(Clone, Copy)]
@@ -20,46 +26,36 @@ struct Loaded {
 // What a command was answered, and the count of records that it leaves.
 #[derive(Clone, Copy)]
 struct Answered {
-    answer: Commanded,
+    answer: Result<Commanded, Refused>,
     count: usize,
 }
 
 // Reads once, behind the first done bytes of the buffer.
-fn read_at(input: &mut Stdin, buffer: &mut [u8], done: usize) -> Said
+fn read_at(input: &mut Stdin, buffer: &mut [u8], done: usize) -> Result<Option<usize>, ReadFailed>
     requires { done ≤ length buffer.old }
     ensures { ReadBehind done buffer.old buffer.new result }
 {
     let got = input.read(&mut buffer[done..]);
-    match got {
-        Ok(k) => streams::input::read_said(k as isize),
-        Err(_) => Said::Failed,
-    }
+    streams::input::read_said(got)
 }
 
-// Reads until the buffer is full, the input ends or a read fails.
-fn fill(input: &mut Stdin, buffer: &mut [u8]) -> Piece
+// Reads until the buffer is full, the input ends or a read fails; answers how many bytes there were. Each read tells how far to go on,
+// so that no range is gone over.
+fn fill(input: &mut Stdin, buffer: &mut [u8]) -> Result<usize, ReadFailed>
     ensures { PieceRead buffer.old buffer.new result }
 {
     let mut done = 0;
     while done < buffer.len() {
-        let said = read_at(input, buffer, done);
-        match said {
-            Said::More(k) => {
-                done += k;
-            }
-            Said::End => {
-                return Piece::Bytes(done);
-            }
-            Said::Failed => {
-                return Piece::Failed;
-            }
-        }
+        let Some(k) = read_at(input, buffer, done)? else {
+            return Ok(done);
+        };
+        done += k;
     }
-    Piece::Bytes(done)
+    Ok(done)
 }
 
 // Reads the next piece of the input. The array is whole, so that the caller owes no proof of its length.
-fn read_piece(input: &mut Stdin, rec: &mut [u8; 24]) -> Piece
+fn read_piece(input: &mut Stdin, rec: &mut [u8; 24]) -> Result<usize, ReadFailed>
     ensures { PieceRead rec.old rec.new result }
 {
     fill(input, rec)
@@ -69,26 +65,20 @@ fn read_piece(input: &mut Stdin, rec: &mut [u8; 24]) -> Piece
 fn load(input: &mut Stdin, store: &mut [u8; records::STORE_BYTES], rec: &mut [u8; 24]) -> Loaded
     ensures { Loads result.met result.n store.old store.new }
 {
-    let mut n = 0;
-    loop {
+    for n in 0..records::MOST_RECORDS + 1 {
         let piece = read_piece(input, rec);
-        let next = streams::input::next_of(n, rec, piece);
-        match next {
-            Next::Network => {
-                streams::input::keep(store, n, rec);
-                n += 1;
-            }
+        let met = streams::input::next_of(n, rec, piece);
+        match met {
+            Next::Network => streams::input::keep(store, n, rec),
             Next::TooMany => {
-                return Loaded {
-                    n: n + 1,
-                    met: next,
-                };
+                return Loaded { n: n + 1, met };
             }
             Next::Command | Next::CutCommand | Next::Cut | Next::End | Next::Failed => {
-                return Loaded { n, met: next };
+                return Loaded { n, met };
             }
         }
     }
+    unreachable!()
 }
 
 // Reads the next piece behind a command, and tells what it is.
@@ -97,29 +87,17 @@ fn read_later(input: &mut Stdin, rec: &mut [u8; 24]) -> Later {
     streams::input::later_of(rec, piece)
 }
 
-// Writes the start line, and tells whether all of it was written.
-fn tell_start(output: &Stdout, a: Checked) -> bool {
-    let mut line = [0u8; 80];
-    let k = streams::start_line(&mut line, a);
-    output.write_all(&line[..k]).is_ok()
-}
-
-// Writes the line of command number turn, and tells whether all of it was written.
-fn tell(output: &Stdout, turn: u64, a: Commanded) -> bool {
-    let mut line = [0u8; 80];
-    let k = streams::answer_line(&mut line, turn, a);
-    output.write_all(&line[..k]).is_ok()
-}
-
-// Writes the line of a cut last record.
-fn tell_short(output: &Stdout) {
-    let mut line = [0u8; 80];
-    let k = streams::short_line(&mut line);
-    output.write_all(&line[..k]).is_ok();
+// Writes a line, and tells whether all of it was written.
+fn tell(output: &Stdout, line: &Line) -> bool {
+    output.write_all(line.bytes()).is_ok()
 }
 
 // The check call on the program's store and work.
-fn check(store: &[u8; records::STORE_BYTES], n: usize, work: &mut [u8; 65536]) -> Checked
+fn check(
+    store: &[u8; records::STORE_BYTES],
+    n: usize,
+    work: &mut [u8; WORK_BYTES],
+) -> Result<Option<Violation>, Refused>
     ensures { CheckIs store.now n work.old (check_answer_of result) work.new }
 {
     calls::check(store, n, work)
@@ -129,7 +107,7 @@ fn check(store: &[u8; records::STORE_BYTES], n: usize, work: &mut [u8; 65536]) -
 fn answer(
     store: &mut [u8; records::STORE_BYTES],
     n: usize,
-    work: &mut [u8; 65536],
+    work: &mut [u8; WORK_BYTES],
     rec: &[u8; 24],
 ) -> Answered
     ensures { OutcomeIs (installed_with n store.old) rec.now work.old (command_answer_of result.answer) (installed_with result.count store.new) work.new }
@@ -139,52 +117,60 @@ fn answer(
     Answered { answer, count }
 }
 
+// Answers the command that was read and those behind it, up to the end, a cut record, or a read or write that fails.
+fn answer_all(
+    input: &mut Stdin,
+    output: &Stdout,
+    store: &mut [u8; records::STORE_BYTES],
+    n: usize,
+    work: &mut [u8; WORK_BYTES],
+    rec: &mut [u8; 24],
+) {
+    let mut count = n;
+    for turn in 1..u64::MAX {
+        let done = answer(store, count, work, rec);
+        count = done.count;
+        if !tell(output, &streams::answer_line(turn, done.answer)) {
+            return;
+        }
+        match read_later(input, rec) {
+            Later::Command => {}
+            Later::Cut => {
+                tell(output, &streams::short_line());
+                return;
+            }
+            Later::End | Later::Failed => return,
+        }
+    }
+}
+
 fn main(rt: HostRuntime) {
     let mut input = rt.stdin();
     let output = rt.stdout();
     let mut store = [0u8; records::STORE_BYTES];
-    let mut work = [0u8; 65536];
+    let mut work = [0u8; WORK_BYTES];
     let mut rec = [0u8; 24];
     let loaded = load(&mut input, &mut store, &mut rec);
-    let met = loaded.met;
-    if let Next::Failed = met {
+    if loaded.met == Next::Failed {
         return;
     }
-    if let Next::Cut = met {
-        tell_short(&output);
+    if loaded.met == Next::Cut {
+        tell(&output, &streams::short_line());
         return;
     }
-    let mut n = loaded.n;
-    let start = check(&store, n, &mut work);
-    if !tell_start(&output, start) {
+    let start = check(&store, loaded.n, &mut work);
+    if !tell(&output, &streams::start_line(start)) {
         return;
     }
-    let Checked::Holds = start else {
+    let Ok(None) = start else {
         return;
     };
-    if let Next::CutCommand = met {
-        tell_short(&output);
-        return;
+    if loaded.met == Next::CutCommand {
+        tell(&output, &streams::short_line());
     }
-    let Next::Command = met else {
-        return;
-    };
-    let mut turn: u64 = 1;
-    while turn < u64::MAX {
-        let done = answer(&mut store, n, &mut work, &rec);
-        n = done.count;
-        let a = done.answer;
-        if !tell(&output, turn, a) {
-            return;
-        }
-        let later = read_later(&mut input, &mut rec);
-        if let Later::Cut = later {
-            tell_short(&output);
-            return;
-        }
-        let Later::Command = later else {
-            return;
-        };
-        turn += 1;
+    if loaded.met == Next::Command {
+        answer_all(
+            &mut input, &output, &mut store, loaded.n, &mut work, &mut rec,
+        );
     }
 }

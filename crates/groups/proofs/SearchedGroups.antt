@@ -3,23 +3,22 @@ use borrow.Author.Tests.{eqb-true}
 use mathlib.Core.Path.{◌≡◌, sym, ap, ◌∙◌}
 use mathlib.Core.Bool.{Bool, true, false}
 use mathlib.Core.List.{List, [], ◌∷◌}
-use Prim.Native.Nat.{ℕ, ◌+◌, ◌-◌, ◌*◌, ◌<◌, ◌≤◌}
+use Prim.Native.Nat.{ℕ, ◌+◌, ◌<◌, ◌≤◌}
 use native.Mathlib.Numerals.{add-one}
 use native.Mathlib.Omega.{arith}
 use lib.Dec.{eqb}
-use lib.ListN.{length, get_or, take, drop, drop_of_length-le}
+use lib.ListN.{length, get_or, drop, drop_of_length-le}
 use lib.Seq.{drop-cons}
 use Rattle.basics.specs.Laws.Tests.{and_right}
 use Rattle.format.specs.Record.{Rec, Net, at, records}
 use Rattle.format.specs.Group.{is_group}
-use Rattle.format.specs.Search.{first_at}
-use Rattle.format.specs.Laws.Records.{length_records}
+use Rattle.format.specs.Search.{first_at, record_at}
+use Rattle.format.specs.Laws.Records.{length_records, record_at_lem}
 use Rattle.scan.specs.declared.Layout.{Layout}
 use Rattle.scan.specs.Stored.{Stored}
 use Rattle.choice.specs.Laws.GoodRecords.{groups_at}
 use Rattle.onestep.specs.Groups.{group_record}
 use Rattle.groups.specs.ByPlace.{GroupAt}
-use Rattle.groups.specs.Laws.Running.{record_read}
 
 -- the first of some records that is group g of a switch
 abbrev first_of : Net → ℕ → ℕ → Rec
@@ -43,9 +42,9 @@ module _ (n : ℕ) (s : List ℕ) (sw g : ℕ) where
       S.first ∙ ap (λ (rs : Net). first_of rs sw g) (drop_of_length-le net m)
 
   -- a test of record i, a part of the store
-  module _ (i : ℕ) (h : i < n) (S : Sought n s sw g i) (t : Bool) (e : t ≡ is_group sw g (take (i * 24 + 24 - i * 24) (drop (i * 24) s))) where
+  module _ (i : ℕ) (h : i < n) (S : Sought n s sw g i) (r : Rec) (is : r ≡ record_at s i) (t : Bool) (e : t ≡ is_group sw g r) where
     tested : (b : Bool) → t ≡ b → is_group sw g (get_or net i []) ≡ b
-    tested b q = ap (is_group sw g) (record_read n s i h) ∙ sym e ∙ q
+    tested b q = ap (is_group sw g) (record_at_lem n s i h ∙ sym is) ∙ sym e ∙ q
 
     left : group_record (records n s) sw g ≡ first_of (get_or net i [] ∷ drop (i + 1) net) sw g
     left = S.first ∙ ap (λ (rs : Net). first_of rs sw g) (drop-cons net i [] (omega (arith, length_records n s)) ∙ ap (λ (k : ℕ). get_or net i [] ∷ drop k net) (sym (add-one i)))

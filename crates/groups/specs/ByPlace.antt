@@ -1,8 +1,6 @@
 -- The record of a group by its place.
-use Rattle.std.specs.Prelude.{◌≡◌, [], ℕ, ◌<◌, ◌≤◌, length, get_or}
+use Rattle.std.specs.Prelude.{◌≡◌, Option, Some, None, [], ℕ, ◌<◌, ◌≤◌, length, get_or}
 use Rattle.format.specs.Record.{Net, at}
-use Rattle.rows.specs.declared.rules.Found.{Found}
-use Rattle.rows.specs.declared.rules.Found.TheVariants.{At, Nothing}
 use Rattle.scan.specs.declared.Layout.{Layout}
 use Rattle.onestep.specs.Groups.{group_record}
 
@@ -14,6 +12,6 @@ pub record GroupAt (net : Net) (l : Layout) (sw g i : ℕ) : Type 0 where
   pub high : i < length net
 
 -- it was found at its place, or there is none
-abbrev pub GroupFound : Net → Layout → ℕ → ℕ → Found → Type 0
-GroupFound net l sw g (At i) = GroupAt net l sw g i
-GroupFound net l sw g Nothing = group_record net sw g ≡ []
+abbrev pub GroupFound : Net → Layout → ℕ → ℕ → Option ℕ → Type 0
+GroupFound net l sw g (Some i) = GroupAt net l sw g i
+GroupFound net l sw g None = group_record net sw g ≡ []

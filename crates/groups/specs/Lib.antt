@@ -3,4 +3,5 @@ pub mod ByPlace
 pub mod BucketHeaders
 pub mod Marks
 pub mod Sent
+pub mod Relayed
 pub mod Laws

@@ -1,28 +1,34 @@
 // Copies that depart from a switch.
-ghost use Rattle.std.specs.Prelude.{[], ◌∷◌, ◌^◌, ◌<◌};
-ghost use Rattle.onestep.specs.Departing.{except, departing};
-ghost use Rattle.planes.specs.Adds.{Added};
-ghost use Rattle.widths.specs.Widths.{line_bytes};
-ghost use Rattle.groups.specs.Sent.{Sends};
+ghost use Rattle.std.specs.Prelude.{[], ◌∷◌};
+ghost use Rattle.onestep.specs.Departing.{except};
+ghost use Rattle.groups.specs.Relayed.{Ran, HeaderFits, PortFits, departs};
 
-use states::number;
-use widths::Widths;
+use crate::relay::Relay;
+use planes::set_bit;
+use states::Frame;
 
-// Sends a copy to port q.
-pub fn send(work: &mut [u8], line: usize, w: Widths, sw: u8, h: u8, q: u8)
-    requires { Sends w line sw h work.old × (q < 2 ^ w.p) }
-    ensures { Added (departing w sw h (q ∷ [])) line (line_bytes w) work.old work.new }
-{
-    planes::set_at(work, line, number(w, 1, sw, q, h));
-}
-
-// Sends a copy to port q, unless it is the arrival port p.
-pub fn send_on(work: &mut [u8], line: usize, w: Widths, sw: u8, p: u8, h: u8, q: u8)
-    requires { Sends w line sw h work.old × (q < 2 ^ w.p) }
-    ensures { Added (departing w sw h (except p (q ∷ []))) line (line_bytes w) work.old work.new }
-{
-    if q == p {
-        return;
+impl Relay<'_, '_, '_> {
+    // Sends a copy with this header to port q.
+    pub fn send(&mut self, header: u8, q: u8)
+        requires { HeaderFits self.old header × PortFits self.old q }
+        ensures { Ran (departs self.old header (q ∷ [])) self.old self.new }
+    {
+        let w = self.groups.net.layout.widths;
+        let copy = Frame {
+            switch: self.frame.switch,
+            port: q,
+            header,
+        };
+        set_bit(&mut self.line, copy.departing(w));
     }
-    send(work, line, w, sw, h, q);
+
+    // Sends a copy with this header to port q, unless the frame arrived there.
+    pub fn send_on(&mut self, header: u8, q: u8)
+        requires { HeaderFits self.old header × PortFits self.old q }
+        ensures { Ran (departs self.old header (except self.old.frame.port (q ∷ []))) self.old self.new }
+    {
+        if q != self.frame.port {
+            self.send(header, q);
+        }
+    }
 }

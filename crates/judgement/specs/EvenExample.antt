@@ -8,7 +8,8 @@ use Rattle.basics.specs.Laws.Tests.{not_both}
 use Rattle.basics.specs.Lists.{member}
 use Rattle.format.specs.Record.{Rec, Net, widths_of}
 use Rattle.widths.specs.Widths.{states}
-use Rattle.format.specs.Policy.{X, Y, BIT, R, NOT, AND, SOME, policy_count, forbidden}
+use Rattle.format.specs.Policy.{BIT, R, NOT, AND, SOME, policy_count, forbidden}
+use Rattle.format.specs.declared.kinds.Var.TheVariants.{X, Y}
 use Rattle.format.specs.NetK.{record24, node, A, B, policy0, K}
 use Rattle.refusals.specs.Refusal.{file_row}
 use Rattle.onestep.specs.Chosen.{chosen}

@@ -1,14 +1,9 @@
--- Joins of rows, and a line that takes them in byte by byte.
+-- Joins of rows.
 use mathlib.Core.Path.{◌≡◌, sym, ap, ◌∙◌}
 use mathlib.Core.Bool.{Bool}
-use mathlib.Core.List.{List}
-use Prim.Native.Nat.{ℕ, ◌+◌, ◌≤◌, ◌<◌}
-use native.Mathlib.Nat.{zero-add}
-use native.Mathlib.Omega.{arith}
-use lib.ListN.{length, get_or, set}
+use Prim.Native.Nat.{ℕ, ◌+◌}
+use lib.ListN.{get_or}
 use Rattle.basics.specs.Bit.{bit_of}
-use Rattle.planes.specs.Lines.{Laid}
-use Rattle.planes.specs.Laws.LaidBytes.{laid_more}
 use Rattle.lines.specs.declared.Op.{Op}
 use Rattle.lines.specs.declared.Row.{Row}
 use Rattle.lines.specs.declared.Row.TheVariants.{Full, From}
@@ -54,7 +49,3 @@ module _ (t : Op) where
       within = λ n len x y. J.within n len y x;
       is = λ bytes j i l. J.is bytes j i l ∙ comm t h (bit_of (row_byte p bytes j) i) (bit_of (row_byte q bytes j) i);
     }
-
--- one byte more of a line that takes in others
-pub first_more : (f : ℕ → ℕ) (j pitch v : ℕ) (a l : List ℕ) → Laid f 0 j a l → j < pitch → pitch ≤ length a → v ≡ f j → Laid f 0 (j + 1) a (set l j v)
-first_more f j pitch v a l L hj hw e = rw (zero-add) at (laid_more f 0 j pitch a l L hj (omega arith) v e)

@@ -12,7 +12,7 @@ use Rattle.onestep.specs.Step.{across}
 use Rattle.onestep.specs.Relayed.{arriving}
 use Rattle.links.specs.Carried.{one_way, crosses}
 use Rattle.basics.specs.Laws.Lists.{member-append}
-use Rattle.groups.specs.Laws.SentCopies.{map-append}
+use Rattle.std.proofs.lemmas.List.{map-append}
 
 -- what is across from a point, by one list of ends and by another
 module _ (w : Widths) where

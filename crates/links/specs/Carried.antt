@@ -1,27 +1,28 @@
 -- What links carry, and where they end.
-use Rattle.std.specs.Prelude.{◌≡◌, Bool, true, cond, not, ◌&&◌, List, [], ◌∷◌, ℕ, ◌+◌, ◌*◌, ◌/◌, ◌%◌, ◌^◌, ◌<◌, ◌≤◌, eqb, length}
-use Rattle.planes.specs.Plane.{bit, plane_size}
+use Rattle.std.specs.Prelude.{◌≡◌, Bool, true, cond, not, ◌&&◌, List, [], ◌∷◌, ℕ, ◌+◌, ◌*◌, ◌/◌, ◌%◌, ◌^◌, ◌<◌, eqb}
+use Rattle.planes.specs.Plane.{bit}
 use Rattle.basics.specs.Lists.{member}
 use Rattle.format.specs.Record.{Rec, Net, at, linked}
 use Rattle.format.specs.Fields.{point_good}
 use Rattle.format.specs.State.{header_of, port_of, switch_of, direction_of}
-use Rattle.widths.specs.Widths.{states, within_limits, line_bytes}
+use Rattle.widths.specs.Widths.{states}
 use Rattle.widths.specs.declared.Widths.{Widths}
 use Rattle.onestep.specs.Relayed.{arriving}
-
--- a plane starts at byte base
-pub record PlaneRoom (w : Widths) (base : ℕ) (work : List ℕ) : Type 0 where
-  pub limits : within_limits w ≡ true
-  pub room : base + plane_size (line_bytes w) ≤ length work
+use Rattle.links.specs.declared.Link.{Link}
+use Rattle.links.specs.declared.Points.{Points}
 
 -- where the point (sw, p) is the point (a, b), the point (c, d)
 unfoldable pub one_way : ℕ → ℕ → ℕ → ℕ → ℕ → ℕ → List (ℕ × ℕ)
 one_way a b c d sw p = cond (eqb a sw && eqb b p) ((c, d) ∷ []) []
 
+-- the ends of a link, by its record
+abbrev pub link_of : Rec → Link
+link_of l = record { one = record { switch = at l 1; port = at l 2 }; other = record { switch = at l 3; port = at l 4 } }
+
 -- both ends of a link are points
-pub record Ends (w : Widths) (l : Rec) : Type 0 where
-  pub one : point_good w (at l 1) (at l 2) ≡ true
-  pub other : point_good w (at l 3) (at l 4) ≡ true
+pub record AreEnds (w : Widths) (link : Link) : Type 0 where
+  pub one : point_good w link.one.switch link.one.port ≡ true
+  pub other : point_good w link.other.switch link.other.port ≡ true
 
 -- the bit of a pair of states in a plane
 abbrev pub pair : Widths → ℕ → ℕ → ℕ
@@ -39,6 +40,6 @@ crosses w ends s t = not (eqb (direction_of w s) 0) && member t (arriving w (hea
 abbrev pub point : Widths → ℕ → ℕ → ℕ
 point w sw p = sw * 2 ^ w.p + p
 
--- the bits of the points where links end are set
-pub record LinkedPoints (net : Net) (w : Widths) (points : List ℕ) : Type 0 where
-  pub is : (sw p : ℕ) → sw < 2 ^ w.w → p < 2 ^ w.p → bit points (point w sw p) ≡ linked net sw p
+-- just the points where links end are in the set
+pub record LinkedPoints (net : Net) (w : Widths) (points : Points) : Type 0 where
+  pub is : (sw p : ℕ) → sw < 2 ^ w.w → p < 2 ^ w.p → bit points.bits (point w sw p) ≡ linked net sw p

@@ -1,9 +1,8 @@
 -- Rounds on words.
-use mathlib.Core.Path.{◌≡◌, refl, sym, ap, ap₂, subst, ◌∙◌}
+use mathlib.Core.Path.{◌≡◌, sym, ap, ap₂, subst, ◌∙◌}
 use mathlib.Core.Bool.{Bool, ◌&&◌, ◌||◌}
 use mathlib.Core.List.{List}
 use Prim.Native.Nat.{ℕ, ◌+◌, ◌≤◌, ◌<◌}
-use native.Mathlib.Nat.{not-suc-le-zero}
 use native.Mathlib.Numerals.{add-one}
 use native.Mathlib.Omega.{arith}
 use borrow.Author.Count.{below_more}
@@ -17,9 +16,6 @@ use Rattle.basics.specs.Laws.Tabulated.{grid_at}
 use Rattle.walks.specs.Computed.{rounds, closed}
 use Rattle.walks.specs.Laws.Closing.{round_at}
 use Rattle.narrow.specs.Words.{test, Lines, Spread, ClosedWords}
-
-pub spread_none : (k line : ℕ) (a : List ℕ) → Spread k line 0 a a
-spread_none k line a = record { len = refl; done = λ x y h. absurd (not-suc-le-zero h); rest = λ x h. refl }
 
 -- one more word has line put into it, if it has bit k
 module _ (k line x : ℕ) (a l : List ℕ) (S : Spread k line x a l) (h : x < length a) (t : Bool) (w : ℕ) (has : t ≡ test l x k)

@@ -1,19 +1,31 @@
 -- What is made of a policy's node: its tests in the work buffer. The step plane comes first, then one for its closure, then a plane
 -- for each node.
-use Rattle.std.specs.Prelude.{◌≡◌, Bool, true, List, [], ◌∷◌, ◌↔◌, ◌⊎◌, ℕ, ◌+◌, ◌*◌, ◌≤◌, ◌<◌, length, get_or}
+use Rattle.std.specs.Prelude.{Option, None, Some, unwrap_or, ◌≡◌, Bool, true, List, ◌↔◌, ◌⊎◌, ℕ, ◌+◌, ◌*◌, ◌/◌, ◌%◌, ◌≤◌, ◌<◌, length, get_or}
 use Rattle.planes.specs.Plane.{bit, On, plane_size}
 use Rattle.format.specs.Record.{most_nodes}
-use Rattle.format.specs.Policy.{Formula, NodeKind, k_bit, k_r, k_e, k_not, k_and, k_or, k_some, k_all, k_tc, k_none, node_kind, node_says}
+use Rattle.format.specs.Policy.{Formula, absent, BIT, R as r_of, E as e_of, NOT, AND, OR, SOME, ALL, TC, var_of}
+use Rattle.format.specs.declared.kinds.NodeKind.{NodeKind}
+use Rattle.format.specs.declared.kinds.NodeKind.TheVariants.{Bit as k_bit, R as k_r, E as k_e, Not as k_not, And as k_and, Or as k_or, Some as k_some, All as k_all, Tc as k_tc, Unknown as k_none}
+use Rattle.format.specs.declared.kinds.Var.{Var}
 use Rattle.truth.specs.Truth.{Model, Truth}
-use Rattle.lines.specs.Shapes.{Outside}
+use Rattle.lines.specs.Shapes.{Quantifies, Outside}
 use Rattle.lines.specs.declared.Op.{Op}
 use Rattle.lines.specs.declared.Op.TheVariants.{Not, And, Or}
 use Rattle.forms.specs.declared.Form.{Form}
-use Rattle.forms.specs.Forms.{tests, form_of, Reached}
+use Rattle.forms.specs.declared.Form.TheVariants.{Both}
+use Rattle.forms.specs.declared.Joined.{Joined}
+use Rattle.forms.specs.declared.Site.{Site}
+use Rattle.forms.specs.Forms.{tests, Lies, Reached}
+use Rattle.nodes.specs.declared.node.Node.{Node}
+use Rattle.nodes.specs.declared.node.Node.TheVariants.{Bit, R, E, Join, Range, Over, Tc, Absent}
 
 -- where the plane of node k stands
 abbrev pub plane_at : ℕ → ℕ → ℕ
 plane_at pitch k = (k + 2) * plane_size pitch
+
+-- the same, with the bytes of a line
+abbrev pub site_of : ℕ → ℕ → Site
+site_of k pitch = record { base = plane_at pitch k; pitch = pitch }
 
 -- the number of operands of a node: byte 3, or bytes 3 and 4
 abbrev pub arity : NodeKind → ℕ
@@ -32,9 +44,80 @@ arity k_none = 0
 abbrev pub Operand : NodeKind → ℕ → ℕ → ℕ → Type 0
 Operand kind a b j = ((0 < arity kind) × (j ≡ a)) ⊎ ((1 < arity kind) × (j ≡ b))
 
--- the form of node j, by the codes of the nodes
-abbrev pub form_at : List ℕ → ℕ → ℕ → Form
-form_at codes pitch j = form_of (get_or codes j 0) (plane_at pitch j) (plane_size pitch)
+-- the node of a kind, by bytes 3 and 4
+abbrev pub node_of : NodeKind → ℕ → ℕ → Node
+node_of k_bit a b = Bit (var_of a) b
+node_of k_r a b = R (var_of a) (var_of b)
+node_of k_e a b = E (var_of a)
+node_of k_not a b = Join Not a a
+node_of k_and a b = Join And a b
+node_of k_or a b = Join Or a b
+node_of k_some a b = Range Or (var_of b) a
+node_of k_all a b = Range And (var_of b) a
+node_of k_tc a b = Tc a (var_of (b / 2)) (var_of (b % 2))
+node_of k_none a b = Absent
+
+-- the nodes that a node is made of, a single one twice
+abbrev pub operands : Node → Option (ℕ × ℕ)
+operands (Bit v i) = None
+operands (R u v) = None
+operands (E v) = None
+operands (Join t a b) = Some (a, b)
+operands (Range o v a) = Some (a, a)
+operands (Over o v t a b) = Some (a, b)
+operands (Tc a u v) = Some (a, a)
+operands Absent = None
+
+-- node j is one of two
+abbrev pub Among : Option (ℕ × ℕ) → ℕ → Type 0
+Among None j = ⊥
+Among (Some p) j = (j ≡ p.0) ⊎ (j ≡ p.1)
+
+-- a node is made of node j
+abbrev pub Needs : Node → ℕ → Type 0
+Needs n j = Among (operands n) j
+
+-- BIT names a bit of a number, and SOME and ALL, and the AND or OR below, are by And or Or
+abbrev pub Sound : Node → Type 0
+Sound (Bit v i) = i < 64
+Sound (R u v) = Unit {0}
+Sound (E v) = Unit {0}
+Sound (Join t a b) = Unit {0}
+Sound (Range o v a) = Quantifies o
+Sound (Over o v t a b) = Quantifies o × Quantifies t
+Sound (Tc a u v) = Unit {0}
+Sound Absent = Unit {0}
+
+-- NOT, AND and OR, by their operation
+abbrev pub joins : Op → Formula → Formula → Formula
+joins Not f g = NOT f
+joins And f g = AND f g
+joins Or f g = OR f g
+
+-- ALL and SOME, by theirs
+abbrev pub ranges : Op → Var → Formula → Formula
+ranges Not v f = absent
+ranges And v f = ALL f v
+ranges Or v f = SOME f v
+
+-- what a node says, an operand being a formula
+abbrev pub says : Node → (ℕ → Formula) → Formula
+says (Bit v i) operand = BIT v i
+says (R u v) operand = r_of u v
+says (E v) operand = e_of v
+says (Join t a b) operand = joins t (operand a) (operand b)
+says (Range o v a) operand = ranges o v (operand a)
+says (Over o v t a b) operand = ranges o v (joins t (operand a) (operand b))
+says (Tc a u v) operand = TC (operand a) u v
+says Absent operand = absent
+
+-- the form of node j, if it is made; else that of the steps
+abbrev pub form_at : List (Option Form) → ℕ → Form
+form_at forms j = unwrap_or (get_or forms j None) (Both 0)
+
+-- an operation on the forms of two nodes
+abbrev pub joined_at : List (Option Form) → Op → ℕ → ℕ → Joined
+joined_at forms t a b = record { op = t; first = form_at forms a; second = form_at forms b }
 
 -- the model that a work buffer and a line of external states give: steps are the first plane
 abbrev pub model_at : ℕ → List ℕ → List ℕ → Model
@@ -44,46 +127,23 @@ model_at pitch ext work = record { count = pitch * 8; Steps = On work 0 pitch; E
 pub record Shows (m : Model) (pitch : ℕ) (form : Form) (work : List ℕ) (f : Formula) : Type 0 where
   pub at : (x y : ℕ) → x < pitch * 8 → y < pitch * 8 → tests form work pitch x y ≡ true ↔ Truth m f x y
 
--- there is room for the plane of node k, its operands are earlier nodes, BIT names a bit of a number, and the second plane is
--- the closure of the first if that is said
-pub record Makeable (kind a b k pitch : ℕ) (closed : Bool) (work : List ℕ) : Type 0 where
+-- there is room for the plane of node k, its operands are earlier nodes, whose forms lie in their own planes or in the first two,
+-- it is sound, and the second plane is the closure of the first if that is said
+pub record Makeable (n : Node) (forms : List (Option Form)) (k pitch : ℕ) (closed : Bool) (work : List ℕ) : Type 0 where
   pub few : k < most_nodes
   pub small : pitch ≤ 128
   pub within : plane_at pitch k + plane_size pitch ≤ length work
-  pub earlier : (j : ℕ) → Operand (node_kind kind) a b j → j < k
-  pub bits : kind ≡ 0 → b < 64
+  pub earlier : (j : ℕ) → Needs n j → j < k
+  pub lies : (j : ℕ) → Needs n j → Lies pitch (plane_at pitch j) (form_at forms j)
+  pub sound : Sound n
   pub reached : closed ≡ true → Reached pitch work
 
--- the form of node k, which the answer names, is the truth of what is said of the nodes `Of`, where the forms of these are the
--- truth of theirs; every byte outside of the node's plane is as before
-pub record FormMade (Of : ℕ → Type 0) (says : (ℕ → Formula) → Formula) (codes : List ℕ) (k pitch : ℕ) (ext before : List ℕ) (code : ℕ) (after : List ℕ) : Type 0 where
+-- the form that is answered of node k is the truth of what it says, where the forms of its operands are the truth of theirs; it
+-- lies in its own plane, or in one of the first two; every byte outside of the node's plane is as before
+pub record NodeMade (forms : List (Option Form)) (n : Node) (k pitch : ℕ) (ext before : List ℕ) (f : Form) (after : List ℕ) : Type 0 where
   pub len : length after ≡ length before
-  pub named : 0 < code
+  pub lies : Lies pitch (plane_at pitch k) f
   pub shows : (operand : ℕ → Formula)
-      → ((j : ℕ) → Of j → Shows (model_at pitch ext before) pitch (form_at codes pitch j) before (operand j))
-      → Shows (model_at pitch ext before) pitch (form_of code (plane_at pitch k) (plane_size pitch)) after (says operand)
+      → ((j : ℕ) → Needs n j → Shows (model_at pitch ext before) pitch (form_at forms j) before (operand j))
+      → Shows (model_at pitch ext before) pitch f after (says n operand)
   pub rest : (m : ℕ) → Outside pitch (plane_at pitch k) m → get_or after m 0 ≡ get_or before m 0
-
--- node k is made of its operands
-abbrev pub NodeMade : List ℕ → ℕ → ℕ → ℕ → ℕ → ℕ → List ℕ → List ℕ → ℕ → List ℕ → Type 0
-NodeMade codes kind a b k pitch ext before code after =
-    FormMade (Operand (node_kind kind) a b) (node_says (node_kind kind) a b) codes k pitch ext before code after
-
--- node k, a SOME or ALL over v, is made of the operands of the AND or OR below it
-abbrev pub OverMade : List ℕ → ℕ → ℕ → ℕ → ℕ → ℕ → ℕ → ℕ → List ℕ → List ℕ → ℕ → List ℕ → Type 0
-OverMade codes kind v inner a b k pitch ext before code after =
-    FormMade (Operand (node_kind inner) a b) (λ operand. node_says (node_kind kind) 0 v (λ j. node_says (node_kind inner) a b operand)) codes k pitch ext before code after
-
--- the operation of a node's kind
-unfoldable pub op_of : ℕ → Op
-op_of kind = get_or (Not ∷ Not ∷ Not ∷ Not ∷ And ∷ Or ∷ Or ∷ And ∷ []) kind Not
-
--- the second node that a NOT, AND or OR is on: NOT is on its operand twice
-pub record Second (kind a b j : ℕ) : Type 0 where
-  pub alone : kind ≡ 3 → j ≡ a
-  pub other : (kind ≡ 3 → ⊥) → j ≡ b
-
--- a SOME or ALL stands over an AND or OR
-pub record Over (kind inner : ℕ) : Type 0 where
-  pub ranges : (kind ≡ 6) ⊎ (kind ≡ 7)
-  pub joins : (inner ≡ 4) ⊎ (inner ≡ 5)

@@ -1,7 +1,9 @@
 -- What a record's actions send.
 use Rattle.std.specs.Prelude.{true, false, ◌&&◌, List, [], ◌∷◌, ◌++◌, ℕ, zero, suc, ◌+◌, ◌-◌, ◌*◌, ◌^◌, eqb}
 use Rattle.basics.specs.Lists.{keep, from}
-use Rattle.format.specs.Record.{Rec, Net, at, ActionKind, k_output, k_set, k_in_port, k_run_group, k_no_action, action_kind}
+use Rattle.format.specs.Record.{Rec, Net, at, action_kind}
+use Rattle.format.specs.declared.kinds.ActionKind.{ActionKind}
+use Rattle.format.specs.declared.kinds.ActionKind.TheVariants.{Output as k_output, Set as k_set, InPort as k_in_port, RunGroup as k_run_group, Unknown as k_no_action}
 use Rattle.format.specs.State.{ordinary}
 use Rattle.format.specs.Pattern.{matches, put_bits}
 use Rattle.widths.specs.declared.Widths.{Widths}

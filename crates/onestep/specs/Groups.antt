@@ -1,7 +1,9 @@
 -- What a group sends: each bucket takes a copy of the frame as it entered the group, sets the header, and sends it on.
 use Rattle.std.specs.Prelude.{true, false, List, [], ◌∷◌, ◌++◌, ℕ, zero, suc, eqb, get_or}
 use Rattle.format.specs.Record.{Rec, Net, at, of_kind}
-use Rattle.format.specs.Group.{bucket_value, bucket_care, bucket_kind, bucket_target, TargetKind, k_port, k_lower_group, k_no_target, target_kind, is_group}
+use Rattle.format.specs.Group.{bucket_value, bucket_care, bucket_kind, bucket_target, target_kind, is_group}
+use Rattle.format.specs.declared.kinds.TargetKind.{TargetKind}
+use Rattle.format.specs.declared.kinds.TargetKind.TheVariants.{Port as k_port, LowerGroup as k_lower_group, Unknown as k_no_target}
 use Rattle.format.specs.Search.{first_at}
 use Rattle.format.specs.Pattern.{put_bits}
 use Rattle.widths.specs.declared.Widths.{Widths}

@@ -1,14 +1,15 @@
 // R and TC: a form with other variables, and its closure.
 #![tactic(auto)]
 
-ghost use Rattle.std.specs.Prelude.{◌≡◌, true, ◌+◌, ◌*◌, ◌≤◌, ◌<◌};
-ghost use Rattle.planes.specs.Plane.{cell, plane_size};
-ghost use Rattle.format.specs.Policy.{var_of};
+ghost use Rattle.std.specs.Prelude.{◌≡◌, true, ◌+◌, ◌*◌, ◌≤◌};
+ghost use Rattle.planes.specs.Plane.{bit, cell, plane_size};
+ghost use Rattle.truth.specs.Truth.{value};
 ghost use Rattle.lines.specs.Shapes.{Line, Plane, Source};
 ghost use Rattle.forms.specs.declared.Form.TheVariants.{Both};
-ghost use Rattle.forms.specs.Forms.{tests, place, Stands, arranged, Reached, Closes, Reaches};
+ghost use Rattle.forms.specs.Forms.{tests, place, line_form, Lies, Stands, arranged, Reached, Closes, Reaches};
 
-use forms::Form;
+use format::kinds::Var;
+use forms::{Form, Site};
 
 // The states that the plane at a relates to themselves.
 fn diagonal(work: &[u8], a: usize, pitch: usize) -> [u8; 128]
@@ -16,11 +17,9 @@ fn diagonal(work: &[u8], a: usize, pitch: usize) -> [u8; 128]
     ensures { Line (λ z. cell work.now a pitch z z) (pitch * 8) result }
 {
     let mut r = [0u8; 128];
-    let mut z: usize = 0;
-    while z < pitch * 8 {
+    for z in 0..pitch * 8 {
         let t = planes::get_at(work, a + z * pitch, z);
         lines::push(&mut r, z, t);
-        z += 1;
     }
     r
 }
@@ -31,91 +30,84 @@ fn diagonal_of(work: &[u8], f: Form, pitch: usize) -> [u8; 128]
     ensures { Line (λ z. tests f work.now pitch z z) (pitch * 8) result }
 {
     match f {
-        Form::OfX(at) => planes::load_line(work, at, pitch),
-        Form::OfY(at) => planes::load_line(work, at, pitch),
-        Form::Both(at) => diagonal(work, at, pitch),
-        Form::Turned(at) => diagonal(work, at, pitch),
+        Form::OfX(at) | Form::OfY(at) => planes::load_line(work, at, pitch),
+        Form::Both(at) | Form::Turned(at) => diagonal(work, at, pitch),
     }
 }
 
-// R, and the pair of a TC: the form that a code names, with the variables (u, v) for (X, Y); answers the code of its form.
-pub fn arrange(work: &mut [u8], code: u8, u: u8, v: u8, base: usize, pitch: usize) -> u8
-    requires plane { Plane work.old pitch base }
-    requires pitch_bound { plane_size pitch + plane_size pitch ≤ base }
-    requires code_nonzero { 0 < code }
-    ensures { Stands (arranged (var_of u) (var_of v) code base work.old pitch) result pitch base work.old work.new }
+// A form with both variables the variable v; answers its form.
+fn same(work: &mut [u8], f: Form, v: Var, to: Site) -> Form
+    requires plane { Plane work.old to.pitch to.base }
+    requires form { Plane work.old to.pitch (place f) }
+    ensures { Stands (arranged v v f work.old to.pitch) result to.pitch to.base work.old work.new }
 {
-    let f = forms::form_of(code, base, pitch * 8 * pitch);
-    if u == 0 {
-        if v == 0 {
-            let e = diagonal_of(work, f, pitch);
-            shapes::keep(work, &e, 0, base, pitch)
-        } else {
-            code
-        }
-    } else {
-        if v == 0 {
-            forms::turn_code(code)
-        } else {
-            let e = diagonal_of(work, f, pitch);
-            shapes::keep(work, &e, 1, base, pitch)
-        }
+    let e = diagonal_of(work, f, to.pitch);
+    shapes::keep(work, &e, v, to)
+}
+
+// R, and the pair of a TC: a form with the variables (u, v) for (X, Y); answers its form.
+pub fn arrange(work: &mut [u8], f: Form, u: Var, v: Var, to: Site) -> Form
+    requires plane { Plane work.old to.pitch to.base }
+    requires behind { plane_size to.pitch + plane_size to.pitch ≤ to.base }
+    requires lies { Lies to.pitch to.base f }
+    ensures { Stands (arranged u v f work.old to.pitch) result to.pitch to.base work.old work.new }
+{
+    match (u, v) {
+        (Var::X, Var::X) => same(work, f, u, to),
+        (Var::X, Var::Y) => f,
+        (Var::Y, Var::X) => f.turned(),
+        (Var::Y, Var::Y) => same(work, f, u, to),
     }
 }
 
-// Whether the second plane is the closure of the plane at byte `at`: that of the step plane, if it is said to be there.
-fn known(closed: bool, at: usize) -> bool
-    ensures { result ≡ true → (closed ≡ true) × (at ≡ 0) }
+// The closure of the plane at byte `at` stands at the site, or in the second plane: that of the step plane, if it is said to be
+// there; answers its form.
+fn shut_plane(work: &mut [u8], closed: bool, at: usize, to: Site) -> Form
+    requires plane { Plane work.old to.pitch to.base }
+    requires source { Source work.old to.pitch to.base at }
+    requires reached { closed ≡ true → Reached to.pitch work.old }
+    ensures { Closes (Both at) result to.pitch to.base work.old work.new }
 {
-    if closed { at == 0 } else { false }
-}
-
-// The closure of the plane at byte `at` stands at base, or in the second plane; answers the code of its form.
-fn shut_plane(work: &mut [u8], closed: bool, at: usize, base: usize, pitch: usize) -> u8
-    requires plane { Plane work.old pitch base }
-    requires source { Source work.old pitch base at }
-    requires reached { closed ≡ true → Reached pitch work.old }
-    ensures { Closes (Both at) result pitch base work.old work.new }
-{
-    if known(closed, at) {
-        return 7;
+    if closed && at == 0 {
+        return Form::Both(to.size());
     }
-    reaching::close_into(work, at, base, pitch);
-    3
+    reaching::close_into(work, at, to.base, to.pitch);
+    Form::Both(to.base)
 }
 
-// The closure of a form stands at base or in the second plane; answers the code of its form. A line is its own closure.
-fn shut(work: &mut [u8], closed: bool, f: Form, base: usize, pitch: usize) -> u8
-    requires plane { Plane work.old pitch base }
-    requires source { Source work.old pitch base (place f) }
-    requires reached { closed ≡ true → Reached pitch work.old }
-    ensures { Closes f result pitch base work.old work.new }
+// The line over v at byte `at` is its own closure; answers its form, a copy.
+fn shut_line(work: &mut [u8], at: usize, v: Var, to: Site) -> Form
+    requires plane { Plane work.old to.pitch to.base }
+    requires source { Source work.old to.pitch to.base at }
+    ensures { Closes (line_form v at) result to.pitch to.base work.old work.new }
+{
+    let e = planes::load_line(work, at, to.pitch);
+    shapes::keep(work, &e, v, to)
+}
+
+// The closure of a form stands at the site or in the second plane; answers its form.
+fn shut(work: &mut [u8], closed: bool, f: Form, to: Site) -> Form
+    requires plane { Plane work.old to.pitch to.base }
+    requires source { Source work.old to.pitch to.base (place f) }
+    requires reached { closed ≡ true → Reached to.pitch work.old }
+    ensures { Closes f result to.pitch to.base work.old work.new }
 {
     match f {
-        Form::OfX(at) => {
-            let e = planes::load_line(work, at, pitch);
-            shapes::keep(work, &e, 0, base, pitch)
-        }
-        Form::OfY(at) => {
-            let e = planes::load_line(work, at, pitch);
-            shapes::keep(work, &e, 1, base, pitch)
-        }
-        Form::Both(at) => shut_plane(work, closed, at, base, pitch),
-        Form::Turned(at) => {
-            let code = shut_plane(work, closed, at, base, pitch);
-            forms::turn_code(code)
-        }
+        Form::OfX(at) => shut_line(work, at, Var::X, to),
+        Form::OfY(at) => shut_line(work, at, Var::Y, to),
+        Form::Both(at) => shut_plane(work, closed, at, to),
+        Form::Turned(at) => shut_plane(work, closed, at, to).turned(),
     }
 }
 
-// TC: the closure of a form, arranged, stands at base or in the second plane; answers the code of its form.
-pub fn reach(work: &mut [u8], closed: bool, f: Form, u: u8, v: u8, base: usize, pitch: usize) -> u8
-    requires plane { Plane work.old pitch base }
-    requires source { Source work.old pitch base (place f) }
-    requires pitch_bound { plane_size pitch + plane_size pitch ≤ base }
-    requires reached { closed ≡ true → Reached pitch work.old }
-    ensures { Reaches (var_of u) (var_of v) f result pitch base work.old work.new }
+// TC: the closure of a form, arranged; answers its form.
+pub fn reach(work: &mut [u8], closed: bool, f: Form, u: Var, v: Var, to: Site) -> Form
+    requires plane { Plane work.old to.pitch to.base }
+    requires source { Source work.old to.pitch to.base (place f) }
+    requires behind { plane_size to.pitch + plane_size to.pitch ≤ to.base }
+    requires reached { closed ≡ true → Reached to.pitch work.old }
+    ensures { Reaches u v f result to.pitch to.base work.old work.new }
 {
-    let code = shut(work, closed, f, base, pitch);
-    arrange(work, code, u, v, base, pitch)
+    let g = shut(work, closed, f, to);
+    arrange(work, g, u, v, to)
 }

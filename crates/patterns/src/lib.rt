@@ -14,13 +14,11 @@ fn ternary_at(value: u8, care: u8, i: u8) -> Ternary
     requires { i < 8 }
     ensures { result ≡ ternary value care i }
 {
-    if !bit_of(care, i as usize) {
-        return Ternary::Star;
-    }
-    if bit_of(value, i as usize) {
-        Ternary::Fixed1
-    } else {
-        Ternary::Fixed0
+    let i = usize::from(i);
+    match (bit_of(u64::from(care), i), bit_of(u64::from(value), i)) {
+        (false, _) => Ternary::Star,
+        (true, true) => Ternary::Fixed1,
+        (true, false) => Ternary::Fixed0,
     }
 }
 
@@ -44,10 +42,8 @@ pub fn matched(k: u8, value: u8, care: u8) -> u64
     ensures { MatchedSet k value care result }
 {
     let mut set = 1u64;
-    let mut bits: u8 = 0;
-    while bits < k {
+    for bits in 0..k {
         set = widened(ternary_at(value, care, bits), set, bits);
-        bits += 1;
     }
     set
 }
@@ -57,7 +53,7 @@ pub fn in_set(set: u64, x: u8) -> bool
     requires { x < 64 }
     ensures { result ≡ bit_of set x }
 {
-    (set >> x) % 2 == 1
+    bit_of(set, usize::from(x))
 }
 
 // What SET makes of a bit b.
@@ -77,12 +73,13 @@ pub fn put(k: u8, value: u8, care: u8, x: u8) -> u8
     ensures { result ≡ put_bits k value care x }
 {
     let mut result: u8 = 0;
-    let mut i: u8 = 0;
-    while i < k {
-        if written(ternary_at(value, care, i), bit_of(x, i as usize)) {
+    for i in 0..k {
+        if written(
+            ternary_at(value, care, i),
+            bit_of(u64::from(x), usize::from(i)),
+        ) {
             result += 1u8 << i;
         }
-        i += 1;
     }
     result
 }

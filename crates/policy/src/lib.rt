@@ -1,167 +1,98 @@
 // The nodes of a policy, worked out by recursion on operands, and the lowest state that breaks it.
 #![tactic(auto)]
 
-ghost use Rattle.std.specs.Prelude.{◌≡◌, true, false, List, ℕ, ◌+◌, ◌*◌, ◌≤◌, ◌<◌, length};
-ghost use Rattle.nodes.specs.Node.{form_at, Makeable, Over};
-ghost use Rattle.forms.specs.Forms.{tests, place};
-ghost use Rattle.policy.specs.Evaluated.{nodes_at, NodeAt, PolicyReady, Asked, Given, NodeSettled, OverSettled, state_of, Tested};
-ghost use Rattle.judgement.specs.Computed.{first_from};
+ghost use Rattle.std.specs.Prelude.{Option, ◌≡◌, ℕ, ◌+◌, ◌*◌, ◌≤◌, ◌<◌, length};
 ghost use Rattle.lines.specs.Shapes.{Plane};
+ghost use Rattle.forms.specs.Forms.{tests, place};
+ghost use Rattle.policy.specs.Evaluated.{nodes_at, node_at, Standing, Planned, PolicyReady, Asked, Given, LowestPassing, Tested};
 
+use format::kinds::NodeKind;
 use forms::Form;
+use lines::Op;
 use nodes::node;
-use nodes::node::Node;
+use nodes::node::{Ground, Node};
 
-// The lowest state of some kind, or none.
+// The nodes of a policy: count records of a store, from number start on.
 #[derive(Clone, Copy)]
-pub enum Offender {
-    State(usize),
-    None,
+pub struct Nodes<'a> {
+    pub store: &'a [u8],
+    pub start: usize,
+    pub count: usize,
 }
 
-// The node in record i of a store.
-fn node_at(store: &[u8], i: usize) -> Node
-    requires { i * 24 + 24 ≤ length store.now }
-    ensures { NodeAt store.now i result }
-{
-    let kind = store[i * 24 + 2];
-    Node {
-        kind: kind,
-        a: store[i * 24 + 3],
-        b: store[i * 24 + 4],
-        arity: node::operands(kind),
+impl<'a> Nodes<'a> {
+    // Node k.
+    fn at(self, k: usize) -> Node
+        requires { (self.start + k) * 24 + 24 ≤ length self.store.now }
+        ensures { result ≡ node_at self.entry.store.now (self.entry.start + k) }
+    {
+        let i = (self.start + k) * 24;
+        let kind = NodeKind::from(self.store[i + 2]);
+        Node::of(kind, self.store[i + 3], self.store[i + 4])
     }
 }
 
-// Makes node k, and keeps the code of its form.
-fn settle(
-    work: &mut [u8],
-    ext: &[u8; 128],
-    closed: bool,
-    n: Node,
-    pitch: usize,
-    k: usize,
-    codes: &mut [u8; 32],
-)
-    requires { Makeable n.kind n.a n.b k pitch closed work.old }
-    ensures { NodeSettled codes.old n k pitch ext.now work.old codes.new work.new }
+// Node k as it is made. The AND or OR below a SOME or ALL is passed over if it is not made: its operands are taken instead.
+fn planned(nodes: Nodes, forms: &[Option<Form>; 32], k: usize) -> Node
+    requires standing { Standing nodes.store.now nodes.start nodes.count }
+    requires inside { k < nodes.count }
+    ensures { Planned (nodes_at nodes.entry.store.now nodes.entry.start nodes.entry.count) k result }
 {
-    let code = node::make(work, ext, closed, codes, n.kind, n.a, n.b, k, pitch);
-    codes[k] = code;
-}
-
-// Makes node k, a SOME or ALL, of the operands of m, the AND or OR below it, and keeps the code of its form.
-fn settle_over(work: &mut [u8], n: Node, m: Node, pitch: usize, k: usize, codes: &mut [u8; 32])
-    requires makeable { Makeable m.kind m.a m.b k pitch false work.old }
-    requires over { Over n.kind m.kind }
-    ensures { (ext : List ℕ) → OverSettled codes.old n m k pitch ext work.old codes.new work.new }
-{
-    let code = node::make_over(work, codes, n.kind, n.b, m.kind, m.a, m.b, k, pitch);
-    codes[k] = code;
-}
-
-// Whether n is a SOME or ALL over m, its operand, an AND or OR that is not made: then m need not be. A no will always do.
-fn passes_over(codes: &[u8; 32], n: Node, m: Node) -> bool
-    requires { n.a < 32 }
-    ensures { result ≡ true → Over n.kind m.kind }
-{
-    let a = n.a as usize;
-    if codes[a] != 0 {
-        return false;
+    let n = nodes.at(k);
+    let Node::Range(o, v, a) = n else {
+        return n;
+    };
+    if forms[a].is_some() {
+        return n;
     }
-    node::over(n.kind, m.kind)
+    let Node::Join(t, p, q) = nodes.at(a) else {
+        return n;
+    };
+    match t {
+        Op::Not => n,
+        Op::And | Op::Or => Node::Over(o, v, t, p, q),
+    }
 }
 
-// Works out node k of a policy, its operands first, unless it is made, and keeps the codes of their forms. The AND or OR below a
-// SOME or ALL is passed over, and its operands are worked out instead.
-fn eval(
-    store: &[u8],
-    start: usize,
-    count: usize,
-    ext: &[u8; 128],
-    closed: bool,
-    work: &mut [u8],
-    pitch: usize,
-    k: usize,
-    codes: &mut [u8; 32],
-)
-    requires { Asked store.now start count ext.now closed work.old pitch k codes.old }
-    ensures { Given (nodes_at store.now start count) pitch ext.now k codes.old work.old codes.new work.new }
+// Works out node k of a policy, its operands first, unless it is made, and keeps the forms of all.
+fn eval(nodes: Nodes, ground: Ground, work: &mut [u8], forms: &mut [Option<Form>; 32], k: usize)
+    requires { Asked nodes.store.now nodes.start nodes.count ground.external.now ground.closed work.old ground.pitch k forms.old }
+    ensures { Given (nodes_at nodes.entry.store.now nodes.entry.start nodes.entry.count) ground.entry.pitch ground.entry.external.now k forms.old work.old forms.new work.new }
 {
-    if codes[k] != 0 {
+    if forms[k].is_some() {
         return;
     }
-    let n = node_at(store, start + k);
-    let arity = n.arity;
-    match arity {
-        0 => settle(work, ext, closed, n, pitch, k, codes),
-        1 => {
-            let a = n.a as usize;
-            let m = node_at(store, start + a);
-            let over = passes_over(codes, n, m);
-            if over {
-                let p = m.a as usize;
-                let q = m.b as usize;
-                eval(store, start, count, ext, closed, work, pitch, p, codes);
-                eval(store, start, count, ext, closed, work, pitch, q, codes);
-                settle_over(work, n, m, pitch, k, codes);
-            } else {
-                eval(store, start, count, ext, closed, work, pitch, a, codes);
-                settle(work, ext, closed, n, pitch, k, codes);
-            }
-        }
-        2..=255 => {
-            let a = n.a as usize;
-            let b = n.b as usize;
-            eval(store, start, count, ext, closed, work, pitch, a, codes);
-            eval(store, start, count, ext, closed, work, pitch, b, codes);
-            settle(work, ext, closed, n, pitch, k, codes);
-        }
+    let n = planned(nodes, forms, k);
+    if let Some((a, b)) = n.operands() {
+        eval(nodes, ground, work, forms, a);
+        eval(nodes, ground, work, forms, b);
     }
+    let f = node::make(work, ground, forms, n, k);
+    forms[k] = Some(f);
 }
 
 // The lowest state x with which, and with Y = 0, a form passes.
-fn lowest_state(work: &[u8], f: Form, pitch: usize) -> Offender
+fn lowest_state(work: &[u8], f: Form, pitch: usize) -> Option<usize>
     requires { Plane work.now pitch (place f) }
-    ensures { state_of result ≡ first_from (pitch * 8) 0 (λ x. tests f work.now pitch x 0) }
+    ensures { LowestPassing (pitch * 8) (λ x. tests f work.now pitch x 0) result }
 {
-    let mut x: usize = 0;
-    while x < pitch * 8 {
-        if forms::test(work, f, x, 0, pitch) {
-            return Offender::State(x);
+    for x in 0..pitch * 8 {
+        if f.test(work, x, 0, pitch) {
+            return Some(x);
         }
-        x += 1;
     }
-    Offender::None
+    None
 }
 
-// The form of node j, by the codes of the nodes.
-fn form_at(codes: &[u8; 32], j: usize, pitch: usize) -> Form
-    requires { (j < 256) × (pitch ≤ 128) }
-    ensures { result ≡ form_at codes.now pitch j }
+// The lowest state that breaks a policy.
+pub fn test(nodes: Nodes, ground: Ground, work: &mut [u8]) -> Option<usize>
+    requires policy_ready { PolicyReady nodes.store.now nodes.start nodes.count ground.pitch ground.closed work.old }
+    requires count_nonzero { 0 < nodes.count }
+    ensures { Tested (nodes_at nodes.entry.store.now nodes.entry.start nodes.entry.count) ground.entry.pitch ground.entry.external.now work.old result work.new }
 {
-    node::form_at(codes, j, pitch)
-}
-
-// The lowest state that breaks the policy of the count nodes from record start on.
-pub fn test(
-    store: &[u8],
-    start: usize,
-    count: usize,
-    ext: &[u8; 128],
-    closed: bool,
-    work: &mut [u8],
-    pitch: usize,
-) -> Offender
-    requires policy_ready { PolicyReady store.now start count pitch closed work.old }
-    requires count_nonzero { 0 < count }
-    ensures { Tested (nodes_at store.now start count) pitch ext.now work.old result work.new }
-{
-    let last = count - 1;
-    let mut codes = [0u8; 32];
-    eval(
-        store, start, count, ext, closed, work, pitch, last, &mut codes,
-    );
-    let f = form_at(&codes, last, pitch);
-    lowest_state(work, f, pitch)
+    let last = nodes.count - 1;
+    let mut forms = [None; 32];
+    eval(nodes, ground, work, &mut forms, last);
+    let f = forms[last]?;
+    lowest_state(work, f, ground.pitch)
 }

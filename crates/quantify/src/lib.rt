@@ -1,206 +1,141 @@
 // SOME and ALL: a form over one variable, made of one or two forms of the same buffer.
 #![tactic(auto)]
 
-ghost use Rattle.std.specs.Prelude.{◌+◌, ◌*◌, ◌<◌};
+ghost use Rattle.std.specs.Prelude.{◌≡◌, ◌+◌, ◌*◌, ◌<◌};
 ghost use Rattle.planes.specs.Plane.{bit};
-ghost use Rattle.format.specs.Policy.{var_of};
+ghost use Rattle.format.specs.Policy.{same_var};
 ghost use Rattle.lines.specs.Shapes.{op_bool, over, Quantifies, Line, LineIs, Lined, Plane, Source};
-ghost use Rattle.forms.specs.declared.Form.TheVariants.{Both};
-ghost use Rattle.forms.specs.Forms.{place, turned, Paired, joined, Stands, line_form, ranged};
+ghost use Rattle.forms.specs.declared.Way.TheVariants.{Over};
+ghost use Rattle.forms.specs.Forms.{other, Pairs, Sources, Paired, joined, Stands, ranged};
 
-use forms::{Form, Way};
+use format::kinds::Var;
+use forms::{Form, Joined, Site, Way};
 use lines::{Join, Op};
 
 // Line x of the operation on two forms.
-fn line_of(work: &[u8], t: Op, a: Form, b: Form, x: usize, pitch: usize) -> Join
-    requires paired { Paired work.now pitch a b }
-    requires quantifies { Quantifies t }
+fn line_of(work: &[u8], j: Joined, x: usize, pitch: usize) -> Join
+    requires paired { Paired work.now pitch j }
+    requires quantifies { Quantifies j.op }
     requires x_bound { x < pitch * 8 }
-    ensures { LineIs (λ y. joined t a b work.now pitch x y) t work.now pitch result }
+    ensures { LineIs (joined j work.now pitch x) j.op work.now pitch result }
 {
-    let p = shapes::row_of(work, a, x, pitch);
-    let q = shapes::row_of(work, b, x, pitch);
-    lines::join_of(t, p, q)
+    let p = shapes::row_of(work, j.first, x, pitch);
+    let q = shapes::row_of(work, j.second, x, pitch);
+    lines::join_of(j.op, p, q)
 }
 
-// The states y for which the operation t on two forms passes with every x (And), or with some x (Or).
-fn gather_x(work: &[u8], o: Op, t: Op, a: Form, b: Form, pitch: usize) -> [u8; 128]
-    requires paired { Paired work.now pitch a b }
-    requires quantifies { Quantifies o × Quantifies t }
-    ensures { Line (λ y. over o (pitch * 8) (λ x. joined t a b work.now pitch x y)) (pitch * 8) result }
+// The states y for which the operation on two forms passes with every x (And), or with some x (Or).
+fn gather_x(work: &[u8], o: Op, j: Joined, pitch: usize) -> [u8; 128]
+    requires paired { Paired work.now pitch j }
+    requires quantifies { Quantifies o × Quantifies j.op }
+    ensures { Line (λ y. over o (pitch * 8) (λ x. joined j work.now pitch x y)) (pitch * 8) result }
 {
-    let c = lines::units(o);
-    let mut r = [c; 128];
-    let mut x: usize = 0;
-    while x < pitch * 8 {
-        let e = line_of(work, t, a, b, x, pitch);
-        lines::take_join(&mut r, work, o, t, e, pitch);
-        x += 1;
+    let mut r = [lines::units(o); 128];
+    for x in 0..pitch * 8 {
+        let e = line_of(work, j, x, pitch);
+        lines::take_join(&mut r, work, o, j.op, e, pitch);
     }
     r
 }
 
-// The states x for which the operation t on two forms passes with every y (And), or with some y (Or).
-fn gather_y(work: &[u8], o: Op, t: Op, a: Form, b: Form, pitch: usize) -> [u8; 128]
-    requires paired { Paired work.now pitch a b }
-    requires quantifies { Quantifies o × Quantifies t }
-    ensures { Line (λ x. over o (pitch * 8) (λ y. joined t a b work.now pitch x y)) (pitch * 8) result }
+// The states x for which the operation on two forms passes with every y (And), or with some y (Or).
+fn gather_y(work: &[u8], o: Op, j: Joined, pitch: usize) -> [u8; 128]
+    requires paired { Paired work.now pitch j }
+    requires quantifies { Quantifies o × Quantifies j.op }
+    ensures { Line (λ x. over o (pitch * 8) (joined j work.now pitch x)) (pitch * 8) result }
 {
     let mut r = [0u8; 128];
-    let mut x: usize = 0;
-    while x < pitch * 8 {
-        let e = line_of(work, t, a, b, x, pitch);
-        let s = lines::join_over(work, o, t, e, pitch);
+    for x in 0..pitch * 8 {
+        let e = line_of(work, j, x, pitch);
+        let s = lines::join_over(work, o, j.op, e, pitch);
         lines::push(&mut r, x, s);
-        x += 1;
     }
     r
 }
 
-// The operation t on two forms with v running over every state, by o, stands at base; answers the code of its form.
-fn range_lines(
-    work: &mut [u8],
-    o: Op,
-    t: Op,
-    a: Form,
-    b: Form,
-    v: u8,
-    base: usize,
-    pitch: usize,
-) -> u8
-    requires plane { Plane work.old pitch base }
-    requires paired { Paired work.old pitch a b }
-    requires quantifies { Quantifies o × Quantifies t }
-    ensures { Stands (ranged o (var_of v) t a b work.old pitch) result pitch base work.old work.new }
+// The other variable.
+fn other(u: Var) -> Var
+    ensures { result ≡ other u }
 {
-    if v != 0 {
-        let e = gather_y(work, o, t, a, b, pitch);
-        shapes::keep(work, &e, 0, base, pitch)
-    } else {
-        let e = gather_x(work, o, t, a, b, pitch);
-        shapes::keep(work, &e, 1, base, pitch)
+    match u {
+        Var::X => Var::Y,
+        Var::Y => Var::X,
     }
 }
 
-// The same of two forms that both stand exchanged, or are lines.
-fn range_turned(
-    work: &mut [u8],
-    o: Op,
-    t: Op,
-    a: Form,
-    b: Form,
-    v: u8,
-    base: usize,
-    pitch: usize,
-) -> u8
-    requires plane { Plane work.old pitch base }
-    requires paired { Paired work.old pitch (turned a) (turned b) }
-    requires quantifies { Quantifies o × Quantifies t }
-    ensures { Stands (ranged o (var_of v) t a b work.old pitch) result pitch base work.old work.new }
+// Whether two variables are one.
+fn same(u: Var, v: Var) -> bool
+    ensures { result ≡ same_var u v }
 {
-    if v == 0 {
-        let e = gather_y(work, o, t, forms::turn(a), forms::turn(b), pitch);
-        shapes::keep(work, &e, 1, base, pitch)
-    } else {
-        let e = gather_x(work, o, t, forms::turn(a), forms::turn(b), pitch);
-        shapes::keep(work, &e, 0, base, pitch)
+    match (u, v) {
+        (Var::X, Var::X) => true,
+        (Var::X, Var::Y) => false,
+        (Var::Y, Var::X) => false,
+        (Var::Y, Var::Y) => true,
     }
 }
 
-// The line at base becomes equal tests: whether the operation t on the lines at a and b passes with every state (And), or with
+// The operation on two forms with v running over every state, by o; answers its form.
+fn range_lines(work: &mut [u8], o: Op, j: Joined, v: Var, to: Site) -> Form
+    requires plane { Plane work.old to.pitch to.base }
+    requires paired { Paired work.old to.pitch j }
+    requires quantifies { Quantifies o × Quantifies j.op }
+    ensures { Stands (ranged o v j work.old to.pitch) result to.pitch to.base work.old work.new }
+{
+    let e = match v {
+        Var::X => gather_x(work, o, j, to.pitch),
+        Var::Y => gather_y(work, o, j, to.pitch),
+    };
+    shapes::keep(work, &e, other(v), to)
+}
+
+// The line at a site becomes equal tests: whether the operation t on the lines at a and b passes with every state (And), or with
 // some (Or).
-fn same_line(work: &mut [u8], o: Op, t: Op, a: usize, b: usize, base: usize, pitch: usize)
-    requires plane { Plane work.old pitch base }
-    requires source { Source work.old pitch base a }
-    requires source_2 { Source work.old pitch base b }
+fn same_line(work: &mut [u8], o: Op, t: Op, a: usize, b: usize, to: Site)
+    requires plane { Plane work.old to.pitch to.base }
+    requires source { Source work.old to.pitch to.base a }
+    requires source_2 { Source work.old to.pitch to.base b }
     requires quantifies { Quantifies o }
-    ensures { Lined (λ z. over o (pitch * 8) (λ i. op_bool t (bit work.old (a * 8 + i)) (bit work.old (b * 8 + i)))) (pitch * 8) pitch base work.old work.new }
+    ensures { Lined (λ z. over o (to.pitch * 8) (λ i. op_bool t (bit work.old (a * 8 + i)) (bit work.old (b * 8 + i)))) (to.pitch * 8) to.pitch to.base work.old work.new }
 {
-    shapes::join_lines(work, t, a, b, base, pitch);
-    let s = lines::line_over(work, o, base, pitch);
-    planes::fill(work, lines::full(s), base, pitch);
+    shapes::join_lines(work, t, a, b, to);
+    let s = lines::line_over(work, o, to.base, to.pitch);
+    planes::fill(work, lines::full(s), to.base, to.pitch);
 }
 
-// The same as range_lines of two lines over the variable u, at a and b.
-fn range_flat(
-    work: &mut [u8],
-    o: Op,
-    t: Op,
-    a: usize,
-    b: usize,
-    u: u8,
-    v: u8,
-    base: usize,
-    pitch: usize,
-) -> u8
-    requires plane { Plane work.old pitch base }
-    requires source { Source work.old pitch base a }
-    requires source_2 { Source work.old pitch base b }
+// The same as range_lines of two lines over the variable u.
+fn range_flat(work: &mut [u8], o: Op, j: Joined, u: Var, v: Var, to: Site) -> Form
+    requires plane { Plane work.old to.pitch to.base }
+    requires sources { Sources work.old to.pitch to.base j }
+    requires flat { Pairs j.first j.second (Over u) }
     requires quantifies { Quantifies o }
-    ensures { Stands (ranged o (var_of v) t (line_form (var_of u) a) (line_form (var_of u) b) work.old pitch) result pitch base work.old work.new }
+    ensures { Stands (ranged o v j work.old to.pitch) result to.pitch to.base work.old work.new }
 {
-    let code = shapes::line_code(u);
-    let other = shapes::line_code(v);
-    if code == other {
-        same_line(work, o, t, a, b, base, pitch);
-        code
+    let a = j.first.start();
+    let b = j.second.start();
+    if same(u, v) {
+        same_line(work, o, j.op, a, b, to);
     } else {
-        shapes::join_lines(work, t, a, b, base, pitch);
-        code
+        shapes::join_lines(work, j.op, a, b, to);
     }
+    Form::line(u, to.base)
 }
 
-// SOME, ALL: the operation t on two forms with v running over every state, by Or and by And, stands at base; answers the code
-// of its form. The operation on the forms itself is not laid.
-pub fn range(
-    work: &mut [u8],
-    o: Op,
-    t: Op,
-    a: Form,
-    b: Form,
-    v: u8,
-    base: usize,
-    pitch: usize,
-) -> u8
-    requires plane { Plane work.old pitch base }
-    requires source { Source work.old pitch base (place a) }
-    requires source_2 { Source work.old pitch base (place b) }
-    requires quantifies { Quantifies o × Quantifies t }
-    ensures { Stands (ranged o (var_of v) t a b work.old pitch) result pitch base work.old work.new }
+// SOME, ALL: the operation on two forms with v running over every state, by Or and by And; answers its form. The operation on
+// the forms itself is not laid.
+pub fn range(work: &mut [u8], o: Op, j: Joined, v: Var, to: Site) -> Form
+    requires plane { Plane work.old to.pitch to.base }
+    requires sources { Sources work.old to.pitch to.base j }
+    requires quantifies { Quantifies o × Quantifies j.op }
+    ensures { Stands (ranged o v j work.old to.pitch) result to.pitch to.base work.old work.new }
 {
-    let way = forms::pairing(a, b);
-    match way {
-        Way::OverX => range_flat(
-            work,
-            o,
-            t,
-            forms::start(a),
-            forms::start(b),
-            0,
-            v,
-            base,
-            pitch,
-        ),
-        Way::OverY => range_flat(
-            work,
-            o,
-            t,
-            forms::start(a),
-            forms::start(b),
-            1,
-            v,
-            base,
-            pitch,
-        ),
-        Way::Straight => range_lines(work, o, t, a, b, v, base, pitch),
-        Way::Exchanged => range_turned(work, o, t, a, b, v, base, pitch),
-        Way::FirstTurned => {
-            exchange::exchange(work, forms::start(a), base, pitch);
-            range_lines(work, o, t, Form::Both(base), b, v, base, pitch)
-        }
-        Way::SecondTurned => {
-            exchange::exchange(work, forms::start(b), base, pitch);
-            range_lines(work, o, t, a, Form::Both(base), v, base, pitch)
+    match j.first.beside(j.second) {
+        Way::Over(u) => range_flat(work, o, j, u, v, to),
+        Way::Straight => range_lines(work, o, j, v, to),
+        Way::Exchanged => range_lines(work, o, j.turned(), other(v), to).turned(),
+        Way::Mixed => {
+            let laid = shapes::straighten(work, j, to);
+            range_lines(work, o, laid, v, to)
         }
     }
 }

@@ -1,16 +1,14 @@
 -- From a copy of the relation to its closure.
 use mathlib.Core.Path.{◌≡◌, sym, ap, ◌∙◌}
 use mathlib.Core.List.{List}
-use mathlib.Core.Logic.{◌⊎◌, inl, inr}
-use Prim.Native.Nat.{ℕ, ◌+◌, ◌*◌, ◌<◌, ◌≤◌}
+use Prim.Native.Nat.{ℕ, ◌+◌, ◌*◌, ◌<◌}
 use native.Mathlib.Omega.{arith}
-use lib.ListN.{length, get_or, set}
+use lib.ListN.{length, get_or}
 use Rattle.planes.specs.Plane.{cell, On, plane_size, Apart}
 use Rattle.planes.specs.Lines.{Laid, Made}
 use Rattle.basics.specs.Tabulated.{grid_test}
 use Rattle.planes.specs.Laws.Places.{bit_at, line_before}
 use Rattle.planes.specs.Laws.Lines.{line_bit}
-use Rattle.planes.specs.Laws.LaidBytes.{laid_more}
 use Rattle.walks.specs.Walk.{Walk}
 use Rattle.walks.specs.Walk.Walk.{one, more}
 use Rattle.closure.specs.Closed.{Closed}
@@ -20,16 +18,6 @@ use Rattle.walks.specs.Laws.Walks.{start, end, map_walk}
 use Rattle.reaching.specs.Into.{ClosedInto}
 use Rattle.sinks.specs.Turns.{Between, Stable}
 use Rattle.sinks.specs.Laws.Turning.{from_kept, flat}
-
--- the copy, byte by byte
-module _ (from to pitch j : ℕ) (a l : List ℕ) (A : Apart from to pitch (length a)) (I : Laid (λ i. get_or a (from + i) 0) to j a l) (hj : j < plane_size pitch) where
-  -- a byte that is to be copied is as before
-  unread : (from + plane_size pitch ≤ to) ⊎ (to + plane_size pitch ≤ from) → get_or l (from + j) 0 ≡ get_or a (from + j) 0
-  unread (inl h) = I.under (from + j) (omega arith)
-  unread (inr h) = I.over (from + j) (omega arith)
-
-  pub copied_more : Laid (λ i. get_or a (from + i) 0) to (j + 1) a (set l (to + j) (get_or l (from + j) 0))
-  copied_more = laid_more _ to j (plane_size pitch) a l I hj A.second (get_or l (from + j) 0) (unread A.apart)
 
 module _ (from to pitch : ℕ) (a l : List ℕ) (C : Laid (λ i. get_or a (from + i) 0) to (plane_size pitch) a l) where
   copied_cell : (x y : ℕ) → x < pitch * 8 → y < pitch * 8 → cell l to pitch x y ≡ cell a from pitch x y

@@ -7,17 +7,15 @@ ghost use Rattle.planes.specs.Lines.{Laid};
 ghost use Rattle.reaching.specs.Into.{ClosedInto, lie_apart, ClosedApart};
 ghost use Rattle.sinks.specs.Turns.{MetAll};
 
+use sinks::Plane;
+
 // Copies the plane at from to the plane at to.
 fn copy_plane(work: &mut [u8], from: usize, to: usize, pitch: usize)
     requires { Apart from to pitch (length work.old) }
     ensures { Laid (λ j. get_or work.old (from + j) 0) to (plane_size pitch) work.old work.new }
 {
     let size = pitch * 8 * pitch;
-    let mut j: usize = 0;
-    while j < size {
-        work[to + j] = work[from + j];
-        j += 1;
-    }
+    work.copy_within(from..from + size, to);
 }
 
 // The plane at to becomes its own closure, if its lines are of whole words and not too many have to be taken in; whether it is
@@ -29,9 +27,9 @@ fn by_search(work: &mut [u8], to: usize, pitch: usize) -> bool
     if pitch % 8 != 0 {
         return false;
     }
-    let idle = sinks::idle_states(work, to, pitch);
-    let mut order = [0u16; 1024];
-    sinks::search_order(work, to, pitch, &idle, &mut order);
+    let plane = Plane { work, to, pitch };
+    let idle = sinks::idle_states(&plane);
+    let order = sinks::search_order(&plane, &idle);
     meeting::meet_all(work, to, pitch, &order, &idle)
 }
 

@@ -1,2 +1,3 @@
 pub mod Scan
+pub mod Turn
 pub mod Laws

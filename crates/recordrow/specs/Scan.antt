@@ -1,21 +1,22 @@
 -- What the scan over a network's records knows of the records before, and what it answers.
-use Rattle.std.specs.Prelude.{◌≡◌, Bool, true, false, List, [], ◌∷◌, ◌++◌, ℕ, ◌-◌, ◌*◌, ◌≤◌, ◌<◌, eqb, length, get_or}
+use Rattle.std.specs.Prelude.{◌≡◌, true, [], ◌∷◌, ◌++◌, ◌-◌, ◌≤◌, ◌<◌, eqb, length, get_or, Result, MatchResult}
 use Rattle.std.proofs.Math.Option.{none, some}
-use Rattle.format.specs.Record.{Rec, Net, most_groups, kind, records, of_kind, widths_of}
+use Rattle.format.specs.Record.{Rec, Net, kind, of_kind, widths_of}
 use Rattle.widths.specs.Widths.{within_limits}
-use Rattle.refusals.specs.Rows.{row3, row5, row16}
+use Rattle.refusals.specs.Rows.{row3, row5}
+use Rattle.refusals.specs.Numbers.{row_number}
+use Rattle.refusals.specs.declared.Row.{Row}
 use Rattle.refusals.specs.Refusal.{Refusal, or_else, row, record_row}
 use Rattle.recordrow.specs.declared.Seen.{Seen}
-use Rattle.recordrow.specs.declared.Turn.{Turn}
-use Rattle.recordrow.specs.declared.Turn.TheVariants.{Next, Stop}
+use Rattle.recordrow.specs.declared.Notes.{Notes}
 use Rattle.noderows.specs.Policies.{PoliciesOf}
-use Rattle.rows.specs.Groups.{GroupsOf, There}
+use Rattle.rows.specs.Groups.{GroupsOf}
 use Rattle.rows.specs.Noted.{KeysNoted, PointsNoted}
 
 -- what is noted of the records before: the keys of their rules, and the points where their links end
-pub record NotedOf (before : Net) (bits table : List ℕ) : Type 0 where
-  pub keys : KeysNoted before bits
-  pub points : PointsNoted before table
+pub record NotedOf (before : Net) (notes : Notes) : Type 0 where
+  pub keys : KeysNoted before notes.keys
+  pub points : PointsNoted before notes.points
 
 -- the widths are within their limits once the widths record was passed
 abbrev pub Limited : Seen → Type 0
@@ -33,36 +34,15 @@ pub record SeenOf (before : Net) (s : Seen) : Type 0 where
   pub policies : PoliciesOf before s.policies
   pub groups : GroupsOf before s.groups
 
--- whether a record meets row 3; if not, the widths record was passed
-pub record Placed (r : Rec) (s : Seen) (met : Bool) : Type 0 where
-  pub is : (before : Net) → SeenOf before s → met ≡ row3 before r
-  pub later : met ≡ false → s.last ≡ 0 → ⊥
-
 -- rows 3 and 5
 abbrev pub form_row : Net → Rec → Refusal
 form_row before r = or_else (row (row3 before r) 3 (length before)) (row (row5 before r) 5 (length before))
 
 -- what a turn answers: the lowest row that the record meets, or what is known after it
-abbrev pub Turned : Net → Rec → Net → Turn → Type 0
-Turned before r after (Stop k) = record_row before r after ≡ some (k, length before)
-Turned before r after (Next s) = (record_row before r after ≡ none) × SeenOf (before ++ (r ∷ [])) s
-
--- what holds where a turn goes on to the next record
-abbrev pub Onward : Turn → Type 0 → Type 0
-Onward (Stop k) holds = Unit {0}
-Onward (Next s) holds = holds
-
--- whether a group meets row 16; if not, its number among the groups is small
-pub record GroupMet (r : Rec) (s : Seen) (there : List ℕ) (met : Bool) : Type 0 where
-  pub is : (before after : Net) → SeenOf before s → There (before ++ (r ∷ after)) there → met ≡ row16 before r after
-  pub few : met ≡ false → s.groups.count < most_groups
+abbrev pub Turned : Net → Rec → Net → Result Seen Row → Type 0
+Turned before r after answer =
+    MatchResult answer (λ s. (record_row before r after ≡ none) × SeenOf (before ++ (r ∷ [])) s) (λ k. record_row before r after ≡ some (row_number k, length before))
 
 -- a record may have this kind after the widths record
 abbrev pub Later : Rec → Type 0
 Later r = (2 ≤ kind r) × (5 < kind r → kind r ≡ 9)
-
--- what a turn at record r is given, after the first i records of a store
-pub record BeforeTurn (store : List ℕ) (i : ℕ) (r : Rec) (s : Seen) : Type 0 where
-  pub stored : i * 24 ≤ length store
-  pub whole : length r ≡ 24
-  pub seen : SeenOf (records i store) s

@@ -7,6 +7,7 @@ ghost use Rattle.format.specs.Fields.{target_fields, bucket_good, buckets_good, 
 
 use crate::fields::{in_width, pattern_good, zeros};
 use format::Bucket;
+use format::kinds::TargetKind;
 use widths::Widths;
 
 // Bucket j of a group's record.
@@ -24,71 +25,47 @@ pub fn bucket_at(r: &[u8], j: usize) -> Bucket
 }
 
 // The target of a bucket of group g.
+#[tactic(auto, using(widths::specs::Laws::Limits::limits))]
 fn target_good(w: Widths, g: u8, kind: u8, target: u8) -> bool
     requires { within_limits w ≡ true }
     ensures { result ≡ target_fields (target_kind kind) w g target }
 {
-    match kind {
-        1 => in_width(w.p, target),
-        2 => target < g,
-        0 | 3..=255 => false,
+    match TargetKind::from(kind) {
+        TargetKind::Port => in_width(w.p, target),
+        TargetKind::LowerGroup => target < g,
+        TargetKind::Unknown => false,
     }
 }
 
 // Bucket j of a group's record that uses `count` of them.
+#[tactic(auto, using(widths::specs::Laws::Limits::limits, format::specs::Laws::Fields::bucket_used, format::specs::Laws::Fields::bucket_unused))]
 fn bucket_good(w: Widths, r: &[u8], count: u8, j: u8) -> bool
     requires { (length r.now ≡ 24) × (within_limits w ≡ true) × (j < 3) }
     ensures { result ≡ bucket_good w r.now count j }
 {
     if count <= j {
-        let first = 9 + 4 * (j as usize);
+        let first = 9 + 4 * usize::from(j);
         return zeros(r, first, first + 3);
     }
-    let b = bucket_at(r, j as usize);
-    if !pattern_good(w.h, b.value, b.care) {
-        return false;
-    }
-    target_good(w, r[2], b.kind, b.target)
+    let b = bucket_at(r, usize::from(j));
+    pattern_good(w.h, b.value, b.care) && target_good(w, r[2], b.kind, b.target)
 }
 
 // A bucket count of 1 to 3 and the buckets of a group's record.
+#[tactic(auto, using(format::specs::Laws::Fields::buckets_low, format::specs::Laws::Fields::buckets_high))]
 fn buckets_good(w: Widths, r: &[u8]) -> bool
     requires { (length r.now ≡ 24) × (within_limits w ≡ true) }
     ensures { result ≡ buckets_good w r.now }
 {
     let count = r[8];
-    if count < 1 {
-        return false;
-    }
-    if 3 < count {
-        return false;
-    }
-    let mut j = 0u8;
-    while j < 3 {
-        if !bucket_good(w, r, count, j) {
-            return false;
-        }
-        j += 1;
-    }
-    true
+    (1..=3).contains(&count) && (0..3).all(|j| bucket_good(w, r, count, j))
 }
 
 // The fields of a group.
+#[tactic(auto, using(widths::specs::Laws::Limits::limits, format::specs::Laws::Fields::group_fields))]
 pub fn group_good(w: Widths, r: &[u8]) -> bool
     requires { (length r.now ≡ 24) × (within_limits w ≡ true) × (kind r.now ≡ 9) }
     ensures { result ≡ fields_good w r.now }
 {
-    if !in_width(w.w, r[1]) {
-        return false;
-    }
-    if 15 < r[2] {
-        return false;
-    }
-    if !zeros(r, 3, 7) {
-        return false;
-    }
-    if !buckets_good(w, r) {
-        return false;
-    }
-    zeros(r, 21, 23)
+    in_width(w.w, r[1]) && r[2] <= 15 && zeros(r, 3, 7) && buckets_good(w, r) && zeros(r, 21, 23)
 }

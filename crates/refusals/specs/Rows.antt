@@ -6,7 +6,10 @@ use Rattle.format.specs.Group.{actions_there, groups_there}
 use Rattle.widths.specs.Widths.{plane_bytes, within_limits}
 use Rattle.format.specs.Version.{version_of, acting, is_add}
 use Rattle.format.specs.State.{ordinary}
-use Rattle.format.specs.Policy.{Y, nodes_of, policy_count, formula, longest, free, NodeKind, k_bit, k_r, k_e, k_not, k_and, k_or, k_some, k_all, k_tc, k_none, node_kind}
+use Rattle.format.specs.Policy.{nodes_of, policy_count, formula, longest, free, node_kind}
+use Rattle.format.specs.declared.kinds.NodeKind.{NodeKind}
+use Rattle.format.specs.declared.kinds.Var.TheVariants.{Y}
+use Rattle.format.specs.declared.kinds.NodeKind.TheVariants.{Bit as k_bit, R as k_r, E as k_e, Not as k_not, And as k_and, Or as k_or, Some as k_some, All as k_all, Tc as k_tc, Unknown as k_none}
 use Rattle.format.specs.Fields.{fields_good, command_good}
 
 -- row 1: n is 0 or above 657

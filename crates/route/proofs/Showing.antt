@@ -31,12 +31,11 @@ use Rattle.verdict.specs.Laws.JudgedWork.{needed}
 use Rattle.book.specs.Check.{cleared}
 use Rattle.book.specs.Bytes.{WorkBytes}
 use Rattle.book.specs.Laws.Bytes.{cleared_bytes}
-use Rattle.trails.specs.declared.Routed.{Routed}
-use Rattle.trails.specs.declared.Routed.TheVariants.{Found, NoRoute}
-use Rattle.trails.specs.InNet.{IsIn, route, route_is_meant, only_answer}
+use Rattle.std.specs.Prelude.{Option as Counted, Ok}
+use Rattle.trails.specs.InNet.{route, route_is_meant, only_answer}
 use Rattle.trails.specs.Route.{Is}
 use Rattle.trails.specs.Laws.Meant.{is_same}
-use Rattle.trails.specs.Answer.{found, no_route, refused, route_answer_of}
+use Rattle.trails.specs.Answer.{refused, route_answer_of}
 use Rattle.trails.specs.Call.{of_route, with_route, RouteCall, network_of, row14, row15, route_row, route_refusal, route_for, route_answer, list_after_call, work_after_call, RoutePromised}
 use Rattle.trace.specs.Search.{Searchable, Steps, Drawn, entries, Shown}
 
@@ -47,6 +46,11 @@ same_bytes k a b c p q = ext_get_or 0 b c (p.len ∙ sym q.len) (λ i h. at i (d
     at : (i : ℕ) → Dec (i < k) → get_or b i 0 ≡ get_or c i 0
     at i (yes h) = p.within i h ∙ sym (q.within i h)
     at i (no h) = p.behind i (omega (arith, h)) ∙ sym (q.behind i (omega (arith, h)))
+
+-- a route's count answers for the route
+counted_as : (o : Option (List ℕ)) → route_answer_of (Ok (entries o)) ≡ of_route o
+counted_as none = refl
+counted_as (some l) = refl
 
 module _ (n : ℕ) (l : Layout) (store work : List ℕ) (J : Judgeable n l store work) where
   abbrev net : Net
@@ -123,7 +127,7 @@ module _ (n : ℕ) (l : Layout) (store work : List ℕ) (J : Judgeable n l store
           f = F.here x y (omega (arith, states_are)) (omega (arith, states_are, bits))
 
       -- what the search has found is the network's route
-      module _ (start end : ℕ) (list : List ℕ) (count : ℕ) (after : List ℕ) (D : Drawn c pitch start end list count after) where
+      module _ (start end : ℕ) (list : List ℕ) (count : Counted ℕ) (after : List ℕ) (D : Drawn c pitch start end list count after) where
         answer_is : D.answer ≡ route net start end
         answer_is =
             only_answer net start end D.answer (route net start end)
@@ -153,22 +157,8 @@ module _ (n : ℕ) (l : Layout) (store work : List ℕ) (J : Judgeable n l store
                       ∙ F.over j (omega (arith, h, two_planes, ap (λ (m : ℕ). m * line_bytes w) bits));
                 }
 
-        pub shown_none : (k : ℕ) (d : List ℕ) → k ≡ work_needed net → Cleared 0 k c d → count ≡ 0 → Shown net start end work list NoRoute after d
-        shown_none k d q C z = record { answer = sym (go (route net start end) (sym counted ∙ z) some_states); lists = list_is; works = work_is k d q C }
-          where
-            some_states : IsIn net start end (route net start end)
-            some_states = route_is_meant net start end
-
-            go : (o : Option (List ℕ)) → entries o ≡ 0 → IsIn net start end o → of_route o ≡ no_route
-            go none e h = refl
-            go (some l) e h = absurd (omega (arith, e, h.path.two))
-
-        pub shown_some : (k : ℕ) (d : List ℕ) → k ≡ work_needed net → Cleared 0 k c d → (count ≡ 0 → ⊥) → Shown net start end work list (Found count) after d
-        shown_some k d q C z = record { answer = sym (go (route net start end) counted); lists = list_is; works = work_is k d q C }
-          where
-            go : (o : Option (List ℕ)) → count ≡ entries o → of_route o ≡ found count
-            go none e = absurd (z e)
-            go (some l) e = ap found (sym e)
+        pub shown : (k : ℕ) (d : List ℕ) → k ≡ work_needed net → Cleared 0 k c d → Shown net start end work list count after d
+        shown k d q C = record { answer = ap (λ (o : Counted ℕ). route_answer_of (Ok o)) counted ∙ counted_as (route net start end); lists = list_is; works = work_is k d q C }
 
 -- the rows of a route call
 module _ (c : RouteCall) where
@@ -204,8 +194,8 @@ module _ (c : RouteCall) where
         no_row h = rw (passed, lt-leb count c.start inside, lt-leb count c.end within, le-ltb (length c.list) (count + 1) h) refl
 
         -- what was shown is promised
-        pub route_shown : count + 1 ≤ length c.list → (r : Routed) (list_after work_after : List ℕ)
-            → Shown (network_of c) c.start c.end c.work c.list r list_after work_after → RoutePromised c (route_answer_of r) list_after work_after
+        pub route_shown : count + 1 ≤ length c.list → (r : Counted ℕ) (list_after work_after : List ℕ)
+            → Shown (network_of c) c.start c.end c.work c.list r list_after work_after → RoutePromised c (route_answer_of (Ok r)) list_after work_after
         unfolding route_answer list_after_call work_after_call route_for
         route_shown h r list_after work_after S =
             let e = no_row h in

@@ -2,4 +2,5 @@
 pub mod Found
 pub mod Groups
 pub mod Noted
+pub mod Table
 pub mod Laws

@@ -2,6 +2,7 @@
 use Rattle.std.specs.Prelude.{◌≡◌, true, List, ℕ, ◌+◌, ◌*◌, ◌%◌, ◌<◌}
 use Rattle.planes.specs.Plane.{bit}
 use Rattle.format.specs.Record.{Rec, Net, at, present, linked}
+use Rattle.rows.specs.Table.{table_bit}
 
 -- a number below 4096 that seven bytes make
 abbrev pub spread : ℕ → ℕ → ℕ → ℕ → ℕ → ℕ → ℕ → ℕ
@@ -15,13 +16,9 @@ key_bit r = spread (at r 1) (at r 2) (at r 3) (at r 4) (at r 5) (at r 6) (at r 7
 pub record KeysNoted (net : Net) (keys : List ℕ) : Type 0 where
   pub set : (c : Rec) → present c net ≡ true → bit keys (key_bit c) ≡ true
 
--- the bit of a point
-abbrev pub point_bit : ℕ → ℕ → ℕ
-point_bit sw p = sw * 16 + p
-
 -- a table has the bits of the points where links end
 pub record PointsNoted (net : Net) (points : List ℕ) : Type 0 where
-  pub is : (sw p : ℕ) → sw < 16 → p < 16 → bit points (point_bit sw p) ≡ linked net sw p
+  pub is : (sw p : ℕ) → sw < 16 → p < 16 → bit points (table_bit sw p) ≡ linked net sw p
 
 -- the points where a link ends have bits
 pub record EndsNamed (r : Rec) : Type 0 where

@@ -1,72 +1,53 @@
 // Groups: which are there, whether those that a record names are, and their order.
 ghost use Rattle.std.specs.Prelude.{◌≡◌, [], ◌∷◌, ◌++◌, ◌*◌, ◌≤◌, ◌<◌, length};
-ghost use Rattle.planes.specs.Plane.{bit};
 ghost use Rattle.format.specs.Record.{Net, kind, records};
 ghost use Rattle.format.specs.Group.{runs_there, actions_there, goes_there, buckets_there};
 ghost use Rattle.refusals.specs.Rows.{out_of_order};
-ghost use Rattle.rows.specs.Groups.{group_bit, There, Noted, GroupsOf};
+ghost use Rattle.rows.specs.Groups.{There, Noted, GroupsOf};
 ghost use Rattle.format.specs.Laws.NamedGroups.{ActionsNamed, BucketsNamed};
 
+use crate::table;
+use format::kinds::{ActionKind, RecordKind, TargetKind};
 use records::groups::bucket_at;
-
-// The bit of group g of a switch.
-fn group_bit(sw: u8, g: u8) -> usize
-    ensures { result ≡ group_bit sw g }
-{
-    (sw as usize) * 16 + g as usize
-}
+use records::record;
 
 // Notes in a table the group that a record is, if it is one that a sound record can name.
+#[tactic(auto, using(crate::proofs::Named::names_group, crate::proofs::Named::names_no_group, crate::specs::Laws::Groups::noted_other, crate::specs::Laws::Groups::noted_switch, crate::specs::Laws::Groups::noted_number, crate::specs::Laws::Groups::noted_group))]
 fn note(there: &mut [u8; 32], r: &[u8])
     requires { length r.now ≡ 24 }
     ensures { Noted r.now there.old there.new }
 {
-    if r[0] != 9 {
-        return;
+    if let RecordKind::Group = RecordKind::from(r[0]) {
+        if r[1] < 16 && r[2] < 16 {
+            table::set(there, r[1], r[2]);
+        }
     }
-    if 15 < r[1] {
-        return;
-    }
-    if 15 < r[2] {
-        return;
-    }
-    planes::set_bit(there, group_bit(r[1], r[2]));
 }
 
 // The groups of the first n records, wherever they stand, sound or not.
+#[tactic(auto, using(crate::specs::Laws::Groups::there_none, crate::specs::Laws::Groups::there_more))]
 pub fn groups_there(store: &[u8], n: usize) -> [u8; 32]
     requires { n * 24 ≤ length store.now }
     ensures { There (records n store.now) result }
 {
     let mut there = [0u8; 32];
-    let mut i = 0;
-    while i < n {
-        let a = i * 24;
-        let e = a + 24;
-        note(&mut there, &store[a..e]);
-        i += 1;
+    for i in 0..n {
+        note(&mut there, record(store, i));
     }
     there
 }
 
-// Group g of a switch is there.
-fn is_there(there: &[u8; 32], sw: u8, g: u8) -> bool
-    requires { (sw < 16) × (g < 16) }
-    ensures { result ≡ bit there.now (group_bit sw g) }
-{
-    planes::get_bit(there, group_bit(sw, g))
-}
-
 // Action i of a record runs no group, or one that is there.
+#[tactic(auto, using(crate::proofs::Named::runs_a_group, crate::proofs::Named::runs_none), unfolding(format::specs::Group::runs_there))]
 fn runs_there(there: &[u8; 32], r: &[u8], i: usize) -> bool
     requires { (length r.now ≡ 24) × (i < 4) × ActionsNamed r.now }
     ensures { (net : Net) → There net there.now → result ≡ runs_there net r.now i }
 {
-    let k = 9 + 3 * i;
-    if r[k] != 4 {
-        return true;
+    let at = 9 + 3 * i;
+    match ActionKind::from(r[at]) {
+        ActionKind::RunGroup => table::has(there, r[1], r[at + 1]),
+        ActionKind::Output | ActionKind::Set | ActionKind::InPort | ActionKind::Unknown => true,
     }
-    is_there(there, r[1], r[k + 1])
 }
 
 // The groups that a record's actions run are there.
@@ -74,26 +55,20 @@ pub fn actions_there(there: &[u8; 32], r: &[u8]) -> bool
     requires { (length r.now ≡ 24) × ActionsNamed r.now }
     ensures { (net : Net) → There net there.now → result ≡ actions_there net r.now }
 {
-    let mut i = 0;
-    while i < 4 {
-        if !runs_there(there, r, i) {
-            return false;
-        }
-        i += 1;
-    }
-    true
+    (0..4).all(|i| runs_there(there, r, i))
 }
 
 // Bucket j of a group goes on to no group, or to one that is there.
+#[tactic(auto, using(crate::proofs::Named::goes_to_group, crate::proofs::Named::goes_to_none), unfolding(format::specs::Group::goes_there))]
 fn goes_there(there: &[u8; 32], r: &[u8], j: usize) -> bool
     requires { (length r.now ≡ 24) × (j < 3) × BucketsNamed r.now }
     ensures { (net : Net) → There net there.now → result ≡ goes_there net r.now j }
 {
     let b = bucket_at(r, j);
-    if b.kind != 2 {
-        return true;
+    match TargetKind::from(b.kind) {
+        TargetKind::LowerGroup => table::has(there, r[1], b.target),
+        TargetKind::Port | TargetKind::Unknown => true,
     }
-    is_there(there, r[1], b.target)
 }
 
 // The groups to which a group's buckets go on are there.
@@ -101,14 +76,7 @@ pub fn buckets_there(there: &[u8; 32], r: &[u8]) -> bool
     requires { (length r.now ≡ 24) × BucketsNamed r.now }
     ensures { (net : Net) → There net there.now → result ≡ buckets_there net r.now }
 {
-    let mut j = 0;
-    while j < 3 {
-        if !goes_there(there, r, j) {
-            return false;
-        }
-        j += 1;
-    }
-    true
+    (0..3).all(|j| goes_there(there, r, j))
 }
 
 // What is known of the groups of the records before: how many there are, and the switch and number of the last, as wide as the
@@ -126,17 +94,8 @@ impl Groups {
         requires { length r.now ≡ 24 }
         ensures { (before : Net) → GroupsOf before self → result ≡ out_of_order before r.now }
     {
-        let sw = self.switch;
-        if self.count == 0 {
-            return false;
-        }
-        if sw < r[1] as usize {
-            return false;
-        }
-        if sw != r[1] as usize {
-            return true;
-        }
-        (r[2] as usize) <= self.number
+        let place = (usize::from(r[1]), usize::from(r[2]));
+        self.count != 0 && place <= (self.switch, self.number)
     }
 
     // With the group r.
@@ -146,8 +105,8 @@ impl Groups {
     {
         Groups {
             count: self.count + 1,
-            switch: r[1] as usize,
-            number: r[2] as usize,
+            switch: usize::from(r[1]),
+            number: usize::from(r[2]),
         }
     }
 }

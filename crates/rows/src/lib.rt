@@ -4,3 +4,4 @@
 pub mod groups;
 pub mod links;
 pub mod rules;
+mod table;

@@ -1,63 +1,53 @@
 // Rules: whether two are the same, and where the same rule stands.
 ghost use Rattle.std.specs.Prelude.{◌≡◌, [], ◌∷◌, ◌++◌, ◌+◌, ◌*◌, ◌≤◌, ◌<◌, length};
 ghost use Rattle.format.specs.Record.{records, same_rule, present};
-ghost use Rattle.rows.specs.Found.{place_of, found_rule};
-ghost use Rattle.rows.specs.Noted.{spread, KeysNoted};
+ghost use Rattle.rows.specs.Found.{found_rule};
+ghost use Rattle.rows.specs.Noted.{key_bit, KeysNoted};
 
-// Where a record is found.
-#[derive(Clone, Copy)]
-pub enum Found {
-    At(usize),
-    Nothing,
-}
+use format::kinds::RecordKind;
+use records::record;
 
 // The record r is the same rule as c.
+#[tactic(auto, using(crate::proofs::Same::same_pointwise, crate::proofs::Named::names_rule, crate::proofs::Named::names_no_rule), unfolding(format::specs::Record::same_rule))]
 pub fn same_rule(c: &[u8], r: &[u8]) -> bool
     requires { (length c.now ≡ 24) × (length r.now ≡ 24) }
     ensures { result ≡ same_rule c.now r.now }
 {
-    if r[0] != 4 {
-        return false;
-    }
-    check::same(&c[1..8], &r[1..8])
+    matches!(RecordKind::from(r[0]), RecordKind::Rule) && c[1..8] == r[1..8]
 }
 
 // The place of the same rule as c among the first n records.
-pub fn find_rule(store: &[u8], n: usize, c: &[u8]) -> Found
+#[tactic(auto, using(crate::specs::Laws::Found::none_yet, crate::specs::Laws::Found::none_more, crate::specs::Laws::Found::some_found, crate::specs::Laws::Found::first_found, crate::specs::Laws::Found::found_at, crate::specs::Laws::Found::found_none))]
+pub fn find_rule(store: &[u8], n: usize, c: &[u8]) -> Option<usize>
     requires { (n * 24 ≤ length store.now) × (length c.now ≡ 24) }
-    ensures { place_of result ≡ found_rule c.now (records n store.now) }
+    ensures { result ≡ found_rule c.now (records n store.now) }
 {
-    let mut i = 0;
-    while i < n {
-        let a = i * 24;
-        let e = a + 24;
-        if same_rule(c, &store[a..e]) {
-            return Found::At(i);
+    for i in 0..n {
+        if same_rule(c, record(store, i)) {
+            return Some(i);
         }
-        i += 1;
     }
-    Found::Nothing
+    None
 }
 
 // The same rule as c is among the first n records.
+#[tactic(auto, using(crate::specs::Laws::Found::found_present, crate::specs::Laws::Found::found_absent))]
 pub fn is_present(store: &[u8], n: usize, c: &[u8]) -> bool
     requires { (n * 24 ≤ length store.now) × (length c.now ≡ 24) }
     ensures { result ≡ present c.now (records n store.now) }
 {
-    let f = find_rule(store, n, c);
-    match f {
-        Found::At(_) => true,
-        Found::Nothing => false,
-    }
+    find_rule(store, n, c).is_some()
 }
 
 // The bit that the bytes of a rule's key make, of 4096: any weights would do, and these keep the keys of like rules apart.
-fn key_bit(a: u8, b: u8, c: u8, d: u8, e: u8, f: u8, g: u8) -> usize
-    ensures { result ≡ spread a b c d e f g }
+#[tactic(auto, unfolding(crate::specs::Noted::key_bit))]
+fn key_bit(r: &[u8]) -> usize
+    requires { length r.now ≡ 24 }
+    ensures { (result ≡ key_bit r.now) × (result < 4096) }
 {
-    let first = (a as usize) * 3851 + (b as usize) * 2651 + (c as usize) * 1989;
-    (first + (d as usize) * 1793 + (e as usize) * 3253 + (f as usize) * 1389 + (g as usize) * 3885)
-        % 4096
+    let first = usize::from(r[1]) * 3851 + usize::from(r[2]) * 2651 + usize::from(r[3]) * 1989;
+    let last = usize::from(r[5]) * 3253 + usize::from(r[6]) * 1389 + usize::from(r[7]) * 3885;
+    (first + usize::from(r[4]) * 1793 + last) % 4096
 }
 
 // The same rule as r is among the first n records, of which the keys are noted; that of r is noted with them. Where its bit was
@@ -66,7 +56,7 @@ pub fn is_repeated(store: &[u8], n: usize, r: &[u8], keys: &mut [u8; 512]) -> bo
     requires { (n * 24 ≤ length store.now) × (length r.now ≡ 24) × KeysNoted (records n store.now) keys.old }
     ensures { (result ≡ present r.now (records n store.now)) × KeysNoted (records n store.now ++ (r.now ∷ [])) keys.new }
 {
-    let k = key_bit(r[1], r[2], r[3], r[4], r[5], r[6], r[7]);
+    let k = key_bit(r);
     if planes::get_bit(keys, k) {
         return is_present(store, n, r);
     }

@@ -1,14 +1,14 @@
--- Where the parts of a network stand that no row refuses, and what reading a network answers.
-use Rattle.std.specs.Prelude.{◌≡◌, true, [], ℕ, ◌+◌, ◌-◌, ◌*◌, ◌^◌, ◌≤◌, ◌<◌, length, take, drop}
-use Rattle.std.proofs.Math.Option.{none, some}
+-- Where the parts of a network stand that no row refuses, and what the end of its records answers.
+use Rattle.std.specs.Prelude.{◌≡◌, true, [], ℕ, ◌+◌, ◌-◌, ◌*◌, ◌^◌, ◌≤◌, ◌<◌, length, take, drop, Result, MatchResult}
+use Rattle.std.proofs.Math.Option.{none}
 use Rattle.format.specs.Record.{Net, most_rules, most_policies, most_nodes, most_groups, of_kind, widths_of}
 use Rattle.widths.specs.Widths.{within_limits}
 use Rattle.format.specs.Policy.{policy_count, longest}
-use Rattle.refusals.specs.Refusal.{Refusal, file_row}
+use Rattle.refusals.specs.Numbers.{refusal_of}
+use Rattle.refusals.specs.Refusal.{file_row}
+use Rattle.refusals.specs.declared.Refused.{Refused}
 use Rattle.recordrow.specs.declared.Seen.{Seen}
 use Rattle.scan.specs.declared.Layout.{Layout}
-use Rattle.scan.specs.declared.Reading.{Reading}
-use Rattle.scan.specs.declared.Reading.TheVariants.{Clean, Refused}
 
 -- the widths record, the links, the misses of all switches, the rules, the nodes and the groups stand one after the other
 pub record LayoutOf (net : Net) (l : Layout) : Type 0 where
@@ -29,16 +29,6 @@ pub record LayoutOf (net : Net) (l : Layout) : Type 0 where
   pub longest : l.longest ≡ longest net
   pub few_nodes : l.longest ≤ most_nodes
 
--- the number and the place of a refusal; none where the network is clean
-abbrev pub reading_refusal : Reading → Refusal
-reading_refusal (Clean l) = none
-reading_refusal (Refused number place) = some (number, place)
-
--- reading a network answers the refusal given, or where its parts stand
-pub record Read (net : Net) (refusal : Refusal) (r : Reading) : Type 0 where
-  pub answer : reading_refusal r ≡ refusal
-  pub layout : (l : Layout) → r ≡ Clean l → LayoutOf net l
-
 -- the layout by the number of records of each kind
 pub record Counted (net : Net) (l : Layout) : Type 0 where
   pub widths : l.widths ≡ widths_of net
@@ -50,9 +40,9 @@ pub record Counted (net : Net) (l : Layout) : Type 0 where
   pub longest : l.longest ≡ longest net
 
 -- what the end of the records answers: row 7, or the layout by numbers
-pub record Ended (net : Net) (r : Reading) : Type 0 where
-  pub answer : reading_refusal r ≡ file_row net []
-  pub layout : (l : Layout) → r ≡ Clean l → Counted net l
+abbrev pub Ended : Net → Result Layout Refused → Type 0
+Ended net answer =
+    MatchResult answer (λ l. (file_row net [] ≡ none) × Counted net l) (λ refused. refusal_of refused ≡ file_row net [])
 
 -- the numbers of a scan over n records of a store are small
 pub record Bounded (s : Seen) (n : ℕ) : Type 0 where

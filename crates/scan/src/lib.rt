@@ -1,15 +1,21 @@
 // Reading a network: rows 1 to 11 and 16, or where its parts stand.
 #![tactic(auto)]
 
-ghost use Rattle.std.specs.Prelude.{◌≡◌, true, [], ◌+◌, ◌*◌, ◌≤◌, length};
-ghost use Rattle.format.specs.Record.{Net, most_nodes, records};
-ghost use Rattle.widths.specs.Widths.{plane_bytes, within_limits};
+pub mod network;
+
+ghost use Rattle.std.specs.Prelude.{◌≡◌, [], ◌*◌, ◌≤◌, length};
+ghost use Rattle.format.specs.Record.{Net, records};
 ghost use Rattle.refusals.specs.Refusal.{file_row, check_refusal};
 ghost use Rattle.recordrow.specs.Scan.{SeenOf};
-ghost use Rattle.scan.specs.Layout.{Bounded, Ended, Read};
+ghost use Rattle.scan.specs.Layout.{Bounded, Ended};
+ghost use Rattle.scan.specs.Reading.{Read};
 
+use crate::network::Network;
 use noderows::Policies;
-use recordrow::{Seen, Turn};
+use noderows::at::At;
+use recordrow::turn::Turn;
+use recordrow::{Notes, Seen, turn_at};
+use refusals::{Refused, Row};
 use rows::groups::{Groups, groups_there};
 use widths::Widths;
 
@@ -24,13 +30,6 @@ pub struct Layout {
     pub groups: usize,
     pub policies: usize,
     pub longest: usize,
-}
-
-// A network that no row refuses, or the row and the place.
-#[derive(Clone, Copy)]
-pub enum Reading {
-    Clean(Layout),
-    Refused { number: u8, place: usize },
 }
 
 // What is known before the first record.
@@ -58,98 +57,75 @@ fn start() -> Seen
 }
 
 // The end of n records: misses incomplete, or where the parts stand.
-fn end(s: Seen, n: usize) -> Reading
+fn end(s: Seen, n: usize) -> Result<Layout, Refused>
     requires { Bounded s n }
     ensures { (net : Net) → SeenOf net s → length net ≡ n → Ended net result }
 {
-    let widths = s.widths;
-    let policies = s.policies;
-    let groups = s.groups;
-    if recordrow::incomplete(s.misses, widths.w) {
-        return Reading::Refused {
-            number: 7,
+    if s.incomplete() {
+        return Err(Refused {
+            row: Row::Miss,
             place: n,
-        };
+        });
     }
     let misses = 1 + s.links;
     let rules = misses + s.misses;
-    let nodes = rules + s.rules;
-    Reading::Clean(Layout {
-        widths,
+    Ok(Layout {
+        widths: s.widths,
         misses,
         rules,
-        nodes,
-        groups: n - groups.count,
-        policies: policies.count,
-        longest: policies.longest,
+        nodes: rules + s.rules,
+        groups: n - s.groups.count,
+        policies: s.policies.count,
+        longest: s.policies.longest,
     })
 }
 
 // The first n records: rows 3 to 10 and 16.
-pub fn scan(store: &[u8], n: usize) -> Reading
+pub fn scan<'a>(store: &'a [u8], n: usize) -> Result<Network<'a>, Refused>
     requires { n * 24 ≤ length store.now }
-    ensures { Read (records n store.now) (file_row [] (records n store.now)) result }
+    ensures { Read store.now n (file_row [] (records n store.now)) result }
 {
     let there = groups_there(store, n);
-    let mut keys = [0u8; 512];
-    let mut points = [0u8; 32];
-    let mut s = start();
-    let mut i = 0;
-    while i < n {
-        let t = recordrow::turn_at(store, n, i, s, &there, &mut keys, &mut points);
-        match t {
-            Turn::Stop(number) => {
-                return Reading::Refused { number, place: i };
-            }
-            Turn::Next(next) => {
-                s = next;
-                i += 1;
-            }
+    let mut notes = Notes::new();
+    let mut seen = start();
+    for i in 0..n {
+        let at = At { store, n, i };
+        let turn = Turn {
+            at,
+            there: &there,
+            seen,
+        };
+        match turn_at(&turn, &mut notes) {
+            Ok(next) => seen = next,
+            Err(row) => return Err(Refused { row, place: i }),
         }
     }
-    end(s, n)
-}
-
-// The work that a verdict needs: a plane for each node of the longest policy, and two more.
-pub fn work_needed(l: Layout) -> usize
-    requires { (within_limits l.widths ≡ true) × (l.longest ≤ most_nodes) }
-    ensures { result ≡ (l.longest + 2) * plane_bytes l.widths }
-{
-    let widths = l.widths;
-    (l.longest + 2) * widths.plane_bytes()
+    let layout = end(seen, n)?;
+    Ok(Network { store, n, layout })
 }
 
 // The network of n records in a store, with so much work: rows 1 to 11 and 16.
-pub fn check_rows(store: &[u8], n: usize, work: usize) -> Reading
-    ensures { Read (records n store.now) (check_refusal store.now n work) result }
+pub fn check_rows<'a>(store: &'a [u8], n: usize, work: usize) -> Result<Network<'a>, Refused>
+    ensures { Read store.now n (check_refusal store.now n work) result }
 {
-    if n == 0 {
-        return Reading::Refused {
-            number: 1,
+    if n == 0 || records::MOST_RECORDS < n {
+        return Err(Refused {
+            row: Row::Count,
             place: 0,
-        };
-    }
-    if records::MOST_RECORDS < n {
-        return Reading::Refused {
-            number: 1,
-            place: 0,
-        };
+        });
     }
     if store.len() < records::STORE_BYTES {
-        return Reading::Refused {
-            number: 2,
+        return Err(Refused {
+            row: Row::Store,
             place: 0,
-        };
+        });
     }
-    let reading = scan(store, n);
-    let Reading::Clean(l) = reading else {
-        return reading;
-    };
-    if work < work_needed(l) {
-        return Reading::Refused {
-            number: 11,
+    let net = scan(store, n)?;
+    if work < net.work_needed() {
+        return Err(Refused {
+            row: Row::Work,
             place: 0,
-        };
+        });
     }
-    Reading::Clean(l)
+    Ok(net)
 }

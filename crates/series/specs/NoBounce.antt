@@ -5,8 +5,11 @@ use Rattle.std.specs.Prelude.{◌≡◌, refl, Bool, true, false, not, ◌&&◌,
 use Rattle.std.proofs.Math.Bool.{or-false}
 use Rattle.basics.specs.Laws.Tests.{both, not_both}
 use Rattle.basics.specs.Lists.{any, member}
-use Rattle.format.specs.Record.{Rec, at, ActionKind, k_output, k_set, k_in_port, k_run_group, k_no_action, action_kind}
-use Rattle.format.specs.Policy.{X, Y, R, TC}
+use Rattle.format.specs.Record.{Rec, at, action_kind}
+use Rattle.format.specs.declared.kinds.ActionKind.{ActionKind}
+use Rattle.format.specs.declared.kinds.ActionKind.TheVariants.{Output as k_output, Set as k_set, InPort as k_in_port, RunGroup as k_run_group, Unknown as k_no_action}
+use Rattle.format.specs.Policy.{R, TC}
+use Rattle.format.specs.declared.kinds.Var.TheVariants.{X, Y}
 use Rattle.format.specs.NetK.{record24, K, in_store}
 use Rattle.onestep.specs.Step.{next, Step}
 use Rattle.onestep.specs.NoBounce.{WithoutInPort}

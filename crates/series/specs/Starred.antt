@@ -9,7 +9,8 @@ use Rattle.walks.specs.Walk.{Walk}
 use Rattle.basics.specs.Lists.{member}
 use Rattle.format.specs.Record.{Net, flat, widths_of}
 use Rattle.widths.specs.Widths.{states}
-use Rattle.format.specs.Policy.{X, Y, R, TC, formula}
+use Rattle.format.specs.Policy.{R, TC, formula}
+use Rattle.format.specs.declared.kinds.Var.TheVariants.{X, Y}
 use Rattle.onestep.specs.Step.{Step}
 use Rattle.truth.specs.Truth.{Truth}
 use Rattle.judgement.specs.Verdict.{Verdict, holds, violated, Holds, Lowest, Is}

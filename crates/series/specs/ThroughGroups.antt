@@ -1,7 +1,8 @@
 -- Request 4 of document 02 on network K with three groups, with rule A's actions replaced: one theorem by computation.
 use Rattle.std.specs.Prelude.{◌≡◌, refl, List, [], ◌∷◌, ◌++◌, ℕ}
 use Rattle.format.specs.Record.{Rec, Net}
-use Rattle.format.specs.Policy.{X, Y, R, TC}
+use Rattle.format.specs.Policy.{R, TC}
+use Rattle.format.specs.declared.kinds.Var.TheVariants.{X, Y}
 use Rattle.format.specs.NetK.{record24, K, in_store}
 use Rattle.onestep.specs.Step.{next}
 use Rattle.truth.specs.Computed.{truth}

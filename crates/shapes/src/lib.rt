@@ -5,13 +5,13 @@ ghost use Rattle.std.specs.Prelude.{◌≡◌, ◌+◌, ◌*◌, ◌≤◌, ◌<
 ghost use Rattle.basics.specs.Bit.{bit_of};
 ghost use Rattle.planes.specs.Plane.{bit};
 ghost use Rattle.planes.specs.Lines.{Laid, Made};
-ghost use Rattle.format.specs.Policy.{var_of};
 ghost use Rattle.truth.specs.Truth.{value};
 ghost use Rattle.lines.specs.Shapes.{op_bool, op_byte, Lined, Plane, Source, Span};
-ghost use Rattle.forms.specs.declared.Form.TheVariants.{Both};
-ghost use Rattle.forms.specs.Forms.{tests, place, Upright, row_of, Readable, Stands, line_code};
+ghost use Rattle.forms.specs.declared.Way.TheVariants.{Mixed};
+ghost use Rattle.forms.specs.Forms.{place, Upright, row_of, Pairs, Joinable, Sources, joined, Straightened, Stands};
 
-use forms::{Form, Way};
+use format::kinds::Var;
+use forms::{Form, Joined, Site, Way};
 use lines::{Op, Row};
 
 // Line x of a form that does not stand exchanged.
@@ -22,26 +22,21 @@ pub fn row_of(work: &[u8], f: Form, x: usize, pitch: usize) -> Row
 {
     match f {
         Form::OfX(at) => Row::Full(lines::full(planes::get_at(work, at, x))),
-        Form::OfY(at) => Row::From(at),
         Form::Both(at) => Row::From(at + x * pitch),
-        Form::Turned(at) => Row::From(at),
+        Form::OfY(at) | Form::Turned(at) => Row::From(at),
     }
 }
 
-// The plane at base becomes the operation on two forms, line by line.
-fn combine_lines(work: &mut [u8], o: Op, a: Form, b: Form, base: usize, pitch: usize)
-    requires plane { Plane work.old pitch base }
-    requires readable { Readable work.old pitch base a }
-    requires readable_2 { Readable work.old pitch base b }
-    requires upright { Upright a × Upright b }
-    ensures { Made (λ x y. op_bool o (tests a work.old pitch x y) (tests b work.old pitch x y)) pitch base (pitch * 8) work.old work.new }
+// The plane of a site becomes the operation on two forms, line by line.
+fn combine_lines(work: &mut [u8], j: Joined, to: Site)
+    requires plane { Plane work.old to.pitch to.base }
+    requires joinable { Joinable work.old to.pitch to.base j }
+    ensures { Made (joined j work.old to.pitch) to.pitch to.base (to.pitch * 8) work.old work.new }
 {
-    let mut x: usize = 0;
-    while x < pitch * 8 {
-        let p = row_of(work, a, x, pitch);
-        let q = row_of(work, b, x, pitch);
-        lines::join_rows(work, o, p, q, base + x * pitch, pitch);
-        x += 1;
+    for x in 0..to.pitch * 8 {
+        let p = row_of(work, j.first, x, to.pitch);
+        let q = row_of(work, j.second, x, to.pitch);
+        lines::join_rows(work, j.op, p, q, to.base + x * to.pitch, to.pitch);
     }
 }
 
@@ -55,104 +50,102 @@ fn join_planes(work: &mut [u8], o: Op, a: usize, b: usize, base: usize, len: usi
 {
     if a == base {
         lines::join_span(work, o, base, b, base, len);
+    } else if b == base {
+        lines::join_span(work, o, a, base, base, len);
     } else {
-        if b == base {
-            lines::join_span(work, o, a, base, base, len);
-        } else {
-            lines::join_span(work, o, a, b, base, len);
-        }
+        lines::join_span(work, o, a, b, base, len);
     }
 }
 
-// The plane at base becomes the operation on two forms, of which one may be that plane.
-fn combine(work: &mut [u8], o: Op, a: Form, b: Form, base: usize, pitch: usize)
-    requires plane { Plane work.old pitch base }
-    requires readable { Readable work.old pitch base a }
-    requires readable_2 { Readable work.old pitch base b }
-    requires upright { Upright a × Upright b }
-    ensures { Made (λ x y. op_bool o (tests a work.old pitch x y) (tests b work.old pitch x y)) pitch base (pitch * 8) work.old work.new }
+// The plane of a site becomes the operation on two forms, of which one may be that plane.
+fn combine(work: &mut [u8], j: Joined, to: Site)
+    requires plane { Plane work.old to.pitch to.base }
+    requires joinable { Joinable work.old to.pitch to.base j }
+    ensures { Made (joined j work.old to.pitch) to.pitch to.base (to.pitch * 8) work.old work.new }
 {
-    let Form::Both(p) = a else {
-        combine_lines(work, o, a, b, base, pitch);
+    let (Form::Both(p), Form::Both(q)) = (j.first, j.second) else {
+        combine_lines(work, j, to);
         return;
     };
-    let Form::Both(q) = b else {
-        combine_lines(work, o, a, b, base, pitch);
-        return;
-    };
-    join_planes(work, o, p, q, base, pitch * 8 * pitch);
+    join_planes(work, j.op, p, q, to.base, to.size());
 }
 
-// The code of a line over the variable v.
-pub fn line_code(v: u8) -> u8
-    ensures { result ≡ line_code (var_of v) }
+// The line of a node over the variable v is kept; answers its form.
+pub fn keep(work: &mut [u8], e: &[u8; 128], v: Var, to: Site) -> Form
+    requires { Plane work.old to.pitch to.base }
+    ensures { Stands (λ x y. bit e.now (value v x y)) result to.pitch to.base work.old work.new }
 {
-    if v == 0 { 1 } else { 2 }
+    planes::put_line(work, to.base, e, to.pitch);
+    Form::line(v, to.base)
 }
 
-// The line of a node over the variable v is kept at base; answers the code of its form.
-pub fn keep(work: &mut [u8], e: &[u8; 128], v: u8, base: usize, pitch: usize) -> u8
-    requires { Plane work.old pitch base }
-    ensures { Stands (λ x y. bit e.now (value (var_of v) x y)) result pitch base work.old work.new }
+// The line at a site becomes the operation on the lines at a and b.
+pub fn join_lines(work: &mut [u8], o: Op, a: usize, b: usize, to: Site)
+    requires plane { Plane work.old to.pitch to.base }
+    requires source { Source work.old to.pitch to.base a }
+    requires source_2 { Source work.old to.pitch to.base b }
+    ensures { Lined (λ z. op_bool o (bit work.old (a * 8 + z)) (bit work.old (b * 8 + z))) (to.pitch * 8) to.pitch to.base work.old work.new }
 {
-    planes::put_line(work, base, e, pitch);
-    line_code(v)
+    lines::join_span(work, o, a, b, to.base, to.pitch);
 }
 
-// The line at base becomes the operation on the lines at a and b.
-pub fn join_lines(work: &mut [u8], o: Op, a: usize, b: usize, base: usize, pitch: usize)
-    requires plane { Plane work.old pitch base }
-    requires source { Source work.old pitch base a }
-    requires source_2 { Source work.old pitch base b }
-    ensures { Lined (λ z. op_bool o (bit work.old (a * 8 + z)) (bit work.old (b * 8 + z))) (pitch * 8) pitch base work.old work.new }
+// Of two forms, the one that stands exchanged is laid as a plane: both can then be read line by line.
+pub fn straighten(work: &mut [u8], j: Joined, to: Site) -> Joined
+    requires plane { Plane work.old to.pitch to.base }
+    requires sources { Sources work.old to.pitch to.base j }
+    requires mixed { Pairs j.first j.second Mixed }
+    ensures { Straightened j result to.pitch to.base work.old work.new }
 {
-    lines::join_span(work, o, a, b, base, pitch);
+    let laid = Form::Both(to.base);
+    if let Form::Turned(p) = j.first {
+        exchange::exchange(work, p, to.base, to.pitch);
+        return Joined {
+            op: j.op,
+            first: laid,
+            second: j.second,
+        };
+    }
+    exchange::exchange(work, j.second.start(), to.base, to.pitch);
+    Joined {
+        op: j.op,
+        first: j.first,
+        second: laid,
+    }
 }
 
-// NOT, AND, OR: the operation on two forms stands at base; answers the code of its form.
-pub fn apply(work: &mut [u8], o: Op, a: Form, b: Form, base: usize, pitch: usize) -> u8
-    requires plane { Plane work.old pitch base }
-    requires source { Source work.old pitch base (place a) }
-    requires source_2 { Source work.old pitch base (place b) }
-    ensures { Stands (λ x y. op_bool o (tests a work.old pitch x y) (tests b work.old pitch x y)) result pitch base work.old work.new }
+// NOT, AND, OR: the operation on two forms; answers its form.
+pub fn apply(work: &mut [u8], j: Joined, to: Site) -> Form
+    requires plane { Plane work.old to.pitch to.base }
+    requires sources { Sources work.old to.pitch to.base j }
+    ensures { Stands (joined j work.old to.pitch) result to.pitch to.base work.old work.new }
 {
-    let way = forms::pairing(a, b);
-    match way {
-        Way::OverX => {
-            join_lines(work, o, forms::start(a), forms::start(b), base, pitch);
-            1
-        }
-        Way::OverY => {
-            join_lines(work, o, forms::start(a), forms::start(b), base, pitch);
-            2
+    match j.first.beside(j.second) {
+        Way::Over(v) => {
+            join_lines(work, j.op, j.first.start(), j.second.start(), to);
+            Form::line(v, to.base)
         }
         Way::Straight => {
-            combine(work, o, a, b, base, pitch);
-            3
+            combine(work, j, to);
+            Form::Both(to.base)
         }
         Way::Exchanged => {
-            combine(work, o, forms::turn(a), forms::turn(b), base, pitch);
-            4
+            combine(work, j.turned(), to);
+            Form::Turned(to.base)
         }
-        Way::FirstTurned => {
-            exchange::exchange(work, forms::start(a), base, pitch);
-            combine(work, o, Form::Both(base), b, base, pitch);
-            3
-        }
-        Way::SecondTurned => {
-            exchange::exchange(work, forms::start(b), base, pitch);
-            combine(work, o, a, Form::Both(base), base, pitch);
-            3
+        Way::Mixed => {
+            let laid = straighten(work, j, to);
+            combine(work, laid, to);
+            Form::Both(to.base)
         }
     }
 }
 
-// BIT: the test of bit i of the variable v stands at base; answers the code of its form.
-pub fn bit_line(work: &mut [u8], v: u8, i: usize, base: usize, pitch: usize) -> u8
-    requires plane { Plane work.old pitch base }
+// BIT: the test of bit i of the variable v; answers its form.
+pub fn bit_line(work: &mut [u8], v: Var, i: usize, to: Site) -> Form
+    requires plane { Plane work.old to.pitch to.base }
     requires i_bound { i < 64 }
-    ensures { Stands (λ x y. bit_of (value (var_of v) x y) i) result pitch base work.old work.new }
+    ensures { Stands (λ x y. bit_of (value v x y) i) result to.pitch to.base work.old work.new }
 {
-    lines::lay_bits(work, i, base, pitch);
-    line_code(v)
+    lines::lay_bits(work, i, to.base, to.pitch);
+    Form::line(v, to.base)
 }

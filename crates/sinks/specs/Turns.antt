@@ -1,12 +1,12 @@
 -- What the search from a state leaves, and that from all states.
-use Rattle.std.specs.Prelude.{◌≡◌, Bool, true, false, ◌||◌, List, ◌⊎◌, ℕ, ◌+◌, ◌*◌, ◌<◌, ◌≤◌, length, get_or}
+use Rattle.std.specs.Prelude.{◌≡◌, Bool, true, ◌||◌, List, ◌⊎◌, ℕ, ◌+◌, ◌*◌, ◌<◌, ◌≤◌, length, get_or}
 use Rattle.std.specs.Int.Bits.{bit_or}
 use Rattle.planes.specs.Plane.{bit, cell, On, plane_size}
 use Rattle.walks.specs.Walk.{Walk}
 
--- the first pitch bytes of line have had the pitch bytes from at on ORed in
-pub record Joined (bytes : List ℕ) (at pitch : ℕ) (before after : List ℕ) : Type 0 where
-  pub inside : (j : ℕ) → j < pitch → get_or after j 0 ≡ bit_or (get_or before j 0) (get_or bytes (at + j) 0)
+-- the first bytes of line have had the others ORed in
+pub record Joined (bytes before after : List ℕ) : Type 0 where
+  pub inside : (j : ℕ) → j < length bytes → get_or after j 0 ≡ bit_or (get_or before j 0) (get_or bytes j 0)
 
 -- line has line k of the plane at to; done has no more than k and, where k is met, the states of that line
 pub record Taken (bytes : List ℕ) (to pitch k : ℕ) (met line done line' done' : List ℕ) : Type 0 where
@@ -17,14 +17,6 @@ pub record Taken (bytes : List ℕ) (to pitch k : ℕ) (met line done line' done
 abbrev pub Idle : ℕ → ℕ → List ℕ → List ℕ → Type 0
 Idle to pitch idle bytes = (x y : ℕ) → x < pitch * 8 → y < pitch * 8 → bit idle x ≡ true → On bytes to pitch x y → ⊥
 
--- the line at `at` has no state
-abbrev pub Blank : List ℕ → ℕ → ℕ → Type 0
-Blank bytes at pitch = (y : ℕ) → y < pitch * 8 → bit bytes (at * 8 + y) ≡ false
-
--- idle has no more than x, and this only if the line at `at` has no state
-abbrev pub Noted : List ℕ → ℕ → ℕ → ℕ → List ℕ → List ℕ → Type 0
-Noted bytes at pitch x idle idle' = (j : ℕ) → bit idle' j ≡ true → (bit idle j ≡ true) ⊎ ((j ≡ x) × Blank bytes at pitch)
-
 -- line x of the plane at to has the lines of its states
 abbrev pub Stable : ℕ → ℕ → List ℕ → ℕ → Type 0
 Stable to pitch bytes x = (z y : ℕ) → z < pitch * 8 → y < pitch * 8 → On bytes to pitch x z → On bytes to pitch z y → On bytes to pitch x y
@@ -33,11 +25,11 @@ Stable to pitch bytes x = (z y : ℕ) → z < pitch * 8 → y < pitch * 8 → On
 abbrev pub Through : ℕ → ℕ → List ℕ → List ℕ → Type 0
 Through to pitch met bytes = (x : ℕ) → x < pitch * 8 → bit met x ≡ true → Stable to pitch bytes x
 
--- line has kept its states and has got others that a walk leads to from one of them; where left is not 0, it has the lines of all its states
-pub record Searched (bytes : List ℕ) (to pitch : ℕ) (line : List ℕ) (left : ℕ) (line' : List ℕ) : Type 0 where
+-- line has kept its states and has got others that a walk leads to from one of them; where the search has ended, it has the lines of all its states
+pub record Searched (bytes : List ℕ) (to pitch : ℕ) (line : List ℕ) (ended : Bool) (line' : List ℕ) : Type 0 where
   pub keeps : (y : ℕ) → y < pitch * 8 → bit line y ≡ true → bit line' y ≡ true
   pub only : (y : ℕ) → y < pitch * 8 → bit line' y ≡ true → (bit line y ≡ true) ⊎ ((z : ℕ) × (bit line z ≡ true) × Walk (pitch * 8) (On bytes to pitch) z y)
-  pub closed : 0 < left → (z y : ℕ) → z < pitch * 8 → y < pitch * 8 → bit line' z ≡ true → On bytes to pitch z y → bit line' y ≡ true
+  pub closed : ended ≡ true → (z y : ℕ) → z < pitch * 8 → y < pitch * 8 → bit line' z ≡ true → On bytes to pitch z y → bit line' y ≡ true
 
 -- the plane at to of now lies between the plane at from of start and its closure; all other bytes are as at the start
 pub record Between (from to pitch : ℕ) (start now : List ℕ) : Type 0 where

@@ -1,162 +1,176 @@
 // The states of a relation that lead nowhere, and an order of the others in which to search from them.
 #![tactic(auto)]
 
-ghost use Rattle.std.specs.Prelude.{◌≡◌, true, ◌+◌, ◌*◌, ◌%◌, ◌≤◌, ◌<◌, length};
+ghost use Rattle.std.specs.Prelude.{◌≡◌, true, ◌+◌, ◌*◌, ◌%◌, ◌≤◌, ◌<◌, length, take, IfSome};
+ghost use Rattle.std.specs.List.{between};
 ghost use Rattle.planes.specs.Plane.{plane_size};
-ghost use Rattle.planes.specs.Lines.{BitSet};
-ghost use Rattle.sinks.specs.Turns.{Blank, Noted, Idle};
+ghost use Rattle.words.specs.Words.{Lacks};
+ghost use Rattle.sinks.specs.Turns.{Idle};
 
-// Sets bit x of seen.
-pub fn mark(seen: &mut [u8; 128], x: usize)
-    requires { x < 1024 }
-    ensures { BitSet x seen.old seen.new }
-{
-    planes::set_bit(seen, x);
+use words::States;
+
+// The plane at byte `to` of work, read only, in lines of whole words.
+#[derive(Clone, Copy)]
+pub struct Plane<'a> {
+    pub work: &'a [u8],
+    pub to: usize,
+    pub pitch: usize,
+    ghost fits: { to + plane_size pitch ≤ length work.now },
+    ghost narrow: { pitch ≤ 128 },
+    ghost whole: { pitch % 8 ≡ 0 },
 }
 
-// An entry of a list as an index.
-fn number(x: u16) -> usize
-    ensures { result < 65536 }
-{
-    x as usize
-}
-
-// Entry i of a list.
-pub fn entry(list: &[u16; 1024], i: usize) -> usize
-    requires { i < 1024 }
-    ensures { result < 65536 }
-{
-    number(list[i])
-}
-
-// Entry i of a list becomes x.
-fn put_entry(list: &mut [u16; 1024], i: usize, x: usize)
-    requires { (i < 1024) × (x < 65536) }
-{
-    list[i] = x as u16;
-}
-
-// Whether bit x of seen is set; any answer will do.
-fn marked(seen: &[u8; 128], x: usize) -> bool
-    requires { x < 1024 }
-{
-    planes::get_bit(seen, x)
-}
-
-// A state that x is related to and that is not in seen, or at least pitch * 8; any answer will do.
-fn next_state(work: &[u8], from: usize, pitch: usize, x: usize, seen: &[u8; 128]) -> usize
-    requires { (from + plane_size pitch ≤ length work.now) × (pitch ≤ 128) × (pitch % 8 ≡ 0) }
-{
-    let states = pitch * 8;
-    if states <= x {
-        return states;
+impl<'a> Plane<'a> {
+    // How many states there are.
+    pub fn states(&self) -> usize
+        ensures { result ≡ self.now.pitch * 8 }
+    {
+        self.pitch * 8
     }
-    let a = from + x * pitch;
-    let mut k: usize = 0;
-    while k < states {
-        let left = words::eight(work, a + k / 64 * 8) & !words::eight(seen, k / 64 * 8);
-        if left != 0 {
-            return k + words::lowest(left);
+
+    // The line of state x.
+    pub fn line(&self, x: usize) -> &'a [u8]
+        requires { x < self.now.pitch * 8 }
+        ensures part { result.now ≡ between (self.now.to + x * self.now.pitch) (self.now.to + x * self.now.pitch + self.now.pitch) self.now.work.now }
+        ensures width { length result.now ≡ self.now.pitch }
+    {
+        let at = self.to + x * self.pitch;
+        &self.work[at..at + self.pitch]
+    }
+}
+
+// A list of at most 1024 states.
+#[derive(Drop)]
+pub struct StateList {
+    states: [u16; 1024],
+    count: usize,
+    ghost room: { count ≤ 1024 },
+}
+
+impl StateList {
+    // The list of none.
+    fn new() -> StateList {
+        StateList {
+            states: [0; 1024],
+            count: 0,
         }
-        k += 64;
     }
-    k
+
+    // Adds a state at the end, if there is room.
+    fn push(&mut self, x: usize)
+        requires { x < 65536 }
+    {
+        if self.count < 1024 {
+            self.states[self.count] = x as u16;
+            self.count += 1;
+        }
+    }
+
+    // The last state.
+    fn last(&self) -> Option<usize>
+        ensures { IfSome result (λ x. x < 65536) }
+    {
+        if self.count == 0 {
+            return None;
+        }
+        Some(self.states[self.count - 1] as usize)
+    }
+
+    // Takes the last state off.
+    fn pop(&mut self) {
+        self.count = self.count.saturating_sub(1);
+    }
+
+    // The states in order.
+    pub fn entries(&self) -> &[u16]
+        ensures { result.now ≡ take self.now.count self.now.states }
+    {
+        &self.states[..self.count]
+    }
 }
 
-// Whether the pitch bytes of p from at on are all zero; a no will always do.
-fn all_zero(p: &[u8], at: usize, pitch: usize) -> bool
-    requires { at + pitch ≤ length p.now }
-    ensures { result ≡ true → Blank p.now at pitch }
+// Whether the bytes are all zero; a no will always do.
+fn all_zero(bytes: &[u8]) -> bool
+    requires { length bytes.now ≤ 128 }
+    ensures { result ≡ true → Lacks bytes.now 0 (length bytes.now * 8) }
 {
-    let mut b: u8 = 0;
-    let mut j: usize = 0;
-    while j < pitch {
-        b = b | p[at + j];
-        j += 1;
+    let mut all = 0;
+    for b in bytes {
+        all |= *b;
     }
-    b == 0
+    all == 0
 }
 
-// Whether the line of pitch bytes at `at` has no state; a no will always do. Where pitch is 128, by a loop of a known length.
-fn is_blank(work: &[u8], at: usize, pitch: usize) -> bool
-    requires { (at + pitch ≤ length work.now) × (pitch ≤ 128) × (pitch % 8 ≡ 0) }
-    ensures { result ≡ true → Blank work.now at pitch }
+// Whether a line has no state; a no will always do. A line of 128 bytes is gone over by a loop of that length.
+fn is_blank(line: &[u8]) -> bool
+    requires { length line.now ≤ 128 }
+    ensures { result ≡ true → Lacks line.now 0 (length line.now * 8) }
 {
-    if pitch == 128 {
-        return all_zero(work, at, 128);
+    if let Some(whole) = line.first_chunk::<128>() {
+        return all_zero(whole);
     }
-    pitch * 8 <= words::next_at(work, at, pitch, 0)
+    States::of(line).next().is_none()
 }
 
-// Notes x as idle where its line, at `at`, has no state.
-fn note_idle(work: &[u8], at: usize, pitch: usize, x: usize, idle: &mut [u8; 128])
-    requires { (at + pitch ≤ length work.now) × (pitch ≤ 128) × (pitch % 8 ≡ 0) × (x < 1024) }
-    ensures { Noted work.now at pitch x idle.old idle.new }
-{
-    if is_blank(work, at, pitch) {
-        mark(idle, x);
-    }
-}
-
-// The states of the plane at to whose lines have no state.
-pub fn idle_states(work: &[u8], to: usize, pitch: usize) -> [u8; 128]
-    requires { (to + plane_size pitch ≤ length work.now) × (pitch ≤ 128) × (pitch % 8 ≡ 0) }
-    ensures { Idle to pitch result work.now }
+// The states of a plane whose lines have no state.
+pub fn idle_states(plane: &Plane) -> [u8; 128]
+    ensures { Idle plane.now.to plane.now.pitch result plane.now.work.now }
 {
     let mut idle = [0u8; 128];
-    let mut x: usize = 0;
-    while x < pitch * 8 {
-        note_idle(work, to + x * pitch, pitch, x, &mut idle);
-        x += 1;
+    for x in 0..plane.states() {
+        if is_blank(plane.line(x)) {
+            planes::set_bit(&mut idle, x);
+        }
     }
     idle
 }
 
-// The states that are not idle in the order in which a depth-first search leaves them; any list will do.
-pub fn search_order(
-    work: &[u8],
-    from: usize,
-    pitch: usize,
-    idle: &[u8; 128],
-    order: &mut [u16; 1024],
-)
-    requires { (from + plane_size pitch ≤ length work.now) × (pitch ≤ 128) × (pitch % 8 ≡ 0) }
+// A state that x is related to and that is not in seen; any answer will do.
+fn next_unseen(plane: &Plane, x: usize, seen: &[u8; 128]) -> Option<usize>
+    ensures { IfSome result (λ y. y < plane.now.pitch * 8) }
 {
-    let states = pitch * 8;
-    let most = states * 3;
-    let mut seen = *idle;
-    let mut stack = [0u16; 1024];
-    let mut depth: usize = 0;
-    let mut root: usize = 0;
-    let mut count: usize = 0;
-    let mut turns: usize = 0;
-    while turns < most {
-        turns += 1;
-        if depth == 0 {
-            if root < states {
-                if !marked(&seen, root) {
-                    mark(&mut seen, root);
-                    put_entry(&mut stack, 0, root);
-                    depth = 1;
-                }
-                root += 1;
-            }
+    if plane.states() <= x {
+        return None;
+    }
+    let line = plane.line(x);
+    words::next_open(line, seen, line, plane.pitch)
+}
+
+// Adds the states that a search from root comes to, as it leaves them; the stack, empty before and after, is lent since it is large.
+fn search_from(
+    plane: &Plane,
+    root: usize,
+    seen: &mut [u8; 128],
+    stack: &mut StateList,
+    order: &mut StateList,
+)
+    requires { root < plane.now.pitch * 8 }
+{
+    planes::set_bit(seen, root);
+    stack.push(root);
+    for _ in 0..plane.states() * 2 {
+        let Some(x) = stack.last() else {
+            return;
+        };
+        if let Some(y) = next_unseen(plane, x, seen) {
+            planes::set_bit(seen, y);
+            stack.push(y);
         } else {
-            let x = entry(&stack, depth - 1);
-            let y = next_state(work, from, pitch, x, &seen);
-            if y < states {
-                mark(&mut seen, y);
-                if depth < 1024 {
-                    put_entry(&mut stack, depth, y);
-                    depth += 1;
-                }
-            } else {
-                if count < 1024 {
-                    put_entry(order, count, x);
-                    count += 1;
-                }
-                depth -= 1;
-            }
+            order.push(x);
+            stack.pop();
         }
     }
+}
+
+// The states that are not idle in the order in which a depth-first search leaves them; any list will do.
+pub fn search_order(plane: &Plane, idle: &[u8; 128]) -> StateList {
+    let mut seen = *idle;
+    let mut stack = StateList::new();
+    let mut order = StateList::new();
+    for root in 0..plane.states() {
+        if !planes::get_bit(&seen, root) {
+            search_from(plane, root, &mut seen, &mut stack, &mut order);
+        }
+    }
+    order
 }

@@ -1,2 +1,3 @@
 -- One step of a packet state.
+pub mod Arrivals
 pub mod Filled

@@ -1,228 +1,128 @@
 // One step of a packet state.
 #![tactic(auto)]
 
-ghost use Rattle.std.specs.Prelude.{◌≡◌, true, ◌+◌, ◌^◌, ◌<◌, ◌≤◌, length};
-ghost use mathlib.Core.List.{flat_map};
+ghost use Rattle.std.specs.Prelude.{◌≡◌, true, ◌+◌, ◌<◌, ◌≤◌, length};
 ghost use Rattle.planes.specs.Plane.{plane_size};
 ghost use Rattle.planes.specs.Lines.{Made};
 ghost use Rattle.basics.specs.Lists.{member};
 ghost use Rattle.format.specs.Record.{Net, records, widths_of};
 ghost use Rattle.widths.specs.Widths.{states, within_limits, line_bytes};
 ghost use Rattle.onestep.specs.Step.{external};
-ghost use Rattle.onestep.specs.Chosen.{chosen};
-ghost use Rattle.onestep.specs.ByBytes.{arrival};
-ghost use Rattle.choice.specs.RuleSets.{RuleSets};
-ghost use Rattle.choice.specs.Leads.{tables, Leads, AllLead};
-ghost use Rattle.groups.specs.BucketHeaders.{BucketHeaders};
-ghost use Rattle.planes.specs.Adds.{Added};
-ghost use Rattle.groups.specs.Sent.{Sends, Ready, GroupsRan};
-ghost use Rattle.steps.specs.Filled.{Filled};
-ghost use Rattle.onestep.specs.Actions.{sent};
-ghost use Rattle.onestep.specs.Relayed.{relayed, relays};
+ghost use Rattle.onestep.specs.Relayed.{relays};
+ghost use Rattle.choice.specs.Leads.{Leads};
+ghost use Rattle.groups.specs.Relayed.{Ran};
 ghost use Rattle.links.specs.Carried.{LinkedPoints};
-ghost use Rattle.scan.specs.Stored.{Stored};
+ghost use Rattle.steps.specs.Arrivals.{arrives, acting_send, frame_sends};
+ghost use Rattle.steps.specs.Filled.{LineOf, Filled};
 
 use actions::run_record;
-use choice::leads::{Lead, MOST_ARRIVING, find_leads, lead_at};
-use choice::{rank, rule_sets};
-use groups::buckets::{BUCKET_HEADERS, bucket_headers};
+use choice::RuleSet;
+use choice::leads::{Lead, MOST_ARRIVING};
+use choice::rules::Rules;
+use groups::buckets::{BUCKET_HEADERS, Groups};
+use groups::relay::Relay;
+use links::{Point, Points};
+use planes::{clear, put_line};
 use records::MOST_RULES;
 use records::fields::is_ordinary;
-use scan::Layout;
-use states::{direction, header, join, port, switch};
+use scan::network::Network;
+use states::{Frame, direction};
+use tables::Tables;
 use widths::Widths;
 
-// Runs the rules that act on an arrival, by who leads it. They share the marks of the groups, so that what a group sends on this
-// arrival is worked out once for all of them.
-fn run_leaders(
-    work: &mut [u8],
-    line: usize,
-    store: &[u8],
-    n: usize,
-    l: Layout,
-    ports: &[u64; MOST_RULES],
-    headers: &[u64; MOST_RULES],
-    buckets: &[u8; BUCKET_HEADERS],
-    lead: Lead,
-    sw: u8,
-    p: u8,
-    h: u8,
-    marks: &mut [u8],
-)
-    requires ready { Ready (records n store.now) l.widths line sw p h work.old marks.old × (p < 2 ^ l.widths.p) }
-    requires stored { Stored n l store.now × RuleSets (records n store.now) l ports.now headers.now × BucketHeaders (records n store.now) l buckets.now }
-    requires leads { Leads (records n store.now) l.widths (arrival sw p h) lead × (lead.rank ≡ 0 → ⊥) }
-    ensures { GroupsRan (records n store.now) l.widths line sw p (flat_map (sent (records n store.now) l.widths (arrival sw p h)) (chosen (records n store.now) (arrival sw p h))) work.old marks.old work.new marks.new }
+pub mod tables;
+
+// Runs the rules that act on a frame that arrived, by who leads it. They share the marks of the groups, so that what a group
+// sends of the frame is worked out once for all of them.
+fn run_leaders(rules: &Rules, lead: Lead, relay: &mut Relay)
+    requires same { relay.old.groups.now.net ≡ rules.now.net }
+    requires leads { Leads (records rules.now.net.n rules.now.net.store.now) rules.now.net.layout.widths (arrives relay.old.frame) lead × (lead.rank ≡ 0 → ⊥) }
+    ensures { Ran (acting_send rules.now.net relay.old.frame) relay.old relay.new }
 {
-    let w = l.widths;
-    let end = l.rules + lead.last as usize + 1;
-    let mut i = l.rules + lead.first as usize;
-    while i < end {
-        let a = i * 24 + 1;
-        let e = a + 20;
-        let j = i - l.rules;
-        let r = rank(w, &store[a..e], ports[j], headers[j], sw, p, h);
+    let l = rules.net.layout;
+    let frame = relay.frame;
+    for j in usize::from(lead.first)..usize::from(lead.last) + 1 {
+        let r = rules.rank(j, frame);
         if r == lead.rank {
-            run_record(work, line, store, n, l, buckets, sw, p, h, i, marks);
+            run_record(relay, l.rules + j);
         }
-        i += 1;
     }
 }
 
-// Adds what an arrival steps to, by who leads it, where the patterns of each rule match these ports and headers, and the buckets
-// make this of each header.
-fn relay(
-    work: &mut [u8],
-    line: usize,
-    store: &[u8],
-    n: usize,
-    l: Layout,
-    ports: &[u64; MOST_RULES],
-    headers: &[u64; MOST_RULES],
-    buckets: &[u8; BUCKET_HEADERS],
-    lead: Lead,
-    sw: u8,
-    p: u8,
-    h: u8,
-)
-    requires sends { Sends l.widths line sw h work.old × (p < 2 ^ l.widths.p) }
-    requires stored { Stored n l store.now × RuleSets (records n store.now) l ports.now headers.now × BucketHeaders (records n store.now) l buckets.now }
-    requires leads { Leads (records n store.now) l.widths (arrival sw p h) lead }
-    ensures { Added (relayed (records n store.now) l.widths (arrival sw p h)) line (line_bytes l.widths) work.old work.new }
+// Runs the records that act on a frame that arrived: none at port 0, else the miss of its switch or the rules that lead.
+fn run_acting(rules: &Rules, relay: &mut Relay)
+    requires { relay.old.groups.now.net ≡ rules.now.net }
+    ensures { Ran (frame_sends rules.now.net relay.old.frame) relay.old relay.new }
 {
-    if p == 0 {
+    if relay.frame.port == 0 {
         return;
     }
-    let mut marks = [0u8; 128];
+    let lead = rules.lead(relay.frame);
     if lead.rank == 0 {
-        let i = l.misses + sw as usize;
-        run_record(work, line, store, n, l, buckets, sw, p, h, i, &mut marks);
-        return;
-    }
-    run_leaders(
-        work, line, store, n, l, ports, headers, buckets, lead, sw, p, h, &mut marks,
-    );
-}
-
-// Adds the states that s steps to, if it arrives, by the same tables and by those of who leads each arrival.
-fn relay_state(
-    work: &mut [u8],
-    line: usize,
-    store: &[u8],
-    n: usize,
-    l: Layout,
-    ports: &[u64; MOST_RULES],
-    headers: &[u64; MOST_RULES],
-    buckets: &[u8; BUCKET_HEADERS],
-    ranks: &[u32; MOST_ARRIVING],
-    firsts: &[u8; MOST_ARRIVING],
-    lasts: &[u8; MOST_ARRIVING],
-    s: usize,
-)
-    requires widths_in_bounds { line + line_bytes l.widths ≤ length work.old }
-    requires stored { Stored n l store.now × RuleSets (records n store.now) l ports.now headers.now × BucketHeaders (records n store.now) l buckets.now }
-    requires all_lead { AllLead (records n store.now) l.widths (tables ranks.now firsts.now lasts.now) }
-    ensures { Added (relays (records n store.now) l.widths s) line (line_bytes l.widths) work.old work.new }
-{
-    let w = l.widths;
-    if direction(w, s) != 0 {
-        return;
-    }
-    relay(
-        work,
-        line,
-        store,
-        n,
-        l,
-        ports,
-        headers,
-        buckets,
-        lead_at(ranks, firsts, lasts, s),
-        switch(w, s),
-        port(w, s),
-        header(w, s),
-    );
-}
-
-// Fills the plane at byte base with the steps of arriving states, by the same tables.
-fn relay_states(
-    work: &mut [u8],
-    base: usize,
-    store: &[u8],
-    n: usize,
-    l: Layout,
-    ports: &[u64; MOST_RULES],
-    headers: &[u64; MOST_RULES],
-    buckets: &[u8; BUCKET_HEADERS],
-    ranks: &[u32; MOST_ARRIVING],
-    firsts: &[u8; MOST_ARRIVING],
-    lasts: &[u8; MOST_ARRIVING],
-)
-    requires widths_in_bounds { base + plane_size (line_bytes l.widths) ≤ length work.old }
-    requires stored { Stored n l store.now × RuleSets (records n store.now) l ports.now headers.now × BucketHeaders (records n store.now) l buckets.now }
-    requires all_lead { AllLead (records n store.now) l.widths (tables ranks.now firsts.now lasts.now) }
-    ensures { Made (λ s t. member t (relays (records n store.now) l.widths s)) (line_bytes l.widths) base (states l.widths) work.old work.new }
-{
-    let states = l.widths.states();
-    let bytes = states / 8;
-    let mut s: usize = 0;
-    while s < states {
-        let line = base + s * bytes;
-        planes::clear(work, line, bytes);
-        relay_state(
-            work, line, store, n, l, ports, headers, buckets, ranks, firsts, lasts, s,
-        );
-        s += 1;
+        let l = rules.net.layout;
+        run_record(relay, l.misses + usize::from(relay.frame.switch));
+    } else {
+        run_leaders(rules, lead, relay);
     }
 }
 
-// Fills the plane at byte base with the steps of arriving states.
-fn fill_arriving(work: &mut [u8], base: usize, store: &[u8], n: usize, l: Layout)
-    requires widths_in_bounds { base + plane_size (line_bytes l.widths) ≤ length work.old }
-    requires stored { Stored n l store.now }
-    ensures { Made (λ s t. member t (relays (records n store.now) l.widths s)) (line_bytes l.widths) base (states l.widths) work.old work.new }
-{
-    let mut ports = [0u64; MOST_RULES];
-    let mut headers = [0u64; MOST_RULES];
-    let mut buckets = [0u8; BUCKET_HEADERS];
-    let mut ranks = [0u32; MOST_ARRIVING];
-    let mut firsts = [0u8; MOST_ARRIVING];
-    let mut lasts = [0u8; MOST_ARRIVING];
-    rule_sets(store, n, l, &mut ports, &mut headers);
-    bucket_headers(store, n, l, &mut buckets);
-    find_leads(
-        store,
-        n,
-        l,
-        &ports,
-        &headers,
-        &mut ranks,
-        &mut firsts,
-        &mut lasts,
-    );
-    relay_states(
-        work, base, store, n, l, &ports, &headers, &buckets, &ranks, &firsts, &lasts,
-    );
+impl Tables<'_, '_> {
+    // Makes the line at a byte of a plane that of the states that s steps to, if it arrives.
+    #[tactic(auto, using(widths::specs::Laws::Limits::limits))]
+    fn fill_line(&self, work: &mut [u8], at: usize, s: usize)
+        requires { at + line_bytes self.now.rules.net.layout.widths ≤ length work.old }
+        ensures { LineOf (relays (records self.now.rules.net.n self.now.rules.net.store.now) self.now.rules.net.layout.widths s) at (line_bytes self.now.rules.net.layout.widths) work.old work.new }
+    {
+        let w = self.rules.net.layout.widths;
+        let bytes = w.states() / 8;
+        if direction(w, s) != 0 {
+            clear(work, at, bytes);
+            return;
+        }
+        let mut relay = Relay::of(&self.groups, Frame::of_state(w, s));
+        run_acting(&self.rules, &mut relay);
+        put_line(work, at, &relay.line, bytes);
+    }
+
+    // Fills the plane at byte base with the steps of arriving states.
+    #[tactic(auto, using(widths::specs::Laws::Limits::limits))]
+    fn fill_arriving(&self, work: &mut [u8], base: usize)
+        requires { base + plane_size (line_bytes self.now.rules.net.layout.widths) ≤ length work.old }
+        ensures { Made (λ s t. member t (relays (records self.now.rules.net.n self.now.rules.net.store.now) self.now.rules.net.layout.widths s)) (line_bytes self.now.rules.net.layout.widths) base (states self.now.rules.net.layout.widths) work.old work.new }
+    {
+        let states = self.rules.net.layout.widths.states();
+        for s in 0..states {
+            self.fill_line(work, base + s * (states / 8), s);
+        }
+    }
 }
 
-// Fills the plane at byte base with the step relation of the network in the store.
-pub fn fill_steps(work: &mut [u8], base: usize, store: &[u8], n: usize, l: Layout)
-    requires widths_in_bounds { base + plane_size (line_bytes l.widths) ≤ length work.old }
-    requires stored { Stored n l store.now }
-    ensures { Filled (records n store.now) base work.old work.new }
+// Fills the plane at byte base with the step relation of a network.
+pub fn fill_steps(work: &mut [u8], base: usize, net: &Network)
+    requires { base + plane_size (line_bytes net.now.layout.widths) ≤ length work.old }
+    ensures { Filled (records net.now.n net.now.store.now) base work.old work.new }
 {
-    fill_arriving(work, base, store, n, l);
-    links::cross(work, base, store, n, l);
+    let mut sets = [RuleSet::NONE; MOST_RULES];
+    let mut leads = [Lead::NONE; MOST_ARRIVING];
+    let mut headers = [0; BUCKET_HEADERS];
+    let tables = Tables {
+        rules: Rules::of(net, &mut sets, &mut leads),
+        groups: Groups::of(net, &mut headers),
+    };
+    tables.fill_arriving(work, base);
+    links::cross(work, base, net);
 }
 
 // The point of a state is external, given the points where links end.
-pub fn is_external(points: &[u8; 32], w: Widths, s: usize) -> bool
+#[tactic(auto, using(widths::specs::Laws::Limits::limits))]
+pub fn is_external(points: &Points, w: Widths, s: usize) -> bool
     requires { within_limits w ≡ true }
     ensures { (net : Net) → w ≡ widths_of net → LinkedPoints net w points.now → result ≡ external net s }
 {
-    let p = port(w, s);
-    if !is_ordinary(w, p) {
-        return false;
-    }
-    !planes::get_bit(points, join(switch(w, s) as usize, w.p, p))
+    let frame = Frame::of_state(w, s);
+    let at = Point {
+        switch: frame.switch,
+        port: frame.port,
+    };
+    is_ordinary(w, frame.port) && !points.contains(w, at)
 }

@@ -6,5 +6,4 @@ pub mod Output
 pub mod Piecewise
 pub mod Reading
 pub mod Text
-pub mod Written
 pub mod Laws

@@ -1,5 +1,6 @@
 -- What the program does with each piece of the input, 24 bytes or the fewer that are left.
-use Rattle.std.specs.Prelude.{false, cond, ◌≡◌, List, [], ◌∷◌, ◌++◌, ℕ, zero, suc, ◌+◌, ◌-◌, ◌*◌, ◌<◌, ◌≤◌, min, eqb, ltb, ℤ, pos, negsuc, length, take, drop}
+use Rattle.std.specs.Prelude.{false, cond, ◌≡◌, Option, None, Some, Result, Ok, Err, List, [], ◌∷◌, ◌++◌, ℕ, zero, suc, ◌+◌, ◌-◌, ◌*◌, ◌<◌, ◌≤◌, min, eqb, ltb, length, take, drop}
+use Rattle.std.specs.declared.io.Error.{Error}
 use Rattle.io.specs.Counts.{IsPrefixLen}
 use Rattle.format.specs.Record.{Rec, Net, most_records, flat}
 use Rattle.format.specs.Laws.Records.{Whole}
@@ -7,37 +8,34 @@ use Rattle.streams.specs.declared.input.Next.{Next}
 use Rattle.streams.specs.declared.input.Next.TheVariants as next
 use Rattle.streams.specs.declared.input.Later.{Later}
 use Rattle.streams.specs.declared.input.Later.TheVariants as later
-use Rattle.streams.specs.declared.input.Piece.{Piece}
-use Rattle.streams.specs.declared.input.Piece.TheVariants as piece
-use Rattle.streams.specs.declared.input.Said.{Said}
-use Rattle.streams.specs.declared.input.Said.TheVariants as said
+use Rattle.streams.specs.declared.input.ReadFailed.{ReadFailed}
 use Rattle.streams.specs.Input.{is_command}
 
--- what a call of read said: a negative number that it failed, 0 that the input ended, else how many bytes it read
-abbrev pub said_by : ℤ → Said
-said_by (pos zero) = said.End
-said_by (pos (suc k)) = said.More (suc k)
-said_by (negsuc k) = said.Failed
+-- what a call of read said: that it failed, with no bytes that the input ended, else how many bytes it read
+abbrev pub said_by : Result ℕ Error → Result (Option ℕ) ReadFailed
+said_by (Ok zero) = Ok None
+said_by (Ok (suc k)) = Ok (Some (suc k))
+said_by (Err e) = Err (record {})
 
 -- what was read is not nothing, and there was room for it
-abbrev pub InRoom : Said → ℕ → Type 0
-InRoom (said.More k) room = (0 < k) × (k ≤ room)
-InRoom said.End room = Unit {0}
-InRoom said.Failed room = Unit {0}
+abbrev pub InRoom : Result (Option ℕ) ReadFailed → ℕ → Type 0
+InRoom (Ok (Some k)) room = (0 < k) × (k ≤ room)
+InRoom (Ok None) room = Unit {0}
+InRoom (Err e) room = Unit {0}
 
 -- one read behind the first done bytes of a buffer, which keep what they have
-pub record ReadBehind (done : ℕ) (before after : List ℕ) (r : Said) : Type 0 where
+pub record ReadBehind (done : ℕ) (before after : List ℕ) (r : Result (Option ℕ) ReadFailed) : Type 0 where
   pub in_room : InRoom r (length before - done)
   pub len : length after ≡ length before
   pub kept : take done after ≡ take done before
 
 -- the bytes of a piece are at the start of the buffer
-abbrev pub PieceWithin : Piece → List ℕ → Type 0
-PieceWithin (piece.Bytes k) buffer = IsPrefixLen k buffer
-PieceWithin piece.Failed buffer = Unit {0}
+abbrev pub PieceWithin : Result ℕ ReadFailed → List ℕ → Type 0
+PieceWithin (Ok k) buffer = IsPrefixLen k buffer
+PieceWithin (Err e) buffer = Unit {0}
 
 -- a buffer after a piece was read into it: as long as before, whatever else it has
-pub record PieceRead (before after : List ℕ) (r : Piece) : Type 0 where
+pub record PieceRead (before after : List ℕ) (r : Result ℕ ReadFailed) : Type 0 where
   pub within : PieceWithin r after
   pub len : length after ≡ length before
 
@@ -49,18 +47,18 @@ next_of n bytes =
     (cond (is_command bytes) next.Command (cond (ltb n most_records) next.Network next.TooMany)))
 
 -- what a piece is there: a read that failed is neither the end of the input nor a cut record
-abbrev pub next_by : ℕ → Piece → List ℕ → Next
-next_by n (piece.Bytes k) buffer = next_of n (take k buffer)
-next_by n piece.Failed buffer = next.Failed
+abbrev pub next_by : ℕ → Result ℕ ReadFailed → List ℕ → Next
+next_by n (Ok k) buffer = next_of n (take k buffer)
+next_by n (Err e) buffer = next.Failed
 
 -- what bytes are behind a command
 unfoldable pub later_of : List ℕ → Later
 later_of bytes = cond (eqb (length bytes) 0) later.End (cond (ltb (length bytes) 24) later.Cut later.Command)
 
 -- what a piece is there
-abbrev pub later_by : Piece → List ℕ → Later
-later_by (piece.Bytes k) buffer = later_of (take k buffer)
-later_by piece.Failed buffer = later.Failed
+abbrev pub later_by : Result ℕ ReadFailed → List ℕ → Later
+later_by (Ok k) buffer = later_of (take k buffer)
+later_by (Err e) buffer = later.Failed
 
 -- a store with the bytes of record number n replaced, every other byte as before
 unfoldable pub with_record : Rec → ℕ → List ℕ → List ℕ

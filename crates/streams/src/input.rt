@@ -4,23 +4,15 @@ ghost use Rattle.format.specs.Record.{store_bytes, most_records};
 ghost use Rattle.streams.specs.Input.{is_command_kind};
 ghost use Rattle.streams.specs.Reading.{said_by, PieceWithin, next_of, next_by, later_of, later_by, with_record};
 
-// What a call of read said.
-#[derive(Clone, Copy)]
-pub enum Said {
-    Failed,
-    End,
-    More(usize),
-}
+use format::kinds::CommandKind;
+use std::io;
 
-// A piece: how many bytes of it there were, or that a read failed.
-#[derive(Clone, Copy)]
-pub enum Piece {
-    Bytes(usize),
-    Failed,
-}
+// A read failed.
+#[derive(Clone, Copy, PartialEq, Eq)]
+pub struct ReadFailed;
 
 // What a piece is before any command.
-#[derive(Clone, Copy)]
+#[derive(Clone, Copy, PartialEq, Eq)]
 pub enum Next {
     // A record of the network.
     Network,
@@ -39,7 +31,7 @@ pub enum Next {
 }
 
 // What a piece is behind a command.
-#[derive(Clone, Copy)]
+#[derive(Clone, Copy, PartialEq, Eq)]
 pub enum Later {
     // The next command.
     Command,
@@ -51,27 +43,22 @@ pub enum Later {
     Failed,
 }
 
-// What a call of read said by its answer. A read that failed is not the end of the input.
-pub fn read_said(got: isize) -> Said
+// What a call of read said by its answer: how many bytes there were, or that the input ended. A read that failed is not its end.
+pub fn read_said(got: io::Result<usize>) -> Result<Option<usize>, ReadFailed>
     ensures { result ≡ said_by got }
 {
-    if got < 0 {
-        return Said::Failed;
+    match got {
+        Ok(0) => Ok(None),
+        Ok(k) => Ok(Some(k)),
+        Err(_) => Err(ReadFailed),
     }
-    if got == 0 {
-        return Said::End;
-    }
-    Said::More(got as usize)
 }
 
 // A record of this kind is a command.
 fn is_command(kind: u8) -> bool
     ensures { result ≡ is_command_kind kind }
 {
-    match kind {
-        6..=8 => true,
-        0..=5 | 9..=255 => false,
-    }
+    !matches!(CommandKind::from(kind), CommandKind::Unknown)
 }
 
 // What bytes are behind n network records, before any command.
@@ -110,25 +97,25 @@ fn later_in(piece: &[u8]) -> Later
     Later::Command
 }
 
-// What a piece is behind n network records, before any command; its bytes are at the start of the buffer.
-pub fn next_of(n: usize, buffer: &[u8], piece: Piece) -> Next
+// What a piece is behind n network records, before any command; its bytes are the first of the buffer.
+pub fn next_of(n: usize, buffer: &[u8], piece: Result<usize, ReadFailed>) -> Next
     requires { PieceWithin piece buffer.now }
     ensures { result ≡ next_by n piece buffer.now }
 {
     match piece {
-        Piece::Bytes(k) => next_in(n, &buffer[..k]),
-        Piece::Failed => Next::Failed,
+        Ok(k) => next_in(n, &buffer[..k]),
+        Err(ReadFailed) => Next::Failed,
     }
 }
 
 // What a piece is behind a command.
-pub fn later_of(buffer: &[u8], piece: Piece) -> Later
+pub fn later_of(buffer: &[u8], piece: Result<usize, ReadFailed>) -> Later
     requires { PieceWithin piece buffer.now }
     ensures { result ≡ later_by piece buffer.now }
 {
     match piece {
-        Piece::Bytes(k) => later_in(&buffer[..k]),
-        Piece::Failed => Later::Failed,
+        Ok(k) => later_in(&buffer[..k]),
+        Err(ReadFailed) => Later::Failed,
     }
 }
 
@@ -137,5 +124,6 @@ pub fn keep(store: &mut [u8], n: usize, rec: &[u8])
     requires { (n < most_records) × (length store.old ≡ store_bytes) × (length rec.now ≡ 24) }
     ensures { store.new ≡ with_record rec.now n store.old }
 {
-    planes::put(store, n * 24, rec);
+    let at = n * 24;
+    store[at..at + 24].copy_from_slice(rec);
 }

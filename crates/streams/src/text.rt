@@ -1,54 +1,90 @@
-// Words and numbers, put one behind the other into a line.
-ghost use Rattle.std.specs.Prelude.{◌+◌, ◌≤◌, length};
+// A line, made part by part.
+ghost use Rattle.std.specs.Prelude.{◌≡◌, ℕ, ◌+◌, ◌≤◌, List, [], ◌++◌, length, take};
+ghost use Rattle.streams.specs.declared.text.TheConstants.{MOST_BYTES};
 ghost use Rattle.streams.specs.Text.{decimal};
 ghost use Rattle.streams.specs.Line.{spaced, with_one, with_two};
-ghost use Rattle.streams.specs.Written.{TextAdded};
 
-// Puts text behind the first at bytes of the line, and tells how many it then has.
-pub fn add(line: &mut [u8], at: usize, text: &[u8]) -> usize
-    requires { at + length text.now ≤ length line.old }
-    ensures { TextAdded text.now at line.old line.new result }
-{
-    planes::put(line, at, text);
-    at + text.len()
+use std::marker::Model;
+
+// The longest line has three numbers of 20 digits, a word of 7 letters, 3 spaces and its end: 71 bytes, so that 80 are enough.
+const MOST_BYTES: usize = 80;
+
+// A line of the program: the first bytes of an array.
+#[derive(Drop)]
+pub struct Line {
+    bytes: [u8; MOST_BYTES],
+    len: usize,
 }
 
-// Puts a number there, in decimal.
-pub fn add_number(line: &mut [u8], at: usize, n: u64) -> usize
-    requires { at + 20 ≤ length line.old }
-    ensures { TextAdded (decimal n) at line.old line.new result }
-{
-    let mut digits = [0u8; 20];
-    let k = io::decimal(n, &mut digits);
-    add(line, at, &digits[..k])
+impl Model for Line {
+    ghost Value = { List ℕ };
+
+    ghost view = { λ l. take l.len l.bytes };
+
+    ghost invariant = { λ l. l.len ≤ MOST_BYTES };
 }
 
-// Puts a space and a number there.
-fn add_spaced(line: &mut [u8], at: usize, n: usize) -> usize
-    requires { at + 21 ≤ length line.old }
-    ensures { TextAdded (spaced n) at line.old line.new result }
-{
-    let next = add(line, at, b" ");
-    add_number(line, next, n as u64)
-}
+impl Line {
+    // A line with nothing in it.
+    pub(crate) fn new() -> Self
+        ensures { result ≡ [] }
+    {
+        Line {
+            bytes: [0; MOST_BYTES],
+            len: 0,
+        }
+    }
 
-// Puts a word and a number there, and ends the line.
-pub fn add_one(line: &mut [u8], at: usize, word: &[u8], a: usize) -> usize
-    requires { at + length word.now + 22 ≤ length line.old }
-    ensures { TextAdded (with_one word.now a) at line.old line.new result }
-{
-    let number = add(line, at, word);
-    let end = add_spaced(line, number, a);
-    add(line, end, b"\n")
-}
+    // Its bytes.
+    pub fn bytes(&self) -> &[u8]
+        ensures { result.now ≡ self.now }
+    {
+        &self.bytes[..self.len]
+    }
 
-// Puts a word and two numbers there, and ends the line.
-pub fn add_two(line: &mut [u8], at: usize, word: &[u8], a: usize, b: usize) -> usize
-    requires { at + length word.now + 43 ≤ length line.old }
-    ensures { TextAdded (with_two word.now a b) at line.old line.new result }
-{
-    let first = add(line, at, word);
-    let second = add_spaced(line, first, a);
-    let end = add_spaced(line, second, b);
-    add(line, end, b"\n")
+    // The line with a text behind it.
+    pub(crate) fn text(mut self, text: &[u8]) -> Self
+        requires { length self + length text.now ≤ MOST_BYTES }
+        ensures { result ≡ self ++ text.now }
+    {
+        let at = self.len;
+        let end = at + text.len();
+        self.bytes[at..end].copy_from_slice(text);
+        self.len = end;
+        self
+    }
+
+    // With a number, in decimal.
+    pub(crate) fn number(self, n: u64) -> Self
+        requires { length self + 20 ≤ MOST_BYTES }
+        ensures { result ≡ self ++ decimal n }
+    {
+        let mut digits = [0u8; 20];
+        let k = io::decimal(n, &mut digits);
+        self.text(&digits[..k])
+    }
+
+    // With a space and a number; a `usize` has no `From` into a `u64`.
+    fn spaced(self, n: usize) -> Self
+        requires { length self + 21 ≤ MOST_BYTES }
+        ensures { result ≡ self ++ spaced n }
+    {
+        self.text(b" ").number(n as u64)
+    }
+
+    // With a word and a number, to its end.
+    pub(crate) fn with_one(self, word: &[u8], a: usize) -> Self
+        requires { length self + length word.now + 22 ≤ MOST_BYTES }
+        ensures { result ≡ self ++ with_one word.now a }
+    {
+        self.text(word).spaced(a).text(b"\n")
+    }
+
+    // With a word and two numbers, to its end.
+    pub(crate) fn with_two(self, word: &[u8], a: usize, b: usize) -> Self
+        requires { length self + length word.now + 43 ≤ MOST_BYTES }
+        ensures { result ≡ self ++ with_two word.now a b }
+    {
+        self.text(word).spaced(a).spaced(b).text(b"\n")
+    }
 }

@@ -9,13 +9,14 @@ use lib.ListN.{length, get_or, drop}
 use Rattle.planes.specs.Plane.{cell}
 use Rattle.planes.specs.Lines.{Put}
 use Rattle.planes.specs.Laws.Copies.{put_is}
+use Rattle.std.specs.Prelude.{Some, None}
 use Rattle.trails.specs.Laws.Meant.{no_walk}
 use Rattle.trace.specs.Search.{Steps, Measured, Writable, route_along, Drawn}
 use Rattle.trace.proofs.Reading.{is_route, count, short}
 
 -- no route
 pub drawn_none : (work : List ℕ) (pitch a b : ℕ) (ds list : List ℕ) → a < pitch * 8 → Measured work pitch a b ds → get_or ds a 0 ≡ 0
-    → Drawn work pitch a b list 0 list
+    → Drawn work pitch a b list None list
 drawn_none work pitch a b ds list ha M e =
     record {
       answer = none;
@@ -26,9 +27,9 @@ drawn_none work pitch a b ds list ha M e =
 
 -- the route that was written
 pub drawn_some : (work : List ℕ) (pitch a b : ℕ) (ds list : List ℕ) (W : Writable work pitch a b ds list) (n : ℕ) (after : List ℕ)
-    → n ≡ length (route_along work pitch ds a b) → Put (route_along work pitch ds a b) 0 n list after → Drawn work pitch a b list n after
+    → n ≡ length (route_along work pitch ds a b) → Put (route_along work pitch ds a b) 0 n list after → Drawn work pitch a b list (Some n) after
 drawn_some work pitch a b ds list W n after e P =
-    record { answer = some states; meant = is_route work pitch a b ds list W; counted = e; written = written }
+    record { answer = some states; meant = is_route work pitch a b ds list W; counted = ap Some e; written = written }
   where
     states : List ℕ
     states = route_along work pitch ds a b

@@ -1,6 +1,5 @@
 -- Laws that several proofs of this crate use.
 pub mod Drawing
-pub mod Marking
 pub mod Measuring
 pub mod Reading
 pub mod Rounds

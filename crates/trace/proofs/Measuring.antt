@@ -65,11 +65,3 @@ module _ (work : List ℕ) (pitch b : ℕ) where
                   (λ p. let (y, hy, away, r) = p.1 in A.none e y hy (at_distance ds b k y I.some away))
                   ((A.farther b).only x hx z)
               go (no z) = omega (arith, q, (A.farther b).kept x hx (omega (arith, z)), I.near.up_to x hx)
-
-    -- the start has a distance
-    pub measured_early : (a : ℕ) → (get_or ds a 0 ≡ 0 → ⊥) → Measured work pitch a b ds
-    measured_early a h = record { far = k; near = I.near; enough = λ e. absurd (h e) }
-
-    -- all distances are known
-    pub measured_all : (a : ℕ) → S ≤ k → Measured work pitch a b ds
-    measured_all a h = record { far = k; near = I.near; enough = λ e. h }

@@ -2,7 +2,8 @@
 use mathlib.Core.Path.{◌≡◌, refl, sym, ap, subst, ◌∙◌}
 use mathlib.Core.Bool.{Bool, true}
 use mathlib.Core.List.{List}
-use mathlib.Core.Option.{Option, none, some}
+use mathlib.Core.Option as M
+use mathlib.Core.Option.{none, some}
 use Prim.Native.Nat.{ℕ, suc, ◌+◌, ◌-◌, ◌*◌, ◌<◌, ◌≤◌}
 use native.Mathlib.Nat.{zero-add, not-suc-le-zero}
 use native.Mathlib.Decide.{dec_lt}
@@ -13,40 +14,27 @@ use lib.Seq.{get_or-set_same, get_or-set_other}
 use Rattle.planes.specs.Plane.{cell}
 use Rattle.planes.specs.Lines.{Put}
 use Rattle.planes.specs.Laws.LaidBytes.{laid_more}
-use Rattle.basics.specs.Laws.Tests.{not_both}
 use Rattle.judgement.specs.Computed.{first_from}
 use Rattle.judgement.specs.Laws.FirstState.{FirstPassing, first_is}
-use Rattle.words.specs.Words.{First}
+use Rattle.std.specs.Prelude.{Option, Some, None, IsSome}
 use Rattle.trails.specs.Route.{Route}
 use Rattle.trails.specs.Computed.{is_onward, or_count, next_state}
 use Rattle.trails.specs.Laws.Meant.{route_short, route_by_lem}
-use Rattle.trace.specs.Search.{Steps, Nearer, route_along, Writable}
+use Rattle.trace.specs.Search.{Steps, NoneNearer, NearerAt, Nearer, route_along, Writable}
 use Rattle.trails.specs.Laws.Onward.{onward_iff, onward_at, onward_length}
 use Rattle.trails.specs.Laws.Searching.{at_distance, of_distance}
-use Rattle.trace.proofs.StepPlane.{step_bit}
 
--- no state passes below the first one that x steps to, nor between one that is not at the distance and the next
-module _ (work : List ℕ) (pitch : ℕ) (ds : List ℕ) (x k : ℕ) where
-  off : (a r z : ℕ) → First work (x * pitch) pitch a r → a ≤ z → z < r → cell work 0 pitch x z ≡ true → get_or ds z 0 ≡ k → ⊥
-  off a r z F i h t q = not_both t (sym (step_bit work pitch x z) ∙ F.none z i h)
-
-  pub none_first : (r : ℕ) → First work (x * pitch) pitch 0 r → (z : ℕ) → z < r → cell work 0 pitch x z ≡ true → get_or ds z 0 ≡ k → ⊥
-  none_first r F z h = off 0 r z F (omega arith) h
-
-  pub none_more : (y r : ℕ) → ((z : ℕ) → z < y → cell work 0 pitch x z ≡ true → get_or ds z 0 ≡ k → ⊥) → (get_or ds y 0 ≡ k → ⊥) → First work (x * pitch) pitch (y + 1) r
-      → (z : ℕ) → z < r → cell work 0 pitch x z ≡ true → get_or ds z 0 ≡ k → ⊥
-  none_more y r no-earlier not_here F z h = go (dec_lt z y) (dec_lt y z)
-    where
-      go : Dec (z < y) → Dec (y < z) → cell work 0 pitch x z ≡ true → get_or ds z 0 ≡ k → ⊥
-      go (yes i) j = no-earlier z i
-      go (no i) (yes j) = off (y + 1) r z F (omega arith) h
-      go (no i) (no j) = λ t q. not_here (subst (λ (n : ℕ). get_or ds n 0 ≡ k) (omega (arith, i, j)) q)
+-- the smallest state that passes, or the count of the states
+record Least (work : List ℕ) (pitch : ℕ) (ds : List ℕ) (x k y : ℕ) : Type 0 where
+  within : y ≤ pitch * 8
+  passes : y < pitch * 8 → (cell work 0 pitch x y ≡ true) × (get_or ds y 0 ≡ k)
+  least : NoneNearer work pitch ds x k y
 
 -- what the code finds is the next state
-pub nearer_is : (work : List ℕ) (pitch : ℕ) (ds : List ℕ) (b x k y : ℕ) → 1 ≤ k → x < pitch * 8 → Nearer work pitch ds x k y
+least_is : (work : List ℕ) (pitch : ℕ) (ds : List ℕ) (b x k y : ℕ) → 1 ≤ k → x < pitch * 8 → Least work pitch ds x k y
     → y ≡ next_state (pitch * 8) (cell work 0 pitch) ds b k x
 unfolding next_state
-nearer_is work pitch ds b x k y hk hx N = go (first_from S 0 test) (first_is S 0 test)
+least_is work pitch ds b x k y hk hx N = go (first_from S 0 test) (first_is S 0 test)
   where
     S : ℕ
     S = pitch * 8
@@ -60,9 +48,9 @@ nearer_is work pitch ds b x k y hk hx N = go (first_from S 0 test) (first_is S 0
     fails : (z : ℕ) → z < S → z < y → test z ≡ true → ⊥
     fails z hz h t =
         let q = (onward_iff S (Steps work pitch) (cell work 0 pitch) (λ x y hx hy. (λ e. e, λ e. e)) b ds k hx hz).0 t in
-        N.least z h q.0 (at_distance ds b k z hk q.1)
+        N.least.none z h q.0 (at_distance ds b k z hk q.1)
 
-    go : (o : Option ℕ) → FirstPassing test 0 S o → y ≡ or_count S o
+    go : (o : M.Option ℕ) → FirstPassing test 0 S o → y ≡ or_count S o
     go none f = at_end (dec_lt y S)
       where
         at_end : Dec (y < S) → y ≡ S
@@ -77,6 +65,16 @@ nearer_is work pitch ds b x k y hk hx N = go (first_from S 0 test) (first_is S 0
         at_first (yes h) d = absurd (fails z hz h f.2)
         at_first (no h) (yes l) = let p = N.passes (omega arith) in absurd (f.3 y (omega arith) l (passes y (omega arith) p.0 p.1))
         at_first (no h) (no l) = omega (arith, h, l)
+
+pub nearer_is : (work : List ℕ) (pitch : ℕ) (ds : List ℕ) (b x k y : ℕ) → 1 ≤ k → x < pitch * 8 → NearerAt work pitch ds x k y
+    → y ≡ next_state (pitch * 8) (cell work 0 pitch) ds b k x
+nearer_is work pitch ds b x k y hk hx N =
+    least_is work pitch ds b x k y hk hx (record { within = omega (arith, N.within); passes = λ h. (N.steps, N.distance); least = N.least })
+
+pub none_nearer : (work : List ℕ) (pitch : ℕ) (ds : List ℕ) (b x k : ℕ) → 1 ≤ k → x < pitch * 8 → NoneNearer work pitch ds x k (pitch * 8)
+    → pitch * 8 ≡ next_state (pitch * 8) (cell work 0 pitch) ds b k x
+none_nearer work pitch ds b x k hk hx N =
+    least_is work pitch ds b x k (pitch * 8) hk hx (record { within = omega arith; passes = λ h. absurd (omega arith); least = N })
 
 module _ (work : List ℕ) (pitch a b : ℕ) (ds list : List ℕ) (W : Writable work pitch a b ds list) where
   abbrev S : ℕ
@@ -119,7 +117,21 @@ module _ (work : List ℕ) (pitch a b : ℕ) (ds list : List ℕ) (W : Writable 
       subst (λ (n : ℕ). Put states 0 (i + 1) list (set now n v)) (zero-add i)
       (laid_more _ 0 i (d + 1) list now P (omega arith) (omega (arith, short, W.room)) v e)
 
-  pub writing_more : (x i y : ℕ) (now : List ℕ) → Writing x i now → i < d → Nearer work pitch ds x (d - i) y → Writing y (i + 1) (set now i y)
+  -- the last of them is a state
+  pub at_state : (x i : ℕ) (now : List ℕ) → Writing x i now → x < S
+  at_state x i now I = subst (λ (n : ℕ). n < S) I.at (below (i - 1) (omega (arith, I.bound)))
+
+  -- the next state of the route
+  next_is : (x i : ℕ) (now : List ℕ) → Writing x i now → i < d → next_state S (cell work 0 pitch) ds b (d - i) x ≡ get_or states i 0
+  next_is x i now I h =
+      ap (next_state S (cell work 0 pitch) ds b (d - i)) (sym I.at)
+      ∙ sym (onward_at S (cell work 0 pitch) ds b d a (i - 1) (d - i) (omega (arith, I.one, h)))
+      ∙ ap (λ (n : ℕ). get_or states n 0) q
+    where
+      q : suc (i - 1) ≡ i
+      q = omega (arith, I.one)
+
+  pub writing_more : (x i y : ℕ) (now : List ℕ) → Writing x i now → i < d → NearerAt work pitch ds x (d - i) y → Writing y (i + 1) (set now i y)
   writing_more x i y now I h N =
       record {
         one = omega arith;
@@ -131,19 +143,17 @@ module _ (work : List ℕ) (pitch a b : ℕ) (ds list : List ℕ) (W : Writable 
       p : i + 1 - 1 ≡ i
       p = omega arith
 
-      q : suc (i - 1) ≡ i
-      q = omega (arith, I.one)
-
       e : y ≡ get_or states i 0
-      e =
-          nearer_is work pitch ds b x (d - i) y (omega arith) (subst (λ (n : ℕ). n < S) I.at (below (i - 1) (omega arith))) N
-          ∙ ap (next_state S (cell work 0 pitch) ds b (d - i)) (sym I.at)
-          ∙ sym (onward_at S (cell work 0 pitch) ds b d a (i - 1) (d - i) (omega (arith, I.one, h)))
-          ∙ ap (λ (n : ℕ). get_or states n 0) q
+      e = nearer_is work pitch ds b x (d - i) y (omega arith) (at_state x i now I) N ∙ next_is x i now I h
 
-  -- the last of them is a state
-  pub at_state : (x i : ℕ) (now : List ℕ) → Writing x i now → x < S
-  at_state x i now I = subst (λ (n : ℕ). n < S) I.at (below (i - 1) (omega (arith, I.bound)))
+  -- there is one
+  pub not_none : (x i : ℕ) (now : List ℕ) → Writing x i now → i < d → NoneNearer work pitch ds x (d - i) S → ⊥
+  not_none x i now I h N =
+      omega (arith, none_nearer work pitch ds b x (d - i) (omega arith) (at_state x i now I) N, next_is x i now I h, below i (omega arith))
+
+  pub some_nearer : (x i : ℕ) (now : List ℕ) → Writing x i now → i < d → (o : Option ℕ) → Nearer work pitch ds x (d - i) o → IsSome o
+  some_nearer x i now I h None N = absurd (not_none x i now I h N)
+  some_nearer x i now I h (Some y) N = refl
 
   -- the last entry is the end
   pub written_all : (x i : ℕ) (now : List ℕ) → Writing x i now → d ≤ i → Put states 0 (d + 1) list (set now d b)

@@ -3,7 +3,7 @@ use mathlib.Core.Path.{◌≡◌, refl, sym, ap₂, subst, ◌∙◌}
 use mathlib.Core.Bool.{Bool, true, false, false≢true}
 use mathlib.Core.List.{List}
 use mathlib.Core.Logic.{◌⊎◌, inl, inr, ⊎_elim}
-use Prim.Native.Nat.{ℕ, suc, ◌+◌, ◌*◌, ◌<◌, ◌≤◌}
+use Prim.Native.Nat.{ℕ, zero, suc, ◌+◌, ◌*◌, ◌<◌, ◌≤◌}
 use native.Mathlib.Nat.{not-suc-le-zero}
 use native.Mathlib.Decide.{ℕ_discrete}
 use native.Mathlib.Omega.{arith}
@@ -14,7 +14,11 @@ use Rattle.trails.specs.Computed.{or_one_more}
 use Rattle.trails.specs.Distances.{Away, Farther}
 use Rattle.trace.specs.Search.{Steps, Marked, Advanced}
 use Rattle.trails.specs.Laws.Searching.{at_distance, of_distance}
-use Rattle.trace.proofs.Marking.{has_distance}
+
+-- a state that has a distance keeps it
+has_distance : (d : ℕ) (steps : Bool) (k : ℕ) → (d ≡ 0 → ⊥) → or_one_more d steps k ≡ d
+has_distance zero steps k h = absurd (h refl)
+has_distance (suc d) steps k h = refl
 
 module _ (work : List ℕ) (pitch b k : ℕ) (before : List ℕ) where
   abbrev S : ℕ

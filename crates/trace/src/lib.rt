@@ -4,166 +4,157 @@
 #![tactic(auto)]
 
 ghost use Rattle.std.specs.Prelude.{◌≡◌, ℕ, ◌+◌, ◌*◌, ◌<◌, ◌≤◌, length, get_or};
-ghost use Rattle.words.specs.Words.{First};
-ghost use Rattle.trace.specs.Search.{Searchable, Marked, Advanced, Measured, Nearer, Writable, RouteWritten, Drawn};
+ghost use Rattle.planes.specs.Plane.{cell};
+ghost use Rattle.trace.specs.Search.{Searchable, LineOf, Marked, Advanced, Measured, Nearer, Writable, RouteWritten, Drawn};
 
-// The first state from k on of the line of pitch bytes at a, bit by bit.
-fn next_bit(p: &[u8], a: usize, pitch: usize, k: usize) -> usize
-    requires { (a + pitch ≤ length p.now) × (pitch ≤ 128) × (k ≤ pitch * 8) }
-    ensures { First p.now a pitch k result × (result ≤ pitch * 8) }
-{
-    let states = pitch * 8;
-    let mut i = k;
-    while i < states {
-        if planes::get_at(p, a, i) {
-            return i;
-        }
-        i += 1;
-    }
-    i
+use words::States;
+
+// The steps at the front of work: of the two planes there the second has those of the first exchanged.
+#[derive(Clone, Copy)]
+struct Steps<'a> {
+    work: &'a [u8],
+    pitch: usize,
+    ghost searchable: { Searchable pitch work.now },
 }
 
-// The same: by words, where the line is of whole words; pitch * 8 where there is none.
-fn next_state(p: &[u8], a: usize, pitch: usize, k: usize) -> usize
-    requires { (a + pitch ≤ length p.now) × (pitch ≤ 128) × (k ≤ pitch * 8) }
-    ensures { First p.now a pitch k result × (result ≤ pitch * 8) }
-{
-    if pitch % 8 != 0 {
-        return next_bit(p, a, pitch, k);
+impl<'a> Steps<'a> {
+    // How many states there are.
+    fn states(&self) -> usize
+        ensures { result ≡ self.now.pitch * 8 }
+    {
+        self.pitch * 8
     }
-    let found = words::next_at(p, a, pitch, k);
-    if pitch * 8 < found {
-        return pitch * 8;
+
+    // The states that x steps to.
+    fn after(&self, x: usize) -> States<'a>
+        requires { x < self.now.pitch * 8 }
+        ensures line { LineOf (λ y. cell self.now.work.now 0 self.now.pitch x y) self.now.pitch result.line.now }
+        ensures start { result.next ≡ 0 }
+    {
+        let work = self.work;
+        let at = x * self.pitch;
+        States::of(&work[at..at + self.pitch])
     }
-    found
+
+    // The states that step to x.
+    fn before(&self, x: usize) -> States<'a>
+        requires { x < self.now.pitch * 8 }
+        ensures line { LineOf (λ y. cell self.now.work.now 0 self.now.pitch y x) self.now.pitch result.line.now }
+        ensures start { result.next ≡ 0 }
+    {
+        let work = self.work;
+        let at = self.pitch * 8 * self.pitch + x * self.pitch;
+        States::of(&work[at..at + self.pitch])
+    }
 }
 
 // Gives the distance k + 1 to each state without one that steps to x.
-fn mark(work: &[u8], pitch: usize, distances: &mut [u16; 1024], x: usize, k: usize)
-    requires searchable { Searchable pitch work.now × (x < pitch * 8) × (k < 1024) }
-    requires distances_len { length distances.old ≡ 1024 }
-    ensures { Marked work.now pitch x k (pitch * 8) distances.old distances.new }
+fn mark(steps: &Steps, distances: &mut [u16; 1024], x: usize, k: usize)
+    requires { (x < steps.now.pitch * 8) × (k < 1024) }
+    ensures { Marked steps.now.work.now steps.now.pitch x k (steps.now.pitch * 8) distances.old distances.new }
 {
-    let states = pitch * 8;
-    let line = states * pitch + x * pitch;
     let distance = (k + 1) as u16;
-    let mut y = next_state(work, line, pitch, 0);
-    while y < states {
+    for y in steps.before(x) {
         if distances[y] == 0 {
             distances[y] = distance;
         }
-        y = next_state(work, line, pitch, y + 1);
     }
 }
 
 // Goes one step back from each state at the distance k, and answers whether there is one.
-fn advance(work: &[u8], pitch: usize, distances: &mut [u16; 1024], k: usize) -> bool
-    requires searchable { Searchable pitch work.now × (1 ≤ k) × (k < 1024) }
-    requires distances_len { length distances.old ≡ 1024 }
-    ensures { Advanced work.now pitch k (pitch * 8) distances.old result distances.new }
+fn advance(steps: &Steps, distances: &mut [u16; 1024], k: usize) -> bool
+    requires { (1 ≤ k) × (k < 1024) }
+    ensures { Advanced steps.now.work.now steps.now.pitch k (steps.now.pitch * 8) distances.old result distances.new }
 {
-    let states = pitch * 8;
     let distance = k as u16;
     let mut some = false;
-    let mut x: usize = 0;
-    while x < states {
+    for x in 0..steps.states() {
         if distances[x] == distance {
-            mark(work, pitch, distances, x, k);
+            mark(steps, distances, x, k);
             some = true;
         }
-        x += 1;
     }
     some
 }
 
 // Works out the distances to the end, until the start has one or no state is farther.
-fn measure(work: &[u8], pitch: usize, distances: &mut [u16; 1024], start: usize, end: usize)
-    requires searchable { Searchable pitch work.now × (start < pitch * 8) × (end < pitch * 8) }
-    requires distances_len { (length distances.old ≡ 1024) × ((x : ℕ) → get_or distances.old x 0 ≡ 0) }
-    ensures { Measured work.now pitch start end distances.new }
+fn measure(steps: &Steps, distances: &mut [u16; 1024], start: usize, end: usize)
+    requires within { (start < steps.now.pitch * 8) × (end < steps.now.pitch * 8) }
+    requires unknown { (x : ℕ) → get_or distances.old x 0 ≡ 0 }
+    ensures { Measured steps.now.work.now steps.now.pitch start end distances.new }
 {
-    mark(work, pitch, distances, end, 0);
-    let states = pitch * 8;
-    let mut k: usize = 1;
-    while k < states {
+    mark(steps, distances, end, 0);
+    for k in 1..steps.states() {
         if distances[start] != 0 {
             return;
         }
-        if !advance(work, pitch, distances, k) {
+        if !advance(steps, distances, k) {
             return;
         }
-        k += 1;
     }
 }
 
 // The smallest state that x steps to and that is at the distance k.
-fn nearer(work: &[u8], pitch: usize, distances: &[u16; 1024], x: usize, k: usize) -> usize
-    requires { Searchable pitch work.now × (x < pitch * 8) × (k < 1024) }
-    ensures { Nearer work.now pitch distances.now x k result }
+fn nearer(steps: &Steps, distances: &[u16; 1024], x: usize, k: usize) -> Option<usize>
+    requires { (x < steps.now.pitch * 8) × (k < 1024) }
+    ensures { Nearer steps.now.work.now steps.now.pitch distances.now x k result }
 {
-    let states = pitch * 8;
-    let line = x * pitch;
     let distance = k as u16;
-    let mut y = next_state(work, line, pitch, 0);
-    while y < states {
+    for y in steps.after(x) {
         if distances[y] == distance {
-            return y;
+            return Some(y);
         }
-        y = next_state(work, line, pitch, y + 1);
     }
-    y
+    None
 }
 
 // Writes the route into the list, by the distances, and answers the count of its states.
 fn write_route(
-    work: &[u8],
-    pitch: usize,
+    steps: &Steps,
     distances: &[u16; 1024],
     start: usize,
     end: usize,
     list: &mut [u16],
 ) -> usize
-    requires { Writable work.now pitch start end distances.now list.old }
-    ensures { RouteWritten work.now pitch start end distances.now list.old result list.new }
+    requires { Writable steps.now.work.now steps.now.pitch start end distances.now list.old }
+    ensures { RouteWritten steps.now.work.now steps.now.pitch start end distances.now list.old result list.new }
 {
-    let steps = distances[start] as usize;
+    let last = distances[start] as usize;
     list[0] = start as u16;
     let mut x = start;
-    let mut i: usize = 1;
-    while i < steps {
-        x = nearer(work, pitch, distances, x, steps - i);
+    for i in 1..last {
+        x = nearer(steps, distances, x, last - i).unwrap();
         list[i] = x as u16;
-        i += 1;
     }
-    list[steps] = end as u16;
-    steps + 1
+    list[last] = end as u16;
+    last + 1
 }
 
-// The same over distances that are not known yet; where there is no route, the count is 0 and the list as before.
+// The same over distances that are not known yet; where there is no route, the list is as before.
 fn draw_by(
+    steps: &Steps,
     distances: &mut [u16; 1024],
-    work: &[u8],
-    pitch: usize,
     start: usize,
     end: usize,
     list: &mut [u16],
-) -> usize
-    requires searchable { Searchable pitch work.now × (start < pitch * 8) × (end < pitch * 8) × (pitch * 8 + 1 ≤ length list.old) }
-    requires distances_len { (length distances.old ≡ 1024) × ((x : ℕ) → get_or distances.old x 0 ≡ 0) }
-    ensures { Drawn work.now pitch start end list.old result list.new }
+) -> Option<usize>
+    requires within { (start < steps.now.pitch * 8) × (end < steps.now.pitch * 8) × (steps.now.pitch * 8 + 1 ≤ length list.old) }
+    requires unknown { (x : ℕ) → get_or distances.old x 0 ≡ 0 }
+    ensures { Drawn steps.now.work.now steps.now.pitch start end list.old result list.new }
 {
-    measure(work, pitch, distances, start, end);
+    measure(steps, distances, start, end);
     if distances[start] == 0 {
-        return 0;
+        return None;
     }
-    write_route(work, pitch, distances, start, end, list)
+    Some(write_route(steps, distances, start, end, list))
 }
 
-// Draws the route from start to end into the list.
-pub fn draw(work: &[u8], pitch: usize, start: usize, end: usize, list: &mut [u16]) -> usize
+// Draws the route from start to end into the list, and answers the count of its states, if there is one.
+pub fn draw(work: &[u8], pitch: usize, start: usize, end: usize, list: &mut [u16]) -> Option<usize>
     requires { Searchable pitch work.now × (start < pitch * 8) × (end < pitch * 8) × (pitch * 8 + 1 ≤ length list.old) }
     ensures { Drawn work.now pitch start end list.old result list.new }
 {
+    let steps = Steps { work, pitch };
     let mut distances = [0u16; 1024];
-    draw_by(&mut distances, work, pitch, start, end, list)
+    draw_by(&steps, &mut distances, start, end, list)
 }

@@ -1,10 +1,2 @@
-// Routes: specifications only, with the type of the route call's answers.
+// Routes: specifications only.
 #![tactic(auto)]
-
-// What the route call answers.
-#[derive(Clone, Copy)]
-pub enum Routed {
-    Found { count: usize },
-    NoRoute,
-    Refused { number: usize, place: usize },
-}

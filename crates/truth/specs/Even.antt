@@ -1,6 +1,7 @@
 -- Even policies: every way from a policy's last node down to an R passes an even number of NOTs.
 use Rattle.std.specs.Prelude.{◌≡◌, ◌↔◌, ℕ, suc, ◌%◌, ◌<◌}
-use Rattle.format.specs.Policy.{Var, Formula, R, NOT, AND, OR, SOME, ALL, TC}
+use Rattle.format.specs.Policy.{Formula, R, NOT, AND, OR, SOME, ALL, TC}
+use Rattle.format.specs.declared.kinds.Var.{Var}
 use Rattle.truth.specs.Truth.{Model}
 
 -- a way from a formula's last node down to an R, by the number of NOTs that it passes

@@ -1,7 +1,9 @@
 -- What a formula means, at a value of X and a value of Y.
 use Rattle.std.specs.Prelude.{◌≡◌, true, ◌⊎◌, ℕ, ◌<◌}
 use Rattle.basics.specs.Bit.{bit_of}
-use Rattle.format.specs.Policy.{Var, X, Y, Formula, absent, BIT, R, E, NOT, AND, OR, SOME, ALL, TC}
+use Rattle.format.specs.Policy.{Formula, absent, BIT, R, E, NOT, AND, OR, SOME, ALL, TC}
+use Rattle.format.specs.declared.kinds.Var.{Var}
+use Rattle.format.specs.declared.kinds.Var.TheVariants.{X, Y}
 use Rattle.walks.specs.Walk.{Walk}
 
 -- a model of the policy logic: the states, their steps, and those whose point is external

@@ -20,8 +20,10 @@ use Rattle.basics.specs.Laws.Lists.{keep_slice}
 use Rattle.widths.specs.Laws.Limits.{limits}
 use Rattle.format.specs.Laws.Policies.{count_more, count_other, count_follows}
 use Rattle.policy.specs.Evaluated.{nodes_at, OperandOf, SoundNodes}
-use Rattle.verdict.specs.Judge.{policy_at, NodeRows, CleanStore, Run}
-use Rattle.verdict.specs.Laws.PassedRecords as clean
+use Rattle.scan.specs.Laws.PassedRecords.{NodeRows}
+use Rattle.scan.specs.Stored.{CleanStore}
+use Rattle.verdict.specs.Judge.{policy_at, Run}
+use Rattle.scan.specs.Laws.PassedRecords as clean
 use Rattle.verdict.proofs.NodeFields.{earlier_operand, bit_field}
 
 -- policies are counted by their highest number

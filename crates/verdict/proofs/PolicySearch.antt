@@ -7,6 +7,7 @@ use Prim.Native.Nat.{ℕ, ◌+◌, ◌-◌, ◌*◌, ◌≤◌, ◌<◌}
 use native.Mathlib.Nat.{mul-le-mul_right}
 use native.Mathlib.Omega.{arith}
 use borrow.Author.Count.{below_more}
+use native.Mathlib.Decide.{dec_lt}
 use lib.ListN.{length, get_or, take, drop}
 use Rattle.planes.specs.Plane.{plane_size}
 use Rattle.format.specs.Record.{Net, records, widths_of}
@@ -14,16 +15,16 @@ use Rattle.widths.specs.Widths.{states}
 use Rattle.format.specs.Policy.{formula, nodes_of, policy_count, forbidden, longest}
 use Rattle.scan.specs.declared.Layout.{Layout}
 use Rattle.format.specs.Laws.Records.{length_records}
-use Rattle.policy.specs.declared.Offender.{Offender}
-use Rattle.policy.specs.declared.Offender.TheVariants.{State, None}
+use Rattle.std.specs.Prelude.{Some, None}
 use Rattle.truth.specs.Truth.{Truth}
 use Rattle.judgement.specs.Verdict.{Breaks, Holds, Lowest}
 use Rattle.nodes.specs.Node.{plane_at, model_at}
 use Rattle.policy.specs.Evaluated.{nodes_at, PolicyReady, Tested}
-use Rattle.verdict.specs.Judge.{policy_at, CleanStore, Run, Testable}
+use Rattle.scan.specs.Stored.{CleanStore}
+use Rattle.verdict.specs.Judge.{policy_at, Run, Testable}
 use Rattle.judgement.specs.Laws.Same.{same_truth}
 use Rattle.policy.specs.Laws.MadeNodes.{same_model, still_reached}
-use Rattle.verdict.specs.Laws.PassedRecords.{up_to_lem}
+use Rattle.scan.specs.Laws.PassedRecords.{up_to_lem}
 use Rattle.verdict.proofs.PolicyRuns.{counted_end, counted_first, first_named, counted_stop, next_named, nodes_are, few_nodes, a_policy, sound_nodes, at_most_longest}
 use Rattle.judgement.specs.Model.{model_of}
 
@@ -37,10 +38,6 @@ pub record Passed (store : List ℕ) (first last end bytes start p : ℕ) (befor
   pub len : length after ≡ length before
   pub planes : (m : ℕ) → m < plane_at bytes 0 → get_or after m 0 ≡ get_or before m 0
   pub behind : (m : ℕ) → plane_at bytes (longest (records end store)) ≤ m → get_or after m 0 ≡ get_or before m 0
-
--- the answer of a test, in other words
-pub tested_as : {nodes : Net} {w : ℕ} {ext b c : List ℕ} {r s : Offender} → r ≡ s → Tested nodes w ext b r c → Tested nodes w ext b s c
-tested_as {nodes} {w} {ext} {b} {c} e D = subst (λ (r : Offender). Tested nodes w ext b r c) e D
 
 -- the plane of a node is not behind that of a later one
 plane_mono : (w j k : ℕ) → j ≤ k → plane_at w j ≤ plane_at w k
@@ -128,7 +125,7 @@ module _ (end : ℕ) (l : Layout) (bytes : ℕ) (store ext : List ℕ) (closed :
     }
 
     -- a state breaks policy p, the lowest
-    pub found_lowest : (x : ℕ) (c : List ℕ) → Tested nodes bytes ext b (State x) c → Lowest net p x
+    pub found_lowest : (x : ℕ) (c : List ℕ) → Tested nodes bytes ext b (Some x) c → Lowest net p x
     found_lowest x c D =
         let t = D.lowest in
         let k = t.0 in
@@ -140,8 +137,15 @@ module _ (end : ℕ) (l : Layout) (bytes : ℕ) (store ext : List ℕ) (closed :
           no_policy_below = P.unbroken;
         }
 
-  pub passed_all : (start p : ℕ) (b : List ℕ) → Passed store l.nodes l.groups end bytes start p work b → l.groups ≤ start → Holds net
-  passed_all start p b P h q k =
-      let e : start ≡ l.groups = omega (arith, P.up_to) in
-      let n : p ≡ policy_count net = P.count ∙ ap (λ (i : ℕ). policy_count (take i net)) e ∙ counted_end end l store C in
-      P.unbroken q (omega (arith, n))
+  -- behind all nodes all policies are tested
+  pub goes_on : (start p : ℕ) (b : List ℕ) → Passed store l.nodes l.groups end bytes start p work b → p < policy_count net → start < l.groups
+  goes_on start p b P h = go (dec_lt start l.groups)
+    where
+      go : Dec (start < l.groups) → start < l.groups
+      go (yes m) = m
+      go (no m) =
+          let e : start ≡ l.groups = omega (arith, P.up_to) in
+          absurd (omega (arith, P.count ∙ ap (λ (i : ℕ). policy_count (take i net)) e ∙ counted_end end l store C))
+
+  pub passed_all : (start p : ℕ) (b : List ℕ) → Passed store l.nodes l.groups end bytes start p work b → p ≡ policy_count net → Holds net
+  passed_all start p b P e q k = P.unbroken q (omega (arith, e))

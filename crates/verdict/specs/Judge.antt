@@ -1,14 +1,11 @@
 -- What judging a network asks of the store and of the work buffer, and what it leaves.
-use Rattle.std.specs.Prelude.{◌≡◌, Bool, true, List, [], ◌++◌, ◌⊎◌, ℕ, suc, ◌+◌, ◌*◌, ◌≤◌, ◌<◌, length, get_or, drop, replicate}
-use Rattle.std.proofs.Math.Option.{none}
-use Rattle.format.specs.Record.{Rec, Net, at, records, most_nodes}
-use Rattle.format.specs.Policy.{nodes_of, policy_count, longest}
-use Rattle.refusals.specs.Rows.{operands_good, work_needed}
-use Rattle.refusals.specs.Refusal.{file_row}
-use Rattle.scan.specs.Layout.{LayoutOf}
+use Rattle.std.specs.Prelude.{◌≡◌, Bool, true, Option, None, Some, List, ◌++◌, ℕ, ◌+◌, ◌*◌, ◌≤◌, ◌<◌, length, get_or, drop, replicate}
+use Rattle.format.specs.Record.{Net, records}
+use Rattle.format.specs.Policy.{longest}
+use Rattle.refusals.specs.Rows.{work_needed}
+use Rattle.scan.specs.Stored.{CleanStore}
 use Rattle.scan.specs.declared.Layout.{Layout}
-use Rattle.verdict.specs.declared.judge.Judged.{Judged}
-use Rattle.verdict.specs.declared.judge.Judged.TheVariants.{Holds, Violated}
+use Rattle.judgement.specs.declared.Violation.{Violation}
 use Rattle.judgement.specs.Verdict.{Verdict, holds, violated, Is}
 use Rattle.judgement.specs.Judgement.{verdict}
 use Rattle.judgement.specs.Laws.Same.{SameModel}
@@ -19,21 +16,9 @@ use Rattle.nodes.specs.Node.{plane_at, model_at}
 use Rattle.judgement.specs.Model.{model_of}
 
 -- the verdict that an answer gives: the network holds, or its lowest broken policy and the lowest state that breaks it
-abbrev pub verdict_of : Judged → Verdict
-verdict_of Holds = holds
-verdict_of (Violated p x) = violated p x
-
--- what rows 9 and 10 leave of a policy node after the records before it
-pub record NodeRows (before : Net) (r : Rec) : Type 0 where
-  pub operands : operands_good (at r 2) (at r 3) (at r 4) (length (nodes_of (at r 1) before)) ≡ true
-  pub follows : (suc (at r 1) ≡ policy_count before) ⊎ (at r 1 ≡ policy_count before)
-  pub few : length (nodes_of (at r 1) before) < most_nodes
-
--- a store holds `end` records that no row refuses, and they stand as the layout says
-pub record CleanStore (end : ℕ) (l : Layout) (store : List ℕ) : Type 0 where
-  pub room : end * 24 ≤ length store
-  pub laid : LayoutOf (records end store) l
-  pub passes : file_row [] (records end store) ≡ none
+abbrev pub verdict_of : Option Violation → Verdict
+verdict_of None = holds
+verdict_of (Some v) = violated v.policy v.state
 
 -- the policy that record i of a store names
 abbrev pub policy_at : List ℕ → ℕ → ℕ
@@ -62,7 +47,7 @@ pub record StepsClosed (pitch : ℕ) (before : List ℕ) (closed : Bool) (after 
   pub rest : (m : ℕ) → Outside pitch (plane_size pitch) m → get_or after m 0 ≡ get_or before m 0
 
 -- the answer is the verdict that is meant; every byte behind the planes of the longest policy is as before
-pub record Searched (net : Net) (bytes : ℕ) (before : List ℕ) (r : Judged) (after : List ℕ) : Type 0 where
+pub record Searched (net : Net) (bytes : ℕ) (before : List ℕ) (r : Option Violation) (after : List ℕ) : Type 0 where
   pub len : length after ≡ length before
   pub meant : Is net (verdict_of r)
   pub behind : (m : ℕ) → plane_at bytes (longest net) ≤ m → get_or after m 0 ≡ get_or before m 0
@@ -73,6 +58,6 @@ pub record Judgeable (end : ℕ) (l : Layout) (store work : List ℕ) : Type 0 w
   pub room : work_needed (records end store) ≤ length work
 
 -- the answer is the verdict on the network; the work that it needed is zero, and the rest as before
-pub record Judges (net : Net) (before : List ℕ) (r : Judged) (after : List ℕ) : Type 0 where
+pub record Judges (net : Net) (before : List ℕ) (r : Option Violation) (after : List ℕ) : Type 0 where
   pub answer : verdict_of r ≡ verdict net
   pub work : after ≡ replicate (work_needed net) 0 ++ drop (work_needed net) before

@@ -1,3 +1,2 @@
 -- Laws that are cited, and need not be read to believe a promise.
 pub mod JudgedWork
-pub mod PassedRecords

@@ -5,7 +5,7 @@ ghost use Rattle.std.specs.Prelude.{◌≡◌, ◌≤◌};
 ghost use Rattle.widths.specs.Widths.{width, states, plane_bytes, within_limits};
 
 // The widths of a network: of headers, of ports and of switches.
-#[derive(Clone, Copy)]
+#[derive(Clone, Copy, Debug, PartialEq, Eq)]
 pub struct Widths {
     pub h: u8,
     pub p: u8,
@@ -29,25 +29,10 @@ impl Widths {
     pub fn within_limits(self) -> bool
         ensures { result ≡ within_limits self }
     {
-        let h = self.h;
-        let p = self.p;
-        let w = self.w;
-        if h < Self::MIN_H {
-            return false;
-        }
-        if Self::MAX_H < h {
-            return false;
-        }
-        if p < Self::MIN_P {
-            return false;
-        }
-        if Self::MAX_P < p {
-            return false;
-        }
-        if Self::MAX_W < w {
-            return false;
-        }
-        1 + h + p + w <= Self::MAX_N
+        (Self::MIN_H..=Self::MAX_H).contains(&self.h)
+            && (Self::MIN_P..=Self::MAX_P).contains(&self.p)
+            && self.w <= Self::MAX_W
+            && 1 + self.h + self.p + self.w <= Self::MAX_N
     }
 
     // N, the bits of a state.

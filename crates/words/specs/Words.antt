@@ -1,5 +1,5 @@
 -- Bits of words, and the search for a bit of a line.
-use Rattle.std.specs.Prelude.{◌≡◌, true, false, List, ℕ, ◌+◌, ◌*◌, ◌^◌, ◌<◌, ◌≤◌}
+use Rattle.std.specs.Prelude.{◌≡◌, true, false, List, ℕ, ◌+◌, ◌*◌, ◌^◌, ◌<◌, ◌≤◌, length, Option, MatchOption, IfSome}
 use Rattle.basics.specs.Bit.{bit_of}
 use Rattle.planes.specs.Plane.{bit}
 
@@ -14,13 +14,36 @@ pub record Lowest (v r : ℕ) : Type 0 where
   pub set : bit_of v r ≡ true
   pub none : (i : ℕ) → i < r → bit_of v i ≡ false
 
--- r is the first state from k on of the line of pitch bytes at a; at least pitch * 8 where there is none
-pub record First (bytes : List ℕ) (a pitch k r : ℕ) : Type 0 where
-  pub later : k ≤ r
-  pub none : (i : ℕ) → k ≤ i → i < r → bit bytes (a * 8 + i) ≡ false
-  pub set : r < pitch * 8 → bit bytes (a * 8 + r) ≡ true
+-- line has no state from k on that is below n
+pub record Lacks (line : List ℕ) (k n : ℕ) : Type 0 where
+  pub none : (i : ℕ) → k ≤ i → i < n → bit line i ≡ false
 
--- r is a state of line, or at least pitch * 8 where done has every state of line that is in among
-pub record Open (line done among : List ℕ) (pitch r : ℕ) : Type 0 where
-  pub set : r < pitch * 8 → bit line r ≡ true
-  pub none : pitch * 8 ≤ r → (j : ℕ) → j < pitch * 8 → bit line j ≡ true → bit among j ≡ true → bit done j ≡ true
+-- r is the first state of line from k on
+pub record FirstAt (line : List ℕ) (k r : ℕ) : Type 0 where
+  pub later : k ≤ r
+  pub within : r < length line * 8
+  pub before : Lacks line k r
+  pub set : bit line r ≡ true
+
+-- r is the first state of line from k on, if there is one
+abbrev pub First : List ℕ → ℕ → Option ℕ → Type 0
+First line k r = MatchOption r (Lacks line k (length line * 8)) (FirstAt line k)
+
+-- r is the first state of line from k on, and the next one is looked for after it
+pub record Stepped (line : List ℕ) (k : ℕ) (r : Option ℕ) (line' : List ℕ) (k' : ℕ) : Type 0 where
+  pub same : line' ≡ line
+  pub first : First line k r
+  pub after : IfSome r (λ y. k' ≡ y + 1)
+
+-- of the states below n, done has those of line that are in among
+pub record Spent (line done among : List ℕ) (n : ℕ) : Type 0 where
+  pub done_too : (i : ℕ) → i < n → bit line i ≡ true → bit among i ≡ true → bit done i ≡ true
+
+-- r is a state of line
+pub record StateOf (line : List ℕ) (pitch r : ℕ) : Type 0 where
+  pub within : r < pitch * 8
+  pub set : bit line r ≡ true
+
+-- r is a state of line; where there is none, done has every state of line that is in among
+abbrev pub Open : List ℕ → List ℕ → List ℕ → ℕ → Option ℕ → Type 0
+Open line done among pitch r = MatchOption r (Spent line done among (pitch * 8)) (StateOf line pitch)

@@ -1,30 +1,25 @@
-// The bits of a line, eight bytes at a time.
+// The states of a line: the bits of its bytes that are set, found eight bytes at a time.
 #![tactic(auto)]
 
-ghost use Rattle.std.specs.Prelude.{◌≡◌, ◌+◌, ◌*◌, ◌%◌, ◌≤◌, ◌<◌, length};
-ghost use Rattle.words.specs.Words.{Word, Lowest, First};
+ghost use Rattle.std.specs.Prelude.{◌≡◌, ◌+◌, ◌-◌, ◌*◌, ◌%◌, ◌≤◌, ◌<◌, length};
+ghost use Rattle.std.specs.Iterator.{at_most};
+ghost use Rattle.words.specs.Words.{Word, Lowest, First, Stepped, Open};
 
-// A byte as a word.
-fn wide(b: u8) -> u64
-    ensures { (result ≡ b) × (result < 256) }
-{
-    b as u64
-}
-
-// The eight bytes of p from a on as one number, the lowest first.
+// The eight bytes of p from a on as one number, the lowest first; written out, since LLVM makes one load of that.
 pub fn eight(p: &[u8], a: usize) -> u64
     requires { a + 8 ≤ length p.now }
     ensures { Word a p.now result }
 {
-    let b0 = wide(p[a]);
-    let b1 = wide(p[a + 1]);
-    let b2 = wide(p[a + 2]);
-    let b3 = wide(p[a + 3]);
-    let b4 = wide(p[a + 4]);
-    let b5 = wide(p[a + 5]);
-    let b6 = wide(p[a + 6]);
-    let b7 = wide(p[a + 7]);
-    b0 + 256 * (b1 + 256 * (b2 + 256 * (b3 + 256 * (b4 + 256 * (b5 + 256 * (b6 + 256 * b7))))))
+    u64::from_le_bytes([
+        p[a],
+        p[a + 1],
+        p[a + 2],
+        p[a + 3],
+        p[a + 4],
+        p[a + 5],
+        p[a + 6],
+        p[a + 7],
+    ])
 }
 
 // The lowest bit of v that is set.
@@ -32,37 +27,107 @@ pub fn lowest(v: u64) -> usize
     requires { 0 < v }
     ensures { Lowest v result }
 {
-    u64::trailing_zeros(v) as usize
+    v.trailing_zeros() as usize
 }
 
-// The first state of the line of pitch bytes at a, from its byte j on, with which a word begins.
-fn next_word(p: &[u8], a: usize, pitch: usize, j: usize) -> usize
-    requires { (a + pitch ≤ length p.now) × (pitch ≤ 128) × (pitch % 8 ≡ 0) × (j ≤ pitch) × (j % 8 ≡ 0) }
-    ensures { First p.now a pitch (j * 8) result }
+// The first state of a line of whole words from its word w on.
+fn from_word(line: &[u8], w: usize) -> Option<usize>
+    requires { (length line.now ≤ 128) × (length line.now % 8 ≡ 0) }
+    ensures { First line.now (w * 64) result }
 {
-    let mut i = j;
-    while i < pitch {
-        let v = eight(p, a + i);
+    for i in w..line.len() / 8 {
+        let v = eight(line, i * 8);
         if v != 0 {
-            return i * 8 + lowest(v);
+            return Some(i * 64 + lowest(v));
         }
-        i += 8;
     }
-    i * 8
+    None
 }
 
-// The first state from k on of the line of pitch bytes at a.
-pub fn next_at(p: &[u8], a: usize, pitch: usize, k: usize) -> usize
-    requires { (a + pitch ≤ length p.now) × (pitch ≤ 128) × (pitch % 8 ≡ 0) }
-    ensures { First p.now a pitch k result }
+// The first state of a line of whole words from k on.
+fn by_words(line: &[u8], k: usize) -> Option<usize>
+    requires { (length line.now ≤ 128) × (length line.now % 8 ≡ 0) }
+    ensures { First line.now k result }
 {
-    if pitch * 8 <= k {
-        return k;
+    if line.len() * 8 <= k {
+        return None;
     }
-    let j = k / 64 * 8;
-    let left = eight(p, a + j) >> (k % 64);
+    let w = k / 64;
+    let left = eight(line, w * 8) >> (k % 64);
     if left != 0 {
-        return k + lowest(left);
+        return Some(k + lowest(left));
     }
-    next_word(p, a, pitch, j + 8)
+    from_word(line, w + 1)
+}
+
+// The first state of a line from k on, bit by bit.
+fn by_bits(line: &[u8], k: usize) -> Option<usize>
+    requires { length line.now ≤ 128 }
+    ensures { First line.now k result }
+{
+    for i in k..line.len() * 8 {
+        if planes::get_bit(line, i) {
+            return Some(i);
+        }
+    }
+    None
+}
+
+// The first state of a line from k on.
+fn next_state(line: &[u8], k: usize) -> Option<usize>
+    requires { length line.now ≤ 128 }
+    ensures { First line.now k result }
+{
+    if line.len() % 8 != 0 {
+        return by_bits(line, k);
+    }
+    by_words(line, k)
+}
+
+// A state of line that is in among and not in done, of those below pitch * 8.
+#[inline(always)]
+pub fn next_open(line: &[u8], done: &[u8], among: &[u8], pitch: usize) -> Option<usize>
+    requires widths { (pitch ≤ length line.now) × (pitch ≤ length done.now) × (pitch ≤ length among.now) }
+    requires whole { (pitch ≤ 128) × (pitch % 8 ≡ 0) }
+    ensures { Open line.now done.now among.now pitch result }
+{
+    for i in 0..pitch / 8 {
+        let open = eight(line, i * 8) & eight(among, i * 8) & !eight(done, i * 8);
+        if open != 0 {
+            return Some(i * 64 + lowest(open));
+        }
+    }
+    None
+}
+
+// The states of a line in order, from the one at `next` on.
+#[derive(Drop)]
+pub struct States<'a> {
+    line: &'a [u8],
+    next: usize,
+    ghost short: { length line.now ≤ 128 },
+}
+
+impl<'a> States<'a> {
+    // All states of a line.
+    pub fn of(line: &'a [u8]) -> States<'a>
+        requires { length line.now ≤ 128 }
+        ensures { (result.line.now ≡ line.now) × (result.next ≡ 0) }
+    {
+        States { line, next: 0 }
+    }
+}
+
+impl<'a> Iterator for States<'a> {
+    type Item = usize;
+
+    ghost next_gives = { λ s r t. Stepped s.line.now s.next r t.line.now t.next };
+
+    ghost remaining = { λ s. at_most (length s.line.now * 8 - s.next) };
+
+    fn next(&mut self) -> Option<usize> {
+        let y = next_state(self.line, self.next)?;
+        self.next = y + 1;
+        Some(y)
+    }
 }

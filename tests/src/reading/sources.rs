@@ -41,9 +41,12 @@ pub struct File {
     pub constructors: BTreeMap<String, String>,
     /// Fields of a `record`, which stand after a dot, so that only another file's `use` has them as names.
     pub fields: BTreeMap<String, String>,
-    /// Contracts of functions: the signature, and what is required and ensured.
+    /// Contracts of functions: the signature, and what is required and ensured. A method goes by its
+    /// type's name and its own: `Line::bytes`.
     pub functions: BTreeMap<String, Definition>,
     pub exported: BTreeSet<String>,
+    /// Types of which something holds that whoever makes a value of them owes: a ghost field, an invariant.
+    pub held: BTreeSet<String>,
     pub uses: BTreeMap<String, Place>,
 }
 
@@ -167,17 +170,47 @@ impl Sources {
         }
     }
 
-    /// The function of a path as in code: `verdict::judge::judge`; an exported one by its name.
+    /// The function of a path as in code: `verdict::judge::judge`, or `streams::text::Line::bytes`; an
+    /// exported one by its name.
     pub fn function(&self, path: &str) -> Result<Place, String> {
         let parts: Vec<&str> = path.split("::").collect();
-        let (name, modules) = parts.split_last().unwrap();
-        let place = match modules {
-            [] => self.exports().find(|place| place.name == *name),
-            [first, rest @ ..] => Some(self.in_program(&code::place(first, rest, name))),
+        let of_type = |part: &&str| part.starts_with(char::is_uppercase);
+        let modules = parts.iter().position(of_type).unwrap_or(parts.len() - 1);
+        let name = parts[modules..].join("::");
+        let place = match &parts[..modules] {
+            [] => self.exports().find(|place| place.name == name),
+            [first, rest @ ..] => Some(self.in_program(&code::place(first, rest, &name))),
         };
         place
-            .filter(|p| self.files.get(&p.file).is_some_and(|f| f.functions.contains_key(*name)))
+            .filter(|p| self.files.get(&p.file).is_some_and(|f| f.functions.contains_key(&name)))
             .ok_or(format!("there is no function {path}"))
+    }
+
+    /// The function has no `requires`, and takes no type of which something holds.
+    pub fn requires_nothing(&self, function: &Place) -> Result<bool, String> {
+        let Definition { statement, body } = &self.files[&function.file].functions[&function.name];
+        let takes = match function.name.split_once("::") {
+            Some((of, _)) => format!("{of} {}", code::parameters(statement)),
+            None => code::parameters(statement).to_string(),
+        };
+        Ok(!body.contains("requires") && !self.holds(&function.file, &takes, &mut vec![])?)
+    }
+
+    /// Something holds of a type that a text of a file names, or of one that is part of it.
+    fn holds(&self, file: &str, text: &str, seen: &mut Vec<Place>) -> Result<bool, String> {
+        for name in names(text) {
+            let Some(place) = self.resolve(file, name)? else { continue };
+            if !place.file.ends_with(".rt") || seen.contains(&place) {
+                continue;
+            }
+            seen.push(place.clone());
+            let of = &self.files[&place.file];
+            let parts = &of.definitions[&place.name].body;
+            if of.held.contains(&place.name) || self.holds(&place.file, parts, seen)? {
+                return Ok(true);
+            }
+        }
+        Ok(false)
     }
 
     /// The functions for C.

@@ -134,8 +134,9 @@ pub fn use_line(text: &str, file: &mut File) -> Result<(), String> {
 }
 
 /// Where a name stands that is used from `Rattle.widths.specs.Widths`. A type of the code is
-/// `declared`, and its variants with it. Without a name it is the file that is meant: what an alias
-/// of a file stands for defines nothing, so that a walk fails that comes to it.
+/// `declared`, and its variants and constants with it; so is a constant of a module. Without a name it
+/// is the file that is meant: what an alias of a file stands for defines nothing, so that a walk fails
+/// that comes to it.
 pub fn used(path: &str, name: &str) -> Result<Place, String> {
     let parts: Vec<&str> = path.strip_prefix("Rattle.").unwrap_or(path).split('.').collect();
     let krate = parts[0];
@@ -143,8 +144,18 @@ pub fn used(path: &str, name: &str) -> Result<Place, String> {
         ["specs", "declared", ref modules @ .., of, "TheVariants"] => {
             Ok(code::place(krate, modules, of))
         }
+        ["specs", "declared", ref modules @ .., of, "TheConstants"] if is_type(of) => {
+            Ok(code::place(krate, modules, of))
+        }
+        ["specs", "declared", ref modules @ .., "TheConstants"] => {
+            Ok(code::place(krate, modules, name))
+        }
         ["specs", "declared", ref modules @ .., of] => Ok(code::place(krate, modules, of)),
         [_, _, ..] => Ok(Place::new(&format!("{krate}/{}", parts[1..].join("/")), name)),
         _ => Err(format!("use {path}")),
     }
+}
+
+fn is_type(name: &str) -> bool {
+    name.starts_with(char::is_uppercase)
 }

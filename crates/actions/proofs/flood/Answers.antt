@@ -1,56 +1,44 @@
-use mathlib.Core.Path.{◌≡◌, refl, subst, ◌∙◌}
+use mathlib.Core.Path.{◌≡◌, ap₂, subst, subst⁻¹}
+use mathlib.Core.List.{List, [], ◌∷◌}
 use Prim.Native.Nat.{ℕ, ◌-◌, ◌^◌}
 use native.Mathlib.Omega.{arith}
 use Rattle.basics.specs.Lists.{keep, from}
-use Rattle.widths.specs.Laws.Limits.{limits}
+use Rattle.patterns.specs.Matched.{MatchedSet}
+use Rattle.states.specs.declared.Frame.{Frame}
 use Rattle.onestep.specs.Departing.{except, departing}
-use Rattle.planes.specs.Adds.{Added}
-use Rattle.widths.specs.Widths.{line_bytes}
-use Rattle.planes.specs.Laws.AddedBits.{list_more, added_none}
-use Rattle.groups.specs.Laws.SentCopies.{sends_on}
 use Rattle.onestep.specs.Flooding.{flooded}
+use Rattle.groups.specs.declared.buckets.Groups.{Groups}
+use Rattle.groups.specs.Relayed.{Ran, departs}
+use Rattle.groups.specs.Laws.Running.{Toward, toward_all, toward_more, toward_end}
 use Rattle.actions.specs.Laws.Flooded.{ports_left}
 use Rattle.actions.proofs.flood.Goals as goal
 
-pub matched-ports-requires : goal.matched-ports-requires
-matched-ports-requires c = omega (arith, (limits c.args.w c.requires.ready.limits).high_p)
-
-pub values-end-requires : goal.values-end-requires
-values-end-requires c = omega (arith, (limits c.args.w c.requires.ready.limits).high_p)
-
 pub loop-q-init : goal.loop-q-init
 loop-q-init c =
-    let a = c.args in
-    let e : c.values-end.result - 0 ≡ 2 ^ a.w.p = omega (arith, c.values-end.ensures) in
-    (c.values-end.ensures, omega arith, refl, λ d R. subst (λ (k : ℕ). Added (departing a.w a.sw a.h (flooded a.w a.p a.value a.care (from 0 k))) a.line (line_bytes a.w) a.work.now d) e R)
-
-pub offer-requires : goal.offer-requires
-offer-requires c =
-    let o = c.loop-q in
-    (sends_on c.args.w c.args.line c.args.sw c.args.h c.args.h c.args.work.now o.work o.invariant.2 c.requires.ready.header c.requires, omega arith)
-
-pub overflow_add-q : goal.overflow_add-q
-overflow_add-q c = omega (arith, c.values-end.type_inv)
+    let x = c.args.relay.now in
+    let w = x.groups.now.net.layout.widths in
+    let e : 2 ^ w.p ≡ 2 ^ w.p - 0 = omega arith in
+    let all = departs x c.args.header (flooded w x.frame.port c.args.value c.args.care (from 0 (2 ^ w.p))) in
+    subst (λ (k : ℕ). Toward all (departs x c.args.header (flooded w x.frame.port c.args.value c.args.care (from 0 k))) x x) e (toward_all all x)
 
 pub loop-q-preserved : goal.loop-q-preserved
 loop-q-preserved c =
-    let a = c.args in
-    let e = c.values-end.result in
     let o = c.loop-q in
-    let A = c.offer.ensures a.value a.care c.matched-ports.ensures in (
-      o.invariant.0,
-      omega arith,
-      A.len ∙ o.invariant.2,
-      list_more a.line (line_bytes a.w) _ _ _ _ _ _ _
-          (ports_left a.w a.p a.value a.care a.sw a.h o.q e c.loop-q-test.true) o.invariant.3 A,
-    )
-
-pub shape_of-work : goal.shape_of-work
-shape_of-work c = c.loop-q.invariant.2
+    let x = c.args.relay.now in
+    let w = x.groups.now.net.layout.widths in
+    let a = c.args in
+    let T = o.invariant in
+    let one = ap₂ (λ (y : Groups) (f : Frame). departing y.net.layout.widths f.switch a.header (flooded y.net.layout.widths f.port a.value a.care (o.q ∷ []))) T.groups T.frame in
+    let M = subst⁻¹ (λ (y : Groups). MatchedSet y.net.layout.widths.p a.value a.care c.matched-ports.result) T.groups c.matched-ports.ensures in
+    toward_more _ _ _ _ x o.relay _ (ports_left w x.frame.port a.value a.care x.frame.switch a.header o.q (2 ^ w.p) (omega arith)) T
+    (subst (λ (l : List ℕ). Ran l o.relay c.offer.new.relay) one (c.offer.ensures a.value a.care M))
 
 pub returns : goal.returns
 unfolding departing flooded except from keep
 returns c =
     let o = c.loop-q in
-    let e : c.values-end.result - o.q ≡ 0 = omega arith in
-    o.invariant.3 o.work (rw e (added_none _ _ _))
+    let x = c.args.relay.now in
+    let w = x.groups.now.net.layout.widths in
+    let e : 2 ^ w.p - o.q ≡ 0 = omega arith in
+    toward_end _ x o.relay
+    (subst (λ (k : ℕ). Toward (departs x c.args.header (flooded w x.frame.port c.args.value c.args.care (from 0 (2 ^ w.p)))) (departs x c.args.header (flooded w x.frame.port c.args.value c.args.care (from o.q k))) x o.relay) e o.invariant)

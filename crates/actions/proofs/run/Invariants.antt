@@ -1,20 +1,16 @@
-use mathlib.Core.Path.{◌≡◌}
-use Prim.Native.Nat.{◌-◌, ◌≤◌}
-use lib.ListN.{length}
-use Rattle.format.specs.Record.{records}
-use Rattle.onestep.specs.ByBytes.{arrival, of_body}
-use Rattle.widths.specs.Widths.{line_bytes}
-use Rattle.groups.specs.Sent.{Ready}
-use Rattle.planes.specs.Laws.AddedBits.{TowardList}
-use Rattle.onestep.specs.Actions.{sent, copies}
+use Prim.Native.Nat.{◌-◌}
+use Rattle.format.specs.Record.{at, records}
+use Rattle.onestep.specs.ByBytes.{arrival}
+use Rattle.onestep.specs.Actions.{copies}
+use Rattle.groups.specs.Relayed.{HeaderFits}
+use Rattle.groups.specs.Laws.Running.{Toward}
+use Rattle.actions.specs.Acted.{record_sends}
 use Rattle.actions.proofs.run.Given as goal
 
--- the last actions are left
-abbrev pub invariant-loop-left : goal.invariant-loop-left
-invariant-loop-left l = (l.left ≤ l.count) × (length l.work ≡ length l.initial.work) × (length l.marks ≡ length l.initial.marks)
-    × Ready (records l.n l.store) l.l.widths l.line l.sw l.p l.header l.work l.marks
-    × TowardList l.line (line_bytes l.l.widths) (sent (records l.n l.store) l.l.widths (arrival l.sw l.p l.h) (of_body l.body))
-    (copies (records l.n l.store) l.l.widths (arrival l.sw l.p l.h) (of_body l.body) l.header (l.count - l.left) l.left) l.initial.work l.work
-
-abbrev pub decreases-loop-left : goal.decreases-loop-left
-decreases-loop-left l = l.left
+-- the actions from i on are left
+abbrev pub invariant-loop-i : goal.invariant-loop-i
+invariant-loop-i l =
+    let x = l.initial.relay in
+    let net = x.groups.now.net in
+    HeaderFits x l.header
+    × Toward (record_sends x l.r) (copies (records net.n net.store.now) net.layout.widths (arrival x.frame.switch x.frame.port x.frame.header) l.r l.header l.i (at l.r 8 - l.i)) x l.relay

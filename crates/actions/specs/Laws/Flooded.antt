@@ -11,7 +11,7 @@ use Rattle.format.specs.Pattern.{matches}
 use Rattle.basics.specs.Laws.Lists.{keep_append}
 use Rattle.widths.specs.declared.Widths.{Widths}
 use Rattle.onestep.specs.Departing.{except, departing}
-use Rattle.groups.specs.Laws.SentCopies.{map-append}
+use Rattle.std.proofs.lemmas.List.{map-append}
 use Rattle.onestep.specs.Flooding.{flooded}
 
 -- at one port, and at the ports from q on

@@ -15,21 +15,21 @@ version_is c = c.version_of-version.ensures c.args.n (checks c.args.store.now c.
 pub version_of-version-requires : goal.version_of-version-requires
 version_of-version-requires c = omega (arith, (checks c.args.store.now c.args.n (length c.args.work.now) c.requires.0).arguments.long)
 
-pub command_row-row-requires : goal.command_row-row-requires
-command_row-row-requires c =
+pub command_row-requires : goal.command_row-requires
+command_row-requires c =
     let a = c.args in
-    known a.store.now a.n _ _ c.requires.0 c.requires.1 _ (version_is (goal.at.command_row-row-requires c).After-version_of-version)
+    known a.store.now a.n _ _ c.requires.0 c.requires.1 _ (version_is (goal.at.command_row-requires c).After-version_of-version)
 
 pub judged-requires : goal.judged-requires
 judged-requires c =
     let a = c.args in (
       version_is (goal.at.judged-requires c).After-version_of-version,
-      no_row a.store.now a.n _ a.given.now c.requires.0 c.in-Passed.ensures,
+      no_row a.store.now a.n _ a.given.now c.requires.0 c.in-Ok.ensures,
       c.requires.1,
     )
 
-pub returns-in-Refused : goal.returns-in-Refused
-returns-in-Refused c =
+pub returns-in-Err : goal.returns-in-Err
+returns-in-Err c =
     let a = c.args in
     command_refused a.store.now a.n a.work.now a.given.now _ _
-    (refused_late a.store.now a.n _ a.given.now _ c.requires.0 c.in-Refused.ensures)
+    (refused_late a.store.now a.n _ a.given.now _ c.requires.0 c.in-Err.ensures)

@@ -1,19 +1,23 @@
-use mathlib.Core.Path.{refl}
-use Rattle.calls.proofs.Promises.{check_refused, check_ready, check_judged}
+use Rattle.std.proofs.lemmas.Result.{err_from_is_err_and}
+use Rattle.book.specs.Laws.Refusals.{checks}
+use Rattle.calls.proofs.Promises.{check_refused, check_judged}
 use Rattle.calls.proofs.check.Goals as goal
 
-pub judge-v-requires : goal.judge-v-requires
-judge-v-requires c =
-    let read = c.in-Clean.ensures in
+pub returns-in_err-net : goal.returns-in_err-net
+returns-in_err-net c =
     let a = c.args in
-    check_ready a.store.now a.n a.work.now read.answer _ (read.layout _ refl)
+    let e = err_from_is_err_and c.from_residual.result c.from_residual.ensures.1 in
+    rw (e.1, e.2) (check_refused a.store.now a.n a.work.now _ _ c.in_err-net.ensures)
 
-pub returns-in-Refused : goal.returns-in-Refused
-returns-in-Refused c =
-    let a = c.args in
-    check_refused a.store.now a.n a.work.now _ _ c.in-Refused.ensures.answer
+pub judge-requires : goal.judge-requires
+judge-requires c =
+    let net = c.in_ok-net.net in
+    let read = c.in_ok-net.ensures in
+    let passed = rw (← read.1, ← read.2) at (checks c.args.store.now c.args.n _ read.0) in
+    record { clean = record { room = net.stored.room; laid = net.stored.laid; passes = passed.file }; room = passed.enough }
 
-pub returns-in-Clean : goal.returns-in-Clean
-returns-in-Clean c =
+pub returns : goal.returns
+returns c =
     let a = c.args in
-    check_judged a.store.now a.n a.work.now c.in-Clean.ensures.answer _ _ _ c.checked_as.ensures c.judge-v.ensures
+    let read = c.in_ok-net.ensures in
+    check_judged a.store.now a.n a.work.now read.0 _ _ (rw (read.1, read.2) at c.judge.ensures)

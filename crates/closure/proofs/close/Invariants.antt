@@ -1,10 +1,6 @@
 -- `closure::close` meets its contract. The loop's invariant is Warshall's.
-use Prim.Native.Nat.{◌-◌, ◌*◌, ◌≤◌}
 use Rattle.closure.proofs.Warshall.{Through}
 use Rattle.closure.proofs.close.Given as goal
 
 abbrev pub invariant-loop-k : goal.invariant-loop-k
-invariant-loop-k l = Through l.base l.pitch l.k l.initial.work l.work × (l.k ≤ l.pitch * 8)
-
-abbrev pub decreases-loop-k : goal.decreases-loop-k
-decreases-loop-k l = l.pitch * 8 - l.k
+invariant-loop-k l = Through l.base l.pitch l.k l.initial.work l.work

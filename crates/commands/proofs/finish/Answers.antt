@@ -1,8 +1,5 @@
-use mathlib.Core.List.{List, ◌++◌}
-use mathlib.Core.Path.{sym, ap, ◌∙◌}
-use Prim.Native.Nat.{ℕ, ◌+◌, ◌-◌, ◌*◌}
-use native.Mathlib.Omega.{arith}
-use lib.ListN.{take, drop}
+use Rattle.std.proofs.Common.{◌≡◌, ◌+◌, ◌-◌, ◌*◌, ◌++◌, List, ℕ, sym, ap, ◌∙◌, arith, rules, length, take, drop, replicate}
+use Rattle.format.specs.Record.{store_bytes}
 use Rattle.commands.specs.Effect.{padded}
 use Rattle.commands.proofs.RecordBytes.{part_length, flat_drop, finished}
 use Rattle.commands.proofs.finish.Goals as goal
@@ -11,8 +8,12 @@ pub returns : goal.returns
 returns c =
     let a = c.args in
     let next = a.next.now in
-    let store = a.store.now in
-    let l = part_length store a.n a.j (omega arith) (omega arith) in
-    finished next c.put.new.p c.clear.new.p (take (a.n * 24 - a.j * 24) (drop (a.j * 24) store)) a.at (a.at + (a.n * 24 - a.j * 24))
-    c.requires.0 (omega arith) (omega arith) c.put.ensures c.clear.ensures
-    ∙ ap (λ (x : List ℕ). padded (take a.at next ++ x)) (sym (flat_drop store a.n a.j (omega arith)))
+    let store = a.before.store.now in
+    let n = a.before.n in
+    let end = a.at + (n * 24 - a.j * 24) in
+    let l = part_length store n a.j (omega arith) a.before.within in
+    let copied = c.copy_from_slice.new.self in
+    let e : copied ≡ take (n * 24 - a.j * 24) (drop (a.j * 24) store) = c.copy_from_slice.ensures.after in
+    let z : c.fill.new.self ≡ replicate (store_bytes - end) 0 = search rules in
+    finished next copied c.fill.new.self a.at end _ _ c.requires.0 (omega (arith, l, ap length e)) (omega arith) z (search rules) (search rules)
+    ∙ ap (λ (x : List ℕ). padded (take a.at next ++ x)) (e ∙ sym (flat_drop store n a.j (omega arith)))

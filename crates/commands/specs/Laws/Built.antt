@@ -1,6 +1,6 @@
 -- A network that was built in a buffer.
 use Rattle.std.specs.Prelude.{◌≡◌, List, ℕ, ◌-◌, length, replicate}
-use Rattle.std.proofs.Common.{ap, ap₂, ◌∙◌}
+use Rattle.std.proofs.Common.{ap₂, ◌∙◌}
 use Rattle.format.specs.Record.{Net, store_bytes, records, flat}
 use Rattle.format.specs.Laws.Records.{Whole, flat_back}
 use Rattle.commands.specs.Effect.{padded, Built}

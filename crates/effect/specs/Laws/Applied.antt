@@ -3,7 +3,8 @@ use Rattle.std.specs.Prelude.{◌≡◌, false, ℕ, zero, suc}
 use Rattle.std.proofs.Math.Path.{refl}
 use Rattle.std.proofs.Common.{sym, ◌∙◌}
 use Rattle.std.proofs.Math.Bool.{true}
-use Rattle.format.specs.Record.{Rec, Net, kind, k_modify, k_no_command, command_kind, same_rule, present}
+use Rattle.format.specs.Record.{Rec, Net, kind, command_kind, same_rule, present}
+use Rattle.format.specs.declared.kinds.CommandKind.TheVariants.{Modify as k_modify, Unknown as k_no_command}
 use Rattle.format.specs.Version.{modify_as, acting, as_add}
 use Rattle.format.specs.declared.Version.{Version}
 use Rattle.format.specs.declared.Version.TheVariants.{OpenFlow10, OpenFlow13}

@@ -5,7 +5,9 @@ use Rattle.std.proofs.Common.{sym, ap, subst, subst₂, ◌∙◌, arith, length
 use Rattle.std.proofs.Math.Bool.{true, false}
 use Rattle.std.proofs.Math.Option.{none}
 use Rattle.basics.specs.Laws.Tests.{or_none}
-use Rattle.format.specs.Record.{Rec, Net, most_rules, kind, CommandKind, k_add, k_modify, k_delete, k_no_command, of_kind, present, widths_of}
+use Rattle.format.specs.Record.{Rec, Net, most_rules, kind, of_kind, present, widths_of}
+use Rattle.format.specs.declared.kinds.CommandKind.{CommandKind}
+use Rattle.format.specs.declared.kinds.CommandKind.TheVariants.{Add as k_add, Modify as k_modify, Delete as k_delete, Unknown as k_no_command}
 use Rattle.format.specs.Group.{groups_there}
 use Rattle.format.specs.Version.{version_of, acting, is_add}
 use Rattle.format.specs.Fields.{fields_good}

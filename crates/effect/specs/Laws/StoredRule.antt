@@ -11,7 +11,9 @@ use Rattle.std.proofs.Math.ListN.{get_or, drop, length-append, length-drop}
 use Rattle.std.proofs.Math.Seq.{take_at, drop_at, get_or-take}
 use Rattle.basics.specs.Laws.Tests.{both, and_both, or_none}
 use Rattle.basics.specs.Lists.{all, from}
-use Rattle.format.specs.Record.{Rec, Net, most_rules, at, kind, CommandKind, k_add, k_modify, k_delete, k_no_command, command_kind, of_kind, same_rule, present, widths_of}
+use Rattle.format.specs.Record.{Rec, Net, most_rules, at, kind, command_kind, of_kind, same_rule, present, widths_of}
+use Rattle.format.specs.declared.kinds.CommandKind.{CommandKind}
+use Rattle.format.specs.declared.kinds.CommandKind.TheVariants.{Add as k_add, Modify as k_modify, Delete as k_delete, Unknown as k_no_command}
 use Rattle.format.specs.Group.{runs_there, actions_there, groups_there}
 use Rattle.format.specs.Version.{version_of, acting, is_add}
 use Rattle.refusals.specs.Rows.{row12, row13, row16_command}

@@ -1,17 +1,14 @@
--- `exchange::swap_line` meets its contract.
+-- The states of line x before the next one are exchanged; what is gone over are the states that the line had.
 use mathlib.Core.Path.{◌≡◌}
-use mathlib.Core.Bool.{true}
 use mathlib.Core.List.{List}
-use Prim.Native.Nat.{ℕ, ◌+◌, ◌-◌, ◌*◌, ◌<◌}
+use Prim.Native.Nat.{ℕ, ◌*◌, ◌<◌}
 use lib.ListN.{length}
-use Rattle.planes.specs.Plane.{bit}
+use Rattle.planes.specs.Plane.{bit, cell}
 use Rattle.exchange.specs.Swapped.{Swapped}
 use Rattle.exchange.proofs.swap_line.Given as goal
 
 abbrev pub invariant-loop-y : goal.invariant-loop-y
 invariant-loop-y l = (length l.work ≡ length l.initial.work)
-    × (l.y < l.pitch * 8 → bit l.work ((l.from + l.x * l.pitch) * 8 + l.y) ≡ true)
-    × ((before : List ℕ) → Swapped l.from l.to l.pitch l.x 0 before l.initial.work → Swapped l.from l.to l.pitch l.x l.y before l.work)
-
-abbrev pub decreases-loop-y : goal.decreases-loop-y
-decreases-loop-y l = l.pitch * 8 - l.y
+    × (length l.y-iterator.line.now ≡ l.pitch)
+    × ((u : ℕ) → u < l.pitch * 8 → bit l.y-iterator.line.now u ≡ cell l.initial.work l.from l.pitch l.x u)
+    × ((before : List ℕ) → Swapped l.from l.to l.pitch l.x 0 before l.initial.work → Swapped l.from l.to l.pitch l.x l.y-iterator.next before l.work)

@@ -1,13 +1,10 @@
 -- `exchange::turn_lines` meets its contract.
 use mathlib.Core.Path.{◌≡◌}
 use mathlib.Core.List.{List}
-use Prim.Native.Nat.{ℕ, ◌-◌, ◌≤◌}
+use Prim.Native.Nat.{ℕ}
 use lib.ListN.{length}
 use Rattle.exchange.specs.Blocks.{Blocked}
 use Rattle.exchange.proofs.turn_lines.Given as goal
 
 abbrev pub invariant-loop-r : goal.invariant-loop-r
-invariant-loop-r l = (l.r ≤ l.pitch) × (length l.work ≡ length l.initial.work) × ((before : List ℕ) → Blocked l.from l.to l.pitch l.c 0 before l.initial.work → Blocked l.from l.to l.pitch l.c l.r before l.work)
-
-abbrev pub decreases-loop-r : goal.decreases-loop-r
-decreases-loop-r l = l.pitch - l.r
+invariant-loop-r l = (length l.work ≡ length l.initial.work) × ((before : List ℕ) → Blocked l.from l.to l.pitch l.c 0 before l.initial.work → Blocked l.from l.to l.pitch l.c l.r before l.work)

@@ -14,8 +14,10 @@ use Rattle.basics.specs.Bit.{bit_of}
 use Rattle.basics.specs.Laws.Bits.{bit_or_lem, bit-zero, bits_ext}
 use Rattle.basics.specs.Laws.Tests.{same_test, true_of, not_both, and_both, and_left, and_right, both, or_none}
 use Rattle.basics.specs.Lists.{all}
-use Rattle.format.specs.Record.{Rec, most_policies, at, kind, record_kind, command_kind, k_no_action, action_kind}
-use Rattle.format.specs.Group.{bucket_value, bucket_care, bucket_kind, bucket_target, k_no_target, target_kind}
+use Rattle.format.specs.Record.{Rec, most_policies, at, kind, record_kind, command_kind, action_kind}
+use Rattle.format.specs.declared.kinds.ActionKind.TheVariants.{Unknown as k_no_action}
+use Rattle.format.specs.Group.{bucket_value, bucket_care, bucket_kind, bucket_target, target_kind}
+use Rattle.format.specs.declared.kinds.TargetKind.TheVariants.{Unknown as k_no_target}
 use Rattle.format.specs.Version.{version_good}
 use Rattle.format.specs.Pattern.{pattern_good}
 use Rattle.format.specs.Policy.{node_kind}

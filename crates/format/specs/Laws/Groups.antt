@@ -4,7 +4,9 @@ use Rattle.std.proofs.Math.Path.{refl, ap}
 use Rattle.std.proofs.Common.{sym, ◌∙◌, arith}
 use Rattle.std.proofs.Math.Bool.{not}
 use Rattle.basics.specs.Lists.{any, all, from}
-use Rattle.format.specs.Record.{Rec, Net, at, kind, RecordKind, k_widths, k_link, k_miss, k_rule, k_node, k_group, k_no_record, record_kind, of_kind}
+use Rattle.format.specs.Record.{Rec, Net, at, kind, record_kind, of_kind}
+use Rattle.format.specs.declared.kinds.RecordKind.{RecordKind}
+use Rattle.format.specs.declared.kinds.RecordKind.TheVariants.{Widths as k_widths, Link as k_link, Miss as k_miss, Rule as k_rule, Node as k_node, Group as k_group, Unknown as k_no_record}
 use Rattle.format.specs.Group.{bucket_kind, bucket_target, is_group, has_group, runs_there, actions_there, goes_there, buckets_there, named_there, groups_there}
 use Rattle.basics.specs.Laws.Lists.{any_keep, any_snoc, from_fails, from_passes}
 use Rattle.format.specs.Laws.Kinds.{is_group_record}

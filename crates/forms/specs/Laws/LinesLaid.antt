@@ -13,7 +13,8 @@ use Rattle.lines.specs.declared.Row.TheVariants.{From}
 use Rattle.forms.specs.declared.Form.{Form}
 use Rattle.forms.specs.declared.Form.TheVariants.{OfX, OfY, Both, Turned}
 use Rattle.lines.specs.Shapes.{op_bool, op_byte, Lined, Plane, Source, Span, row_byte, Ready}
-use Rattle.forms.specs.Forms.{tests, place, Upright, row_of, Readable}
+use Rattle.forms.specs.declared.Joined.{Joined}
+use Rattle.forms.specs.Forms.{tests, place, Upright, row_of, Readable, Joinable, joined}
 use Rattle.lines.specs.Laws.LineBits.{full_bit, op_bit}
 use Rattle.forms.specs.Laws.PlaneShapes.{line_small, source_in}
 use Rattle.forms.specs.Laws.Forms.{tests_kept}
@@ -116,14 +117,13 @@ module _ (f : ℕ → ℕ → Bool) (pitch base x : ℕ) (a l : List ℕ) (M : M
   form_kept g (inr e) y hy = rw e (own_line y hy)
 
   -- one more line, of the rows of two forms
-  pub laid_more : (o : Op) (g h : Form) (p q : Row) (m : List ℕ) → Upright g × Upright h → Readable a pitch base g → Readable a pitch base h
-      → p ≡ row_of g l pitch x → q ≡ row_of h l pitch x → Laid (λ j. op_byte o (row_byte p l j) (row_byte q l j)) (base + x * pitch) pitch l m
-      → ((y : ℕ) → f x y ≡ op_bool o (tests g a pitch x y) (tests h a pitch x y)) → Made f pitch base (x + 1) a m
-  laid_more o g h p q m U G H ep eq L is =
+  pub laid_more : (j : Joined) (p q : Row) (m : List ℕ) → Joinable a pitch base j → p ≡ row_of j.first l pitch x → q ≡ row_of j.second l pitch x
+      → Laid (λ i. op_byte j.op (row_byte p l i) (row_byte q l i)) (base + x * pitch) pitch l m → ((y : ℕ) → f x y ≡ joined j a pitch x y) → Made f pitch base (x + 1) a m
+  laid_more j p q m J ep eq L is =
       made_more f pitch base x a l m M L.len L.under L.over
       (λ y hy.
-      row_bit o p q (base + x * pitch) pitch l m L y hy
-      ∙ ap₂ (op_bool o)
-      (ap (λ (r : Row). bit_of (row_byte r l (y / 8)) (y % 8)) ep ∙ row_tests l pitch base x hx g U.0 y ∙ form_kept g G y hy)
-      (ap (λ (r : Row). bit_of (row_byte r l (y / 8)) (y % 8)) eq ∙ row_tests l pitch base x hx h U.1 y ∙ form_kept h H y hy)
+      row_bit j.op p q (base + x * pitch) pitch l m L y hy
+      ∙ ap₂ (op_bool j.op)
+      (ap (λ (r : Row). bit_of (row_byte r l (y / 8)) (y % 8)) ep ∙ row_tests l pitch base x hx j.first J.upright.0 y ∙ form_kept j.first J.first y hy)
+      (ap (λ (r : Row). bit_of (row_byte r l (y / 8)) (y % 8)) eq ∙ row_tests l pitch base x hx j.second J.upright.1 y ∙ form_kept j.second J.second y hy)
       ∙ sym (is y))

@@ -14,15 +14,15 @@ use Rattle.streams.specs.declared.input.Next.TheVariants as next
 use Rattle.gate.proofs.load.Goals as goal
 
 -- one more record of the network is not one too many, and no command
-fewer : (c : goal.After-keep) → c.loop-store.n < most_records
+fewer : (c : goal.After-keep) → c.loop-n.n < most_records
 fewer c =
     let read = c.read_piece-piece in
-    network_fewer c.loop-store.n read.new.rec read.result (sym c.next_of-next.ensures ∙ c.in-Network.is)
+    network_fewer c.loop-n.n read.new.rec read.result (sym c.next_of-met.ensures ∙ c.in-Network.is)
 
 plain : (c : goal.After-keep) → is_command c.read_piece-piece.new.rec ≡ false
 plain c =
     let read = c.read_piece-piece in
-    no_command c.loop-store.n read.new.rec read.result (sym c.next_of-next.ensures ∙ c.in-Network.is) (search rules)
+    no_command c.loop-n.n read.new.rec read.result (sym c.next_of-met.ensures ∙ c.in-Network.is) (search rules)
 
 -- what ends the loop otherwise is not one record too many
 other : (x : Next) → x ≡ next.TooMany → (x ≡ next.Command) ⊎ ((x ≡ next.CutCommand) ⊎ ((x ≡ next.Cut) ⊎ ((x ≡ next.End) ⊎ (x ≡ next.Failed)))) → ⊥
@@ -32,33 +32,30 @@ other x t (inr (inr (inl e))) = cc
 other x t (inr (inr (inr (inl e)))) = cc
 other x t (inr (inr (inr (inr e)))) = cc
 
-pub next_of-next-requires : goal.next_of-next-requires
-next_of-next-requires c = c.read_piece-piece.ensures.within
+pub next_of-met-requires : goal.next_of-met-requires
+next_of-met-requires c = c.read_piece-piece.ensures.within
 
 pub keep-requires : goal.keep-requires
 keep-requires c =
     let read = c.read_piece-piece in
-    (network_fewer c.loop-store.n read.new.rec read.result (sym c.next_of-next.ensures ∙ c.in-Network.is), search rules, search rules)
+    (network_fewer c.loop-n.n read.new.rec read.result (sym c.next_of-met.ensures ∙ c.in-Network.is), search rules, search rules)
 
-pub loop-store-smaller : goal.loop-store-smaller
-loop-store-smaller c = omega (arith, fewer c)
-
-pub loop-store-preserved : goal.loop-store-preserved
-loop-store-preserved c =
+pub loop-n-preserved : goal.loop-n-preserved
+loop-n-preserved c =
     let h = fewer c in
-    (omega arith, holds_more _ c.loop-store.invariant.1 c.keep.ensures (search rules) (plain c))
+    (omega arith, holds_more _ c.loop-n.invariant.1 c.keep.ensures (search rules) (plain c))
 
-pub loop-store-init : goal.loop-store-init
-loop-store-init c = (search rules, record { net = []; whole = tt; none = tt; size = refl; stored = sym (with_none _) })
+pub loop-n-init : goal.loop-n-init
+loop-n-init c = (search rules, record { net = []; whole = tt; none = tt; size = refl; stored = sym (with_none _) })
 
 pub returns-in-TooMany : goal.returns-in-TooMany
 returns-in-TooMany c =
     let read = c.read_piece-piece in
-    let n = c.loop-store.n in
+    let n = c.loop-n.n in
     let met = c.in-TooMany.is in
-    let full = too_many_full n read.new.rec read.result (sym c.next_of-next.ensures ∙ met) in
-    record { held = holds_as (omega arith) c.loop-store.invariant.1; many = λ t. omega arith; few = λ t. absurd (t met) }
+    let full = too_many_full n read.new.rec read.result (sym c.next_of-met.ensures ∙ met) in
+    record { held = holds_as (omega arith) c.loop-n.invariant.1; many = λ t. omega arith; few = λ t. absurd (t met) }
 
 pub returns-in-Command : goal.returns-in-Command
 returns-in-Command c =
-    record { held = holds_as (omega arith) c.loop-store.invariant.1; many = λ t. absurd (other _ t c.in-Command.is); few = λ t. omega arith }
+    record { held = holds_as (omega arith) c.loop-n.invariant.1; many = λ t. absurd (other _ t c.in-Command.is); few = λ t. omega arith }

@@ -7,11 +7,10 @@ use mathlib.Core.List.{List, [], ◌++◌}
 use Prim.Native.Nat.{ℕ, zero, suc, ◌+◌, ◌<◌}
 use Rattle.std.proofs.Math.Decide.{ℕ_discrete}
 use Rattle.format.specs.Record.{Rec, Net, at}
-use Rattle.format.specs.Group.{IsBucket}
+use Rattle.format.specs.Group.{target_kind, IsBucket}
 use Rattle.widths.specs.declared.Widths.{Widths}
 use Rattle.format.specs.declared.Bucket.{Bucket}
-use Rattle.onestep.specs.Groups.{group_record, bucket_header, bucket_sent, buckets_sent, record_sent, lower_sent, group_sent}
-use Rattle.groups.specs.Sent.{target_sends}
+use Rattle.onestep.specs.Groups.{group_record, sent_to, bucket_header, bucket_sent, buckets_sent, record_sent, lower_sent, group_sent}
 
 module _ (net : Net) (w : Widths) (sw p : ℕ) where
   -- what a group sends is the same among those below any higher number
@@ -34,7 +33,7 @@ module _ (net : Net) (w : Widths) (sw p : ℕ) where
     no_buckets = refl
 
     pub more_buckets : (j header : ℕ) (b : Bucket) → IsBucket r j b → header ≡ bucket_header w r j h
-        → buckets_sent w sw p (lower_sent net w sw p g) r h (j + 1) ≡ buckets_sent w sw p (lower_sent net w sw p g) r h j ++ target_sends net w sw p g b.kind b.target header
+        → buckets_sent w sw p (lower_sent net w sw p g) r h (j + 1) ≡ buckets_sent w sw p (lower_sent net w sw p g) r h j ++ sent_to (target_kind b.kind) w sw p (lower_sent net w sw p g) b.target header
     unfolding buckets_sent bucket_sent
     more_buckets j header b I e = rw (add-one, I.kind, I.target, e) refl
 

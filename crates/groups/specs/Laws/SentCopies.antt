@@ -1,38 +1,28 @@
 -- The bits of copies, and ports without the arrival port.
 use Rattle.std.proofs.Common.{eq-eqb, ne_eqb, subst, arith}
-use Rattle.std.specs.Prelude.{◌≡◌, refl, Bool, true, not, List, [], ◌∷◌, ◌++◌, map, ℕ, ◌+◌, ◌*◌, ◌/◌, ◌^◌, ◌<◌, ◌≤◌, length}
+use Rattle.std.specs.Prelude.{◌≡◌, Bool, true, not, List, [], ◌∷◌, ℕ, ◌*◌, ◌/◌, ◌^◌, ◌<◌}
 use Rattle.std.proofs.Math.Path.{ap}
 use Rattle.std.proofs.Math.Bool.{cond}
 use Rattle.planes.specs.Lines.{BitSet}
 use Rattle.basics.specs.Lists.{keep}
 use Rattle.widths.specs.Widths.{within_limits, line_bytes}
 use Rattle.format.specs.State.{state}
-use Rattle.format.specs.Laws.States.{state-lt, whole_bytes}
+use Rattle.format.specs.Laws.States.{state-lt, whole_bytes, few_states}
 use Rattle.widths.specs.declared.Widths.{Widths}
 use Rattle.planes.specs.Adds.{Added}
 use Rattle.onestep.specs.Departing.{except}
-use Rattle.groups.specs.Sent.{Sends}
 use Rattle.planes.specs.Laws.AddedBits.{added_one}
 
-pub map-append : {A : Type 0} (f : A → ℕ) (xs ys : List A) → map f (xs ++ ys) ≡ map f xs ++ map f ys
-map-append f [] ys = refl
-map-append f (x ∷ xs) ys = ap (λ (l : List ℕ). f x ∷ l) (map-append f xs ys)
+-- a copy that departs at port q with header h has its bit in a line of 128 bytes
+module _ (w : Widths) (limits : within_limits w ≡ true) (sw q h : ℕ) (hs : sw < 2 ^ w.w) (hq : q < 2 ^ w.p) (hh : h < 2 ^ w.h) where
+  has_bit : state w 1 sw q h < line_bytes w * 8
+  has_bit = omega (arith, state-lt w 1 sw q h (omega arith) hs hq hh, whole_bytes w limits)
 
--- so it is later, with another header
-pub sends_on : (w : Widths) (line sw h k : ℕ) (a b : List ℕ) → length b ≡ length a → k < 2 ^ w.h → Sends w line sw h a → Sends w line sw k b
-sends_on w line sw h k a b e l S = record { ready = record { limits = S.ready.limits; room = omega (arith, S.ready.room); header = l }; switch = S.switch }
+  pub has_byte : state w 1 sw q h / 8 < 128
+  has_byte = omega (arith, has_bit, whole_bytes w limits, few_states w limits)
 
--- the bit of a state, where n is its number
-module _ (w : Widths) (limits : within_limits w ≡ true) (line d sw q h n : ℕ) (hd : d < 2) (hs : sw < 2 ^ w.w) (hq : q < 2 ^ w.p) (hh : h < 2 ^ w.h)
-    (is : n ≡ state w d sw q h) where
-  has_bit : n < line_bytes w * 8
-  has_bit = omega (arith, is, state-lt w d sw q h hd hs hq hh, whole_bytes w limits)
-
-  pub has_byte : (a : List ℕ) → line + line_bytes w ≤ length a → line + n / 8 < length a
-  has_byte a r = omega (arith, has_bit)
-
-  pub state_added : (a b : List ℕ) → BitSet (line * 8 + n) a b → Added (state w d sw q h ∷ []) line (line_bytes w) a b
-  state_added a b S = subst (λ (m : ℕ). Added (m ∷ []) line (line_bytes w) a b) is (added_one line (line_bytes w) n a b S has_bit)
+  pub copy_added : (a b : List ℕ) → BitSet (state w 1 sw q h) a b → Added (state w 1 sw q h ∷ []) 0 (line_bytes w) a b
+  copy_added a b B = added_one 0 (line_bytes w) _ a b (subst (λ (m : ℕ). BitSet m a b) (omega arith) B) has_bit
 
 -- one port, and the arrival port
 module _ (p q : ℕ) where

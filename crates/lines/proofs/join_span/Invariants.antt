@@ -1,12 +1,9 @@
 -- `lines::join_span` meets its contract. The loop's invariant is the contract at the j bytes passed.
-use Prim.Native.Nat.{◌+◌, ◌-◌, ◌≤◌}
+use Prim.Native.Nat.{◌+◌}
 use lib.ListN.{get_or}
 use Rattle.planes.specs.Lines.{Laid}
 use Rattle.lines.specs.Shapes.{op_byte}
 use Rattle.lines.proofs.join_span.Given as goal
 
 abbrev pub invariant-loop-j : goal.invariant-loop-j
-invariant-loop-j l = (l.j ≤ l.len) × Laid (λ i. op_byte l.o (get_or l.initial.work (l.a + i) 0) (get_or l.initial.work (l.b + i) 0)) l.to l.j l.initial.work l.work
-
-abbrev pub decreases-loop-j : goal.decreases-loop-j
-decreases-loop-j l = l.len - l.j
+invariant-loop-j l = Laid (λ i. op_byte l.o (get_or l.initial.work (l.a + i) 0) (get_or l.initial.work (l.b + i) 0)) l.to l.j l.initial.work l.work

@@ -1,5 +1,4 @@
 -- `lines::take_span` meets its contract. The loop's invariant is the contract at the j bytes passed.
-use Prim.Native.Nat.{◌-◌, ◌≤◌}
 use lib.ListN.{get_or}
 use Rattle.planes.specs.Lines.{Laid}
 use Rattle.lines.specs.declared.Join.TheVariants.{Two}
@@ -7,7 +6,4 @@ use Rattle.lines.specs.Shapes.{op_byte, join_byte}
 use Rattle.lines.proofs.take_span.Given as goal
 
 abbrev pub invariant-loop-j : goal.invariant-loop-j
-invariant-loop-j l = (l.j ≤ l.len) × Laid (λ i. op_byte l.o (get_or l.initial.r i 0) (join_byte l.t (Two l.a l.b) l.work i)) 0 l.j l.initial.r l.r
-
-abbrev pub decreases-loop-j : goal.decreases-loop-j
-decreases-loop-j l = l.len - l.j
+invariant-loop-j l = Laid (λ i. op_byte l.o (get_or l.initial.r i 0) (join_byte l.t (Two l.a l.b) l.work i)) 0 l.j l.initial.r l.r

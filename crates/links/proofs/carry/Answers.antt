@@ -1,36 +1,22 @@
+use mathlib.Core.Path.{subst}
+use Prim.Native.Nat.{ℕ}
 use native.Mathlib.Omega.{arith}
-use Rattle.widths.specs.Laws.Limits.{limits}
-use Rattle.links.specs.Laws.PlaneOfPairs.{room_on}
-use Rattle.links.proofs.EveryHeader.{carried_none, carried_more, carried_all}
+use lib.Dec.{eqb}
+use Rattle.planes.specs.Plane.{plane_size}
+use Rattle.planes.specs.Adds.{Adds}
+use Rattle.planes.specs.Laws.AddedBits.{adds_one}
+use Rattle.widths.specs.Widths.{line_bytes}
+use Rattle.links.proofs.EveryHeader.{carried_more, carried_all}
 use Rattle.links.proofs.carry.Goals as goal
 
-pub values-end-requires : goal.values-end-requires
-values-end-requires c = (limits _ c.requires.plane_room.limits).high_h
-
-pub loop-h-init : goal.loop-h-init
-loop-h-init c =
-    (c.values-end.ensures, omega arith, carried_none _ c.requires.plane_room.limits _ _ _ _ _ c.requires.b_value.0 c.requires.b_value.1 _)
-
-pub hop-requires : goal.hop-requires
-hop-requires c =
-    let o = c.loop-h in
-    record {
-      plane_room = room_on _ _ _ _ o.invariant.2.len c.requires.plane_room;
-      b_value = (c.requires.b_value.0, c.requires.b_value.1, omega arith);
-    }
-
-pub loop-h-preserved : goal.loop-h-preserved
-loop-h-preserved c =
-    let o = c.loop-h in (
-      o.invariant.0,
-      omega arith,
-      carried_more _ c.requires.plane_room.limits _ _ _ _ _ c.requires.b_value.0 c.requires.b_value.1 _ _ _ _ (omega arith) o.invariant.2 c.hop.ensures,
-    )
-
-pub shape_of-work : goal.shape_of-work
-shape_of-work c = c.loop-h.invariant.2.len
+pub loop-header-preserved : goal.loop-header-preserved
+loop-header-preserved c =
+    let a = c.args in
+    let size = plane_size (line_bytes a.w) in
+    carried_more a.w c.requires.plane_room.0 _ _ _ _ _ c.requires.points.0 c.requires.points.1 _ _ _ _ (omega (arith, c.loop-header-test.true, c.values-header-end.ensures)) c.loop-header.invariant
+    (subst (λ (m : ℕ). Adds (λ n. eqb n m) a.base size c.loop-header.work c.set_at.new.p) c.crossing.ensures.is (adds_one a.base size _ _ _ c.set_at.ensures c.crossing.ensures.within))
 
 pub returns : goal.returns
 returns c =
-    let o = c.loop-h in
-    carried_all _ c.requires.plane_room.limits _ _ _ _ _ c.requires.b_value.0 c.requires.b_value.1 _ _ _ (omega arith) o.invariant.2
+    carried_all _ c.requires.plane_room.0 _ _ _ _ _ c.requires.points.0 c.requires.points.1 _ _ _
+    (omega (arith, c.loop-header-test.false, c.loop-header.auto.header-end, c.values-header-end.ensures)) c.loop-header.invariant

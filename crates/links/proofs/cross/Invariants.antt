@@ -1,5 +1,4 @@
 use mathlib.Core.Path.{◌≡◌}
-use Prim.Native.Nat.{◌-◌, ◌≤◌}
 use lib.ListN.{length}
 use Rattle.planes.specs.Plane.{plane_size}
 use Rattle.format.specs.Record.{records, of_kind}
@@ -12,9 +11,9 @@ use Rattle.links.proofs.cross.Given as goal
 
 -- the links from place i on are left
 abbrev pub invariant-loop-i : goal.invariant-loop-i
-invariant-loop-i l = (1 ≤ l.i) × (l.i ≤ l.l.misses) × (length l.work ≡ length l.initial.work)
-    × Toward l.base (plane_size (line_bytes l.l.widths)) (pairs l.l.widths (crosses l.l.widths (λ sw p. across sw p (of_kind 2 (records l.n l.store)))))
-    (pairs l.l.widths (crosses l.l.widths (λ sw p. across sw p (part (records l.n l.store) l.i l.l.misses)))) l.initial.work l.work
-
-abbrev pub decreases-loop-i : goal.decreases-loop-i
-decreases-loop-i l = l.l.misses - l.i
+invariant-loop-i l =
+    let w = l.net.layout.widths in
+    let net = records l.net.n l.net.store.now in
+    (length l.work ≡ length l.initial.work)
+    × Toward l.base (plane_size (line_bytes w)) (pairs w (crosses w (λ sw p. across sw p (of_kind 2 net))))
+    (pairs w (crosses w (λ sw p. across sw p (part net l.i l.net.layout.misses)))) l.initial.work l.work

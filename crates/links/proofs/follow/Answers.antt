@@ -1,27 +1,17 @@
-use borrow.Author.Rules.{rules}
-use mathlib.Core.Path.{◌∙◌}
-use Rattle.onestep.specs.ByBytes.{of_body}
-use Rattle.links.specs.Laws.PlaneOfPairs.{room_on}
+use mathlib.Core.Path.{subst}
+use Rattle.planes.specs.Plane.{plane_size}
+use Rattle.planes.specs.Adds.{Adds}
+use Rattle.widths.specs.Widths.{line_bytes}
+use Rattle.links.specs.declared.Link.{Link}
+use Rattle.links.specs.Carried.{one_way, pairs, crosses}
 use Rattle.links.proofs.EveryHeader.{followed}
 use Rattle.links.proofs.follow.Goals as goal
 
-pub carry-requires : goal.carry-requires
-carry-requires c =
-    record {
-      plane_room = c.requires.plane_room;
-      b_value = (c.requires.link_len.1.one, c.requires.link_len.1.other);
-    }
-
-pub carry-requires-2 : goal.carry-requires-2
-carry-requires-2 c =
-    record {
-      plane_room = room_on _ _ _ _ c.carry.ensures.len c.requires.plane_room;
-      b_value = search rules;
-    }
-
-pub shape_of-work : goal.shape_of-work
-shape_of-work c = c.carry-2.ensures.len ∙ c.carry.ensures.len
-
 pub returns : goal.returns
 returns c =
-    followed _ c.requires.plane_room.limits _ (of_body c.args.link.now) _ _ _ c.carry.ensures c.carry-2.ensures
+    let a = c.args in
+    let size = plane_size (line_bytes a.w) in
+    λ l e.
+    followed a.w c.requires.plane_room.0 a.base l _ _ _
+    (subst (λ (k : Link). Adds (pairs a.w (crosses a.w (one_way k.one.switch k.one.port k.other.switch k.other.port))) a.base size a.work.now c.carry.new.work) e c.carry.ensures)
+    (subst (λ (k : Link). Adds (pairs a.w (crosses a.w (one_way k.other.switch k.other.port k.one.switch k.one.port))) a.base size c.carry.new.work c.carry-2.new.work) e c.carry-2.ensures)

@@ -1,21 +1,19 @@
-use native.Mathlib.Omega.{arith}
+use mathlib.Core.Bool.{false≢true}
 use Rattle.sinks.specs.Laws.Turning.{idle_kept, met_start, met_on, met_all}
 use Rattle.meeting.proofs.meet_all.Goals as goal
 
-pub loop-i-init : goal.loop-i-init
-loop-i-init c = (met_start _ _ _ _ c.requires.idle, omega arith)
+pub loop-entry-init : goal.loop-entry-init
+loop-entry-init c = met_start _ _ _ _ c.requires.idle
 
-pub meet-left-requires : goal.meet-left-requires
-meet-left-requires c = record {
-  pitch_in_bounds = (rw c.loop-i.invariant.0.between.len c.requires.pitch_in_bounds.0, c.requires.pitch_in_bounds.1, c.requires.pitch_in_bounds.2);
-  idle = (idle_kept _ _ _ _ _ c.requires.idle c.loop-i.invariant.0.between, c.loop-i.invariant.0.through);
-}
+pub meet-requires-clause-idle : goal.meet-requires-clause-idle
+meet-requires-clause-idle c =
+    (idle_kept _ _ _ _ _ c.requires.idle c.loop-entry.invariant.between, c.loop-entry.invariant.through)
 
-pub loop-i-preserved : goal.loop-i-preserved
-loop-i-preserved c = (met_on _ _ _ _ _ _ _ c.loop-i.invariant.0 c.meet-left.ensures, omega arith)
+pub loop-entry-preserved : goal.loop-entry-preserved
+loop-entry-preserved c = met_on _ _ _ _ _ _ _ c.loop-entry.invariant c.meet.ensures
 
-pub shape_of-work : goal.shape_of-work
-shape_of-work c = c.loop-i.invariant.0.between.len
+pub returns-in_default : goal.returns-in_default
+returns-in_default c = met_all _ _ _ _ _ _ (met_on _ _ _ _ _ _ _ c.loop-entry.invariant c.meet.ensures) (λ t. absurd (false≢true t))
 
 pub returns : goal.returns
-returns c = met_all _ _ _ _ _ _ c.loop-i.invariant.0 c.all_of.ensures
+returns c = met_all _ _ _ _ _ _ c.loop-entry.invariant c.all_of.ensures

@@ -1,10 +1,6 @@
--- `reaching::meet_all` meets its contract.
-use Prim.Native.Nat.{◌-◌, ◌*◌, ◌≤◌}
+-- The lines that are met have the lines of their states.
 use Rattle.sinks.specs.Turns.{Met}
 use Rattle.meeting.proofs.meet_all.Given as goal
 
-abbrev pub invariant-loop-i : goal.invariant-loop-i
-invariant-loop-i l = Met l.to l.pitch l.initial.work l.met l.work × (l.i ≤ l.pitch * 8)
-
-abbrev pub decreases-loop-i : goal.decreases-loop-i
-decreases-loop-i l = l.pitch * 8 - l.i
+abbrev pub invariant-loop-entry : goal.invariant-loop-entry
+invariant-loop-entry l = Met l.to l.pitch l.initial.work l.met l.work

@@ -1,10 +1,6 @@
--- `reaching::or_bytes` meets its contract.
-use Prim.Native.Nat.{◌-◌, ◌≤◌}
+-- The bytes passed have been ORed in.
 use Rattle.meeting.proofs.Gathering.{Joining}
 use Rattle.meeting.proofs.or_bytes.Given as goal
 
 abbrev pub invariant-loop-j : goal.invariant-loop-j
-invariant-loop-j l = (l.j ≤ l.pitch) × Joining l.p l.at l.j l.initial.line l.line
-
-abbrev pub decreases-loop-j : goal.decreases-loop-j
-decreases-loop-j l = l.pitch - l.j
+invariant-loop-j l = Joining l.bytes l.j l.initial.line l.line

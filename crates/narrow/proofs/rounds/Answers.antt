@@ -3,11 +3,10 @@ use Rattle.narrow.proofs.WordRounds.{after_none, after_more, after_all}
 use Rattle.narrow.proofs.rounds.Goals as goal
 
 pub loop-k-init : goal.loop-k-init
-loop-k-init c = (omega arith, after_none _ _)
+loop-k-init c = after_none _ _
 
 pub loop-k-preserved : goal.loop-k-preserved
-loop-k-preserved c =
-    (omega arith, after_more _ _ _ _ _ c.loop-k.invariant.1 c.loop-k-test.true c.requires c.round.ensures)
+loop-k-preserved c = after_more _ _ _ _ _ c.loop-k.invariant c.loop-k-test.true c.requires c.round.ensures
 
 pub returns : goal.returns
-returns c = after_all _ _ _ _ c.loop-k.invariant.1 (omega arith)
+returns c = after_all _ _ _ _ c.loop-k.invariant (omega arith)

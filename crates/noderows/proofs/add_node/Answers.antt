@@ -1,110 +1,102 @@
 use borrow.Author.Tests.{le-leb, lt-leb}
-use mathlib.Core.Path.{◌≡◌, sym, ap, ◌∙◌}
-use mathlib.Core.Bool.{Bool, true, false, ◌&&◌, ◌||◌}
-use Prim.Native.Nat.{ℕ}
-use lib.Dec.{leb}
-use lib.ListN.{length}
+use Rattle.std.proofs.Common.{◌≡◌, Bool, true, false, ◌&&◌, ◌||◌, ◌⊎◌, inl, inr, ℕ, ◌<◌, ◌≤◌, leb, length, sym, ap, ap₂, ◌∙◌}
+use Rattle.std.proofs.Math.Path.{fun_ext}
+use Rattle.std.proofs.Math.Bool.{and-false}
+use Rattle.std.proofs.Math.Option.{some}
 use Rattle.basics.specs.Bit.{bit_of}
 use Rattle.format.specs.Record.{Rec, Net, at, kind}
-use Rattle.format.specs.Policy.{Formula, Y, said, free, nodes_of, policy_count}
-use Rattle.refusals.specs.Rows.{operands_good, ends_policy, free_at}
+use Rattle.format.specs.Policy.{node_kind, first_nodes, nodes_of, policy_count}
+use Rattle.format.specs.declared.kinds.NodeKind.{NodeKind}
+use Rattle.refusals.specs.Rows.{operands_earlier, operands_good, ends_policy, free_at}
 use Rattle.refusals.specs.Refusal.{row}
-use Rattle.format.specs.Search.{records_after}
-use Rattle.noderows.specs.Policies.{PoliciesOf, follows, Entered, node_row}
+use Rattle.noderows.specs.Policies.{follows, Entered, y_said, node_row}
 use Rattle.noderows.specs.declared.Policies.{Policies}
-use Rattle.noderows.specs.Laws.Formulas.{free_at_lem}
+use Rattle.noderows.specs.Laws.Formulas.{free_at_lem, y_said_lem}
 use Rattle.noderows.specs.Laws.NodeRows.{not_next, not_earlier, free_at_end, row_ten}
+use Rattle.noderows.proofs.add_node.Goals.{else-y-via-then-y+else-ends_policy, else-y-via-else-y, then-r-ge-MOST_POLICIES-via-then-r-ge-MOST_POLICIES, then-r-ge-MOST_POLICIES-via-else-r-ge-MOST_POLICIES+then-here-ge-MOST_NODES}
 use Rattle.noderows.proofs.add_node.Goals as goal
 
--- what y_free says of a node
-abbrev Told : Rec → ℕ → Bool → Type 0
-Told r mask y = (operand : ℕ → Formula) → ((j : ℕ) → bit_of mask j ≡ free Y (operand j)) → y ≡ free Y (said r operand)
+-- the tests of the code, of a node whose policy was entered
+module _ (before : Net) (r : Rec) (k : NodeKind) (is : k ≡ node_kind (at r 2)) (here : Policies) (entered : Entered before (at r 1) here) where
+  operands : (b : Bool) → b ≡ operands_earlier k (at r 3) (at r 4) here.nodes → operands_good (at r 2) (at r 3) (at r 4) (length (nodes_of (at r 1) before)) ≡ b
+  unfolding operands_good
+  operands b e = ap₂ (λ (K : NodeKind) (n : ℕ). operands_earlier K (at r 3) (at r 4) n) (sym is) (sym entered.nodes) ∙ sym e
 
--- the rows of a node, by the tests of the code
-module _ (before : Net) (r : Rec) (after : Net) (node : kind r ≡ 5) where
-  by_count : (s : Policies) (b : Bool) → PoliciesOf before s → b ≡ follows (at r 1) s.count → follows (at r 1) (policy_count before) ≡ b
-  by_count s b known e = ap (follows (at r 1)) (sym known.count) ∙ sym e
+  y_free : (y : Bool) → y ≡ y_said k (at r 3) (at r 4) (bit_of here.free) → free_at before r ≡ y
+  y_free y e =
+      free_at_lem before r
+      ∙ y_said_lem (node_kind (at r 2)) (at r 3) (at r 4) (first_nodes (nodes_of (at r 1) before) (length (nodes_of (at r 1) before)))
+      ∙ ap₂ (λ (K : NodeKind) (f : ℕ → Bool). y_said K (at r 3) (at r 4) f) (sym is) (sym (fun_ext entered.marks))
+      ∙ sym e
 
-  module _ (here : Policies) (entered : Entered before (at r 1) here) where
-    by_nodes : (b : Bool) → b ≡ operands_good (at r 2) (at r 3) (at r 4) here.nodes
-        → operands_good (at r 2) (at r 3) (at r 4) (length (nodes_of (at r 1) before)) ≡ b
-    by_nodes b e = ap (operands_good (at r 2) (at r 3) (at r 4)) (sym entered.nodes) ∙ sym e
+  ten : (after : Net) → kind r ≡ 5 → follows (at r 1) (policy_count before) ≡ true → true ≡ operands_earlier k (at r 3) (at r 4) here.nodes
+      → (ends_policy r after && free_at before r) ≡ false → node_row before r after ≡ row (leb 8 (at r 1) || leb 32 here.nodes) 10 (length before)
+  ten after node follow good e = row_ten before r after node follow (operands true good) e ∙ rw entered.nodes
 
-    by_free : (y : Bool) → Told r here.free y → y ≡ free_at before r
-    by_free y t = t _ entered.marks ∙ sym (free_at_lem before r)
+-- no end of a policy at which Y is free: by either of the tests of the code
+fine : (before : Net) (r s : Rec) (after : Net) (y : Bool) → r ≡ s → free_at before r ≡ y → (ends_policy s after ≡ false) ⊎ (y ≡ false) → (ends_policy r after && free_at before r) ≡ false
+fine before r s after y is free (inl ends) = rw (is, ends)
+fine before r s after y is free (inr none) = rw (free ∙ none) (and-false (ends_policy r after))
 
-    by_end : (y b : Bool) → Told r here.free y → b ≡ (ends_policy r after && y) → (ends_policy r after && free_at before r) ≡ b
-    by_end y b t e = ap (λ (f : Bool). ends_policy r after && f) (sym (by_free y t)) ∙ sym e
+-- one policy or node too many
+over : (p nodes place : ℕ) → (8 ≤ p) ⊎ ((p < 8) × (32 ≤ nodes)) → row (leb 8 p || leb 32 nodes) 10 place ≡ some (10, place)
+over p nodes place (inl h) = rw (le-leb 8 p h)
+over p nodes place (inr h) = rw (lt-leb 8 p h.0, le-leb 32 nodes h.1)
 
-    to_ten : follows (at r 1) (policy_count before) ≡ true → operands_good (at r 2) (at r 3) (at r 4) (length (nodes_of (at r 1) before)) ≡ true
-        → (ends_policy r after && free_at before r) ≡ false → node_row before r after ≡ row (leb 8 (at r 1) || leb 32 here.nodes) 10 (length before)
-    to_ten f o e = row_ten before r after node f o e ∙ rw entered.nodes
-
-pub returns-then-not-is_next : goal.returns-then-not-is_next
-returns-then-not-is_next c before known =
-    let a = c.args in
-    let r = a.r.now in
-    let after = records_after a.n a.store.now a.i in
-    let node = c.requires.3 in
-    not_next before r after node (by_count before r after node _ _ known c.is_next.ensures ∙ c.if-not-is_next.true)
+pub returns-in_default : goal.returns-in_default
+returns-in_default c before known =
+    let is = c.record-r.ensures.is in
+    rw (← is) (not_next before _ _ (ap kind is ∙ c.requires) (c.in_default.ensures before known))
 
 pub returns-then-not-operands_good : goal.returns-then-not-operands_good
 returns-then-not-operands_good c before known =
-    let a = c.args in
-    let r = a.r.now in
-    let after = records_after a.n a.store.now a.i in
-    let node = c.requires.3 in
-    let follow = c.if-not-is_next.false in
-    let here = c.entered-here.ensures before known (sym c.is_next.ensures ∙ follow) in
-    not_earlier before r after node (by_nodes before r after node _ here _ c.operands_good.ensures ∙ c.if-not-operands_good.true)
+    let is = c.record-r.ensures.is in
+    let e = c.in-Some.ensures before known in
+    let r = c.record-r.result.now in
+    rw (← is) (not_earlier before r _ (ap kind is ∙ c.requires) (operands before r _ c.from-kind.ensures _ e.1 _ c.operands_good.ensures ∙ c.if-not-operands_good.true))
 
-pub returns-then-ends_with : goal.returns-then-ends_with
-returns-then-ends_with c before known =
-    let a = c.args in
-    let r = a.r.now in
-    let after = records_after a.n a.store.now a.i in
-    let node = c.requires.3 in
-    let follow = c.if-not-is_next.false in
-    let here = c.entered-here.ensures before known (sym c.is_next.ensures ∙ follow) in
-    free_at_end before r after node (by_end before r after node _ here _ _ c.y_free-y.ensures c.ends_with.ensures ∙ c.if-ends_with.true)
+pub returns-then-ends_policy : goal.returns-then-ends_policy
+returns-then-ends_policy c before known =
+    let is = c.record-r.ensures.is in
+    let e = c.in-Some.ensures before known in
+    let r = c.record-r.result.now in
+    let ends = sym c.ends_policy.ensures ∙ c.if-ends_policy.true in
+    let y = y_free before r _ c.from-kind.ensures _ e.1 _ c.y_free-y.ensures ∙ c.if-y.true in
+    rw (← is) (free_at_end before r _ (ap kind is ∙ c.requires) (rw (y, is, ends)))
 
-pub returns-then-p-ge-MOST_POLICIES : goal.returns-then-p-ge-MOST_POLICIES
-returns-then-p-ge-MOST_POLICIES c before known =
-    let a = c.args in
-    let r = a.r.now in
-    let after = records_after a.n a.store.now a.i in
-    let node = c.requires.3 in
-    let follow = c.if-not-is_next.false in
-    let here = c.entered-here.ensures before known (sym c.is_next.ensures ∙ follow) in
-    to_ten before r after node _ here (by_count before r after node _ _ known c.is_next.ensures ∙ follow)
-    (by_nodes before r after node _ here _ c.operands_good.ensures ∙ c.if-not-operands_good.false)
-    (by_end before r after node _ here _ _ c.y_free-y.ensures c.ends_with.ensures ∙ c.if-ends_with.false)
-    ∙ rw (le-leb 8 _ c.if-p-ge-MOST_POLICIES.true)
-
-pub returns-then-nodes-ge-MOST_NODES : goal.returns-then-nodes-ge-MOST_NODES
-returns-then-nodes-ge-MOST_NODES c before known =
-    let a = c.args in
-    let r = a.r.now in
-    let after = records_after a.n a.store.now a.i in
-    let node = c.requires.3 in
-    let follow = c.if-not-is_next.false in
-    let here = c.entered-here.ensures before known (sym c.is_next.ensures ∙ follow) in
-    to_ten before r after node _ here (by_count before r after node _ _ known c.is_next.ensures ∙ follow)
-    (by_nodes before r after node _ here _ c.operands_good.ensures ∙ c.if-not-operands_good.false)
-    (by_end before r after node _ here _ _ c.y_free-y.ensures c.ends_with.ensures ∙ c.if-ends_with.false)
-    ∙ rw (lt-leb 8 _ c.if-p-ge-MOST_POLICIES.false, le-leb 32 _ c.if-nodes-ge-MOST_NODES.true)
+pub returns-then-r-ge-MOST_POLICIES : goal.returns-then-r-ge-MOST_POLICIES
+returns-then-r-ge-MOST_POLICIES c before known =
+    let is = c.record-r.ensures.is in
+    let e = c.in-Some.ensures before known in
+    let r = c.record-r.result.now in
+    let good = sym c.if-not-operands_good.false ∙ c.operands_good.ensures in
+    let y = y_free before r _ c.from-kind.ensures _ e.1 _ c.y_free-y.ensures in
+    let no_fault =
+    fine before r _ _ _ is y (
+    elim c.else-y.branch [
+      | else-y-via-then-y+else-ends_policy w ↦ inl (sym w.ends_policy.ensures ∙ w.if-ends_policy.false)
+      | else-y-via-else-y w ↦ inr w.if-y.false
+    ]
+    ) in
+    let limit = ten before r _ c.from-kind.ensures _ e.1 _ (ap kind is ∙ c.requires) e.0 good no_fault in
+    rw (← is) (limit ∙ over _ _ _ c.then-r-ge-MOST_POLICIES.either)
 
 pub returns : goal.returns
 returns c before known =
-    let a = c.args in
-    let r = a.r.now in
-    let after = records_after a.n a.store.now a.i in
-    let node = c.requires.3 in
-    let follow = c.if-not-is_next.false in
-    let here = c.entered-here.ensures before known (sym c.is_next.ensures ∙ follow) in (
-      to_ten before r after node _ here (by_count before r after node _ _ known c.is_next.ensures ∙ follow)
-          (by_nodes before r after node _ here _ c.operands_good.ensures ∙ c.if-not-operands_good.false)
-          (by_end before r after node _ here _ _ c.y_free-y.ensures c.ends_with.ensures ∙ c.if-ends_with.false)
-          ∙ rw (lt-leb 8 _ c.if-p-ge-MOST_POLICIES.false, lt-leb 32 _ c.if-nodes-ge-MOST_NODES.false),
-      c.with_node.ensures before r node here (by_free before r after node _ here _ c.y_free-y.ensures),
+    let is = c.record-r.ensures.is in
+    let e = c.in-Some.ensures before known in
+    let r = c.record-r.result.now in
+    let good = sym c.if-not-operands_good.false ∙ c.operands_good.ensures in
+    let y = y_free before r _ c.from-kind.ensures _ e.1 _ c.y_free-y.ensures in
+    let no_fault =
+    fine before r _ _ _ is y (
+    elim c.else-y.branch [
+      | else-y-via-then-y+else-ends_policy w ↦ inl (sym w.ends_policy.ensures ∙ w.if-ends_policy.false)
+      | else-y-via-else-y w ↦ inr w.if-y.false
+    ]
+    ) in
+    let limit = ten before r _ c.from-kind.ensures _ e.1 _ (ap kind is ∙ c.requires) e.0 good no_fault in
+    rw (← is) (
+      limit ∙ rw (lt-leb 8 _ c.if-r-ge-MOST_POLICIES.false, lt-leb 32 _ c.if-here-ge-MOST_NODES.false),
+      c.with_node.ensures before r (ap kind is ∙ c.requires) e.1 (sym y),
     )

@@ -1,19 +1,22 @@
 -- Laws of the formulas of a policy's nodes: more nodes change none of them, and a mask keeps in which of them Y is free.
-use Rattle.std.specs.Prelude.{◌≡◌, refl, Bool, true, cond, ◌&&◌, ◌||◌, ◌⊎◌, [], ◌∷◌, ◌++◌, ℕ, zero, suc, ◌^◌, ◌≤◌, ◌<◌, get_or}
+use Rattle.std.specs.Prelude.{◌≡◌, refl, Bool, true, not, cond, ◌&&◌, ◌||◌, ◌⊎◌, [], ◌∷◌, ◌++◌, ℕ, zero, suc, ◌/◌, ◌%◌, ◌^◌, ◌≤◌, ◌<◌, get_or}
 use Rattle.std.proofs.Math.Path.{sym, ap, fun_ext}
 use Rattle.std.proofs.Common.{ap₂, ◌∙◌, inl, inr, ⊎_elim, not-suc-le-zero, le_of_suc-le-suc, eq-or-lt_of_le, arith, length-append}
 use Rattle.std.proofs.Math.Bool.{false, and-true, and-false, or-false}
 use Rattle.std.specs.Int.Bits.{bit_or}
-use Rattle.std.proofs.Math.Dec.{eqb}
+use Rattle.std.proofs.Math.Dec.{eqb, eqb-suc-zero}
 use Rattle.std.proofs.Math.ListN.{length, get_or-append}
 use Rattle.std.proofs.Math.Seq.{get_or-append_seam}
 use borrow.Author.Tests.{eq-eqb, ne_eqb, eqb-true, eqb-false}
 use Rattle.basics.specs.Bit.{bit_of}
 use Rattle.basics.specs.Laws.Bits.{bit-zero, bit_or_lem, bit_power}
 use Rattle.format.specs.Record.{Rec, Net, at}
-use Rattle.format.specs.Policy.{Formula, Y, absent, said, first_nodes, formula, nodes_of, free}
+use Rattle.format.specs.Policy.{Formula, absent, var_of, node_says, said, first_nodes, formula, nodes_of, same_var, free}
+use Rattle.format.specs.declared.kinds.NodeKind.{NodeKind}
+use Rattle.format.specs.declared.kinds.NodeKind.TheVariants.{Bit as k_bit, R as k_r, E as k_e, Not as k_not, And as k_and, Or as k_or, Some as k_some, All as k_all, Tc as k_tc, Unknown as k_none}
+use Rattle.format.specs.declared.kinds.Var.TheVariants.{Y}
 use Rattle.refusals.specs.Rows.{free_at}
-use Rattle.noderows.specs.Policies.{Marks}
+use Rattle.noderows.specs.Policies.{Marks, y_said}
 
 -- more nodes change none of the first k formulas
 pub first_prefix : (nodes more : Net) (k : ℕ) → k ≤ length nodes → first_nodes (nodes ++ more) k ≡ first_nodes nodes k
@@ -44,6 +47,30 @@ first_last nodes k = rw (eq-eqb k k refl, first_nodes)
 pub first_other : (nodes : Net) (k j : ℕ) → (j ≡ k → ⊥) → first_nodes nodes (suc k) j ≡ first_nodes nodes k j
 unfolding first_nodes
 first_other nodes k j h = rw (ne_eqb j k h, first_nodes)
+
+-- whether Y is free in a node, by its kind
+y_named : (a : ℕ) → same_var Y (var_of a) ≡ not (eqb a 0)
+y_named zero = refl
+y_named (suc a) = ap not (sym (eqb-suc-zero a))
+
+removed : (f b : Bool) → (f && not (not b)) ≡ (b && f)
+removed true true = refl
+removed true false = refl
+removed false true = refl
+removed false false = refl
+
+pub y_said_lem : (k : NodeKind) (a b : ℕ) (operand : ℕ → Formula) → free Y (node_says k a b operand) ≡ y_said k a b (λ j. free Y (operand j))
+unfolding node_says free
+y_said_lem k_bit a b operand = y_named a
+y_said_lem k_r a b operand = ap₂ ◌||◌ (y_named a) (y_named b)
+y_said_lem k_e a b operand = y_named a
+y_said_lem k_not a b operand = refl
+y_said_lem k_and a b operand = refl
+y_said_lem k_or a b operand = refl
+y_said_lem k_some a b operand = rw (y_named b) (removed (free Y (operand a)) (eqb b 0))
+y_said_lem k_all a b operand = rw (y_named b) (removed (free Y (operand a)) (eqb b 0))
+y_said_lem k_tc a b operand = ap₂ ◌||◌ (y_named (b / 2)) (y_named (b % 2))
+y_said_lem k_none a b operand = refl
 
 -- no node stands at k or beyond among the first k
 pub first_beyond : (nodes : Net) (k j : ℕ) → k ≤ j → first_nodes nodes k j ≡ absent

@@ -5,7 +5,9 @@ use Rattle.std.proofs.Math.Bool.{true, false}
 use mathlib.Core.List.{List, [], ◌++◌}
 use Prim.Native.Nat.{ℕ, zero, suc, ◌+◌, ◌*◌}
 use Rattle.std.proofs.Math.ListN.{get_or}
-use Rattle.format.specs.Record.{Rec, Net, at, ActionKind, k_output, k_set, k_in_port, k_run_group, k_no_action, action_kind, of_kind}
+use Rattle.format.specs.Record.{Rec, Net, at, action_kind, of_kind}
+use Rattle.format.specs.declared.kinds.ActionKind.{ActionKind}
+use Rattle.format.specs.declared.kinds.ActionKind.TheVariants.{Output as k_output, Set as k_set, InPort as k_in_port, RunGroup as k_run_group, Unknown as k_no_action}
 use Rattle.format.specs.Group.{is_group}
 use Rattle.format.specs.Search.{first_at}
 use Rattle.widths.specs.declared.Widths.{Widths}

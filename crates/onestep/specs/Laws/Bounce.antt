@@ -10,7 +10,9 @@ use Rattle.std.proofs.Math.Decide.{ℕ_discrete}
 use native.Mathlib.Omega.{arith}
 use Rattle.basics.specs.Laws.Tests.{or_left, or_right, or_cases}
 use Rattle.basics.specs.Lists.{any, member}
-use Rattle.format.specs.Record.{Rec, Net, at, ActionKind, k_output, k_set, k_in_port, k_run_group, k_no_action, action_kind}
+use Rattle.format.specs.Record.{Rec, Net, at, action_kind}
+use Rattle.format.specs.declared.kinds.ActionKind.{ActionKind}
+use Rattle.format.specs.declared.kinds.ActionKind.TheVariants.{Output as k_output, Set as k_set, InPort as k_in_port, RunGroup as k_run_group, Unknown as k_no_action}
 use Rattle.format.specs.Fields.{actions_good}
 use Rattle.format.specs.State.{state, port_of}
 use Rattle.basics.specs.Laws.Every.{in_empty, every_member}

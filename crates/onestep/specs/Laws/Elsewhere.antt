@@ -9,7 +9,9 @@ use Rattle.std.proofs.Math.Decide.{ℕ_discrete}
 use Rattle.std.proofs.Math.Dec.{eqb}
 use Rattle.basics.specs.Lists.{keep, from}
 use Rattle.format.specs.Record.{Rec, Net, at, kind, of_kind}
-use Rattle.format.specs.Group.{bucket_value, bucket_care, bucket_kind, bucket_target, TargetKind, k_port, k_lower_group, k_no_target, target_kind, is_group}
+use Rattle.format.specs.Group.{bucket_value, bucket_care, bucket_kind, bucket_target, target_kind, is_group}
+use Rattle.format.specs.declared.kinds.TargetKind.{TargetKind}
+use Rattle.format.specs.declared.kinds.TargetKind.TheVariants.{Port as k_port, LowerGroup as k_lower_group, Unknown as k_no_target}
 use Rattle.format.specs.Search.{first_at}
 use Rattle.format.specs.Fields.{buckets_good}
 use Rattle.format.specs.Pattern.{pattern_good, put_bits}

@@ -6,7 +6,9 @@ use Rattle.std.proofs.Math.Bool.{true, false}
 use Rattle.std.proofs.Math.Decide.{dec_lt}
 use Rattle.std.proofs.lemmas.Nat.{and_le_r}
 use Rattle.basics.specs.Laws.Tests.{not_both, and_left}
-use Rattle.format.specs.Record.{Rec, at, ActionKind, k_output, k_run_group, action_kind}
+use Rattle.format.specs.Record.{Rec, at, action_kind}
+use Rattle.format.specs.declared.kinds.ActionKind.{ActionKind}
+use Rattle.format.specs.declared.kinds.ActionKind.TheVariants.{Output as k_output, RunGroup as k_run_group}
 use Rattle.format.specs.Pattern.{pattern_good}
 use Rattle.format.specs.Fields.{used_fields, used_good, unused_good, action_bytes_good, action_good, actions_good}
 use Rattle.format.specs.Laws.Fields.{count_high, action_each}

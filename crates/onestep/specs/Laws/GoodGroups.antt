@@ -4,7 +4,9 @@ use Rattle.std.specs.Prelude.{◌≡◌, true, ℕ, ◌^◌, ◌<◌, ◌≤◌}
 use Rattle.std.proofs.Math.Decide.{dec_lt}
 use Rattle.basics.specs.Laws.Tests.{not_both, and_right}
 use Rattle.format.specs.Record.{Rec, at}
-use Rattle.format.specs.Group.{bucket_value, bucket_care, bucket_kind, bucket_target, TargetKind, k_port, k_lower_group, target_kind, IsBucket}
+use Rattle.format.specs.Group.{bucket_value, bucket_care, bucket_kind, bucket_target, target_kind, IsBucket}
+use Rattle.format.specs.declared.kinds.TargetKind.{TargetKind}
+use Rattle.format.specs.declared.kinds.TargetKind.TheVariants.{Port as k_port, LowerGroup as k_lower_group}
 use Rattle.format.specs.Pattern.{pattern_good}
 use Rattle.format.specs.Fields.{target_fields, buckets_good}
 use Rattle.format.specs.Laws.Fields.{buckets_high, bucket_used, bucket_each}

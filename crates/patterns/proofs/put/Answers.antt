@@ -26,37 +26,22 @@ more value care x i b e = rw (add-one i, e)
 
 pub loop-i-init : goal.loop-i-init
 unfolding put_bits
-loop-i-init c = (omega arith, refl)
-
-pub ternary_at-requires : goal.ternary_at-requires
-ternary_at-requires c = omega (arith, c.requires)
-
-pub bit_of-requires : goal.bit_of-requires
-bit_of-requires c = omega (arith, c.requires)
+loop-i-init c = refl
 
 pub overflow_add-result : goal.overflow_add-result
 overflow_add-result c =
     let o = c.loop-i in
     let l : o.i < 6 = omega (arith, c.requires) in
-    omega (arith, o.invariant.1, weight_is o.i l, weight_low o.i l, put_lt c.args.value c.args.care c.args.x o.i)
+    omega (arith, o.invariant, weight_is o.i l, weight_low o.i l, put_lt c.args.value c.args.care c.args.x o.i)
 
 pub loop-i-preserved : goal.loop-i-preserved
 loop-i-preserved c =
     let o = c.loop-i in
     let a = c.args in
     let l : o.i < 6 = omega (arith, c.requires) in
-    let e = c.written.ensures ∙ ap₂ written c.ternary_at.ensures c.bit_of.ensures in
-    let m = more a.value a.care a.x o.i _ e in (
-      omega arith,
-      elim c.if-written.branch [
-        | then-written w ↦ rw (m, w.if-written.true) (omega (arith, w.result-is, o.invariant.1, weight_is o.i l))
-        | else-written w ↦ rw (m, w.if-written.false) (omega (arith, w.result-is, o.invariant.1))
-      ],
-    )
-
-pub returns : goal.returns
-returns c =
-    let o = c.loop-i in
-    let a = c.args in
-    let e : o.i ≡ a.k = omega arith in
-    o.invariant.1 ∙ ap (λ (n : ℕ). put_bits n a.value a.care a.x) e
+    let e = c.written.ensures ∙ ap₂ written c.ternary_at.ensures (c.bit_of.ensures ∙ ap₂ bit_of c.from.ensures c.from-in-loop-i.ensures) in
+    let m = more a.value a.care a.x o.i _ e in
+    elim c.if-written.branch [
+      | then-written w ↦ rw (m, w.if-written.true) (omega (arith, w.result-is, o.invariant, weight_is o.i l))
+      | else-written w ↦ rw (m, w.if-written.false) (omega (arith, w.result-is, o.invariant))
+    ]

@@ -1,11 +1,7 @@
 use mathlib.Core.Path.{◌≡◌}
-use Prim.Native.Nat.{◌-◌, ◌≤◌}
 use Rattle.format.specs.Pattern.{put_bits}
 use Rattle.patterns.proofs.put.Given as goal
 
 -- the bits below i are written
 abbrev pub invariant-loop-i : goal.invariant-loop-i
-invariant-loop-i l = (l.i ≤ l.k) × (l.result ≡ put_bits l.i l.value l.care l.x)
-
-abbrev pub decreases-loop-i : goal.decreases-loop-i
-decreases-loop-i l = l.k - l.i
+invariant-loop-i l = l.result ≡ put_bits l.i l.value l.care l.x

@@ -1,17 +1,15 @@
-use mathlib.Core.Path.{sym, ◌∙◌}
+use borrow.Author.Rules.{rules}
 use Rattle.format.specs.Pattern.{ternary}
 use Rattle.patterns.proofs.ternary_at.Goals as goal
 
-pub returns-then-not-bit_of : goal.returns-then-not-bit_of
+pub returns-in-true-true : goal.returns-in-true-true
 unfolding ternary
-returns-then-not-bit_of c = rw (sym c.bit_of.ensures ∙ c.if-not-bit_of.true)
+returns-in-true-true c = search rules
 
-pub returns-then-bit_of : goal.returns-then-bit_of
+pub returns-in-true-false : goal.returns-in-true-false
 unfolding ternary
-returns-then-bit_of c =
-    rw (sym c.bit_of.ensures ∙ c.if-not-bit_of.false, sym c.bit_of-2.ensures ∙ c.if-bit_of.true)
+returns-in-true-false c = search rules
 
-pub returns-else-bit_of : goal.returns-else-bit_of
+pub returns-in-false-default : goal.returns-in-false-default
 unfolding ternary
-returns-else-bit_of c =
-    rw (sym c.bit_of.ensures ∙ c.if-not-bit_of.false, sym c.bit_of-2.ensures ∙ c.if-bit_of.false)
+returns-in-false-default c = search rules

@@ -1,6 +1,8 @@
 -- `planes::load_line` meets its contract.
-use borrow.Author.Rules.{rules}
+use mathlib.Core.Path.{refl}
+use Rattle.planes.specs.Laws.LaidBytes.{part_put, loaded}
 use Rattle.planes.proofs.load_line.Goals as goal
 
-pub returns-then-pitch-eq128 : goal.returns-then-pitch-eq128
-returns-then-pitch-eq128 c = rw c.if-pitch-eq128.true c.copy_line.ensures
+pub returns : goal.returns
+returns c =
+    loaded _ _ 128 _ _ (part_put _ _ _ _ _ _ _ refl c.requires.0 c.put.ensures)

@@ -1,7 +1,6 @@
 -- `planes::set_at` meets its contract.
 use Rattle.planes.specs.Laws.Places.{byte_at, place_at}
 use Rattle.planes.specs.Laws.StoredBit.{bit_set}
-use borrow.Author.Rules.{rules}
 use Rattle.planes.proofs.set_at.Goals as goal
 
 pub returns : goal.returns

@@ -1,20 +1,18 @@
 -- `quantify::gather_x` meets its contract.
 use mathlib.Core.Path.{refl, sym, ◌∙◌}
-use native.Mathlib.Omega.{arith}
 use Rattle.forms.specs.Forms.{joined}
 use Rattle.quantify.proofs.Gathered.{taken_none, taken_more}
 use Rattle.quantify.proofs.gather_x.Goals as goal
 
 pub loop-x-init : goal.loop-x-init
 loop-x-init c =
-    let tests = joined c.args.t c.args.a c.args.b c.args.work.now c.args.pitch in
-    (omega arith, refl, taken_none c.args.o c.requires.quantifies.0 _ _ tests c.units-c.ensures c.requires.paired.first.small)
+    let tests = joined c.args.j c.args.work.now c.args.pitch in
+    (refl, taken_none c.args.o c.requires.quantifies.0 _ _ tests c.units-r.ensures c.requires.paired.first.small)
 
 pub loop-x-preserved : goal.loop-x-preserved
 loop-x-preserved c =
-    let tests = joined c.args.t c.args.a c.args.b c.args.work.now c.args.pitch in
+    let tests = joined c.args.j c.args.work.now c.args.pitch in
     let I = c.loop-x.invariant in (
-      omega (arith, c.loop-x-test.true),
-      I.1 ∙ sym c.take_join.ensures.len,
-      taken_more c.args.o c.requires.quantifies.0 _ _ tests _ _ _ _ _ I.2 c.line_of-e.ensures c.take_join.ensures,
+      I.0 ∙ sym c.take_join.ensures.len,
+      taken_more c.args.o c.requires.quantifies.0 _ _ tests _ _ _ _ _ I.1 c.line_of-e.ensures c.take_join.ensures,
     )

@@ -1,13 +1,10 @@
--- `nodes::shapes::gather_x` meets its contract. The loop's invariant is the contract at the x lines passed.
+-- `quantify::gather_x`: the contract at the x lines passed.
 use mathlib.Core.Path.{◌≡◌}
-use Prim.Native.Nat.{◌*◌, ◌-◌, ◌≤◌}
+use Prim.Native.Nat.{◌*◌}
 use lib.ListN.{length}
 use Rattle.lines.specs.Shapes.{over, Line}
 use Rattle.forms.specs.Forms.{joined}
 use Rattle.quantify.proofs.gather_x.Given as goal
 
 abbrev pub invariant-loop-x : goal.invariant-loop-x
-invariant-loop-x l = (l.x ≤ l.pitch * 8) × (128 ≡ length l.r) × Line (λ y. over l.o l.x (λ i. joined l.t l.a l.b l.work l.pitch i y)) (l.pitch * 8) l.r
-
-abbrev pub decreases-loop-x : goal.decreases-loop-x
-decreases-loop-x l = l.pitch * 8 - l.x
+invariant-loop-x l = (128 ≡ length l.r) × Line (λ y. over l.o l.x (λ i. joined l.j l.work l.pitch i y)) (l.pitch * 8) l.r

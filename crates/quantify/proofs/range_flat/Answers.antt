@@ -1,15 +1,15 @@
 -- `quantify::range_flat` meets its contract.
-use mathlib.Core.Path.{◌∙◌}
-use Rattle.format.specs.Policy.{var_of}
+use mathlib.Core.Path.{sym, ◌∙◌}
 use Rattle.quantify.proofs.Gathered.{flat_same, flat_other}
 use Rattle.quantify.proofs.range_flat.Goals as goal
+use Rattle.quantify.proofs.range_flat.Goals.{then-same, else-same}
 
-pub returns-then-code-other : goal.returns-then-code-other
-returns-then-code-other c =
+pub returns : goal.returns
+returns c =
     let s = c.args in
-    flat_same s.o c.requires.quantifies s.t s.a s.b _ _ _ _ (var_of s.u) (var_of s.v) _ c.line_code-code.ensures (c.if-code-other.true ∙ c.line_code-other.ensures) c.same_line.ensures
-
-pub returns-else-code-other : goal.returns-else-code-other
-returns-else-code-other c =
-    let s = c.args in
-    flat_other s.o c.requires.quantifies s.t s.a s.b _ _ _ _ (var_of s.u) (var_of s.v) _ _ c.line_code-code.ensures c.line_code-other.ensures c.if-code-other.false c.join_lines.ensures
+    let Q = c.requires.quantifies in
+    rw c.line.ensures
+    (elim c.if-same.branch [
+      | then-same w ↦ rw w.work-is (flat_same s.o Q s.j _ _ _ _ s.u s.v (sym c.same.ensures ∙ w.if-same.true) c.requires.flat (rw (c.start-a.ensures, c.start-b.ensures) at w.same_line.ensures))
+      | else-same w ↦ rw w.work-is (flat_other s.o Q s.j _ _ _ _ s.u s.v (sym c.same.ensures ∙ w.if-same.false) c.requires.flat (rw (c.start-a.ensures, c.start-b.ensures) at w.join_lines.ensures))
+    ])

@@ -16,7 +16,7 @@ use Rattle.format.specs.Fields.{fields_good}
 use Rattle.refusals.specs.Refusal.{Refusal, or_else, row, record_row}
 use Rattle.format.specs.Laws.Groups.{widths_there, link_there, miss_there, rule_there, node_there, group_there}
 use Rattle.refusals.specs.Laws.Passing.{kind_known}
-use Rattle.recordrow.specs.Scan.{SeenOf, Placed, form_row, Later}
+use Rattle.recordrow.specs.Scan.{SeenOf, form_row, Later}
 use Rattle.noderows.specs.Policies.{node_row}
 use Rattle.recordrow.specs.declared.Seen.{Seen}
 
@@ -105,10 +105,7 @@ module _ (before : Net) (r : Rec) (after : Net) where
   unfolding record_row row3
   kind_above h n = rw (le-ltb (kind r) 1 (omega arith), lt-ltb 5 (kind r) h, ne_eqb (kind r) 9 n)
 
--- the kinds 2 to 5 come after the widths, and are no group
-pub later : (r : Rec) → 2 ≤ kind r → kind r ≤ 5 → Later r
-later r low high = (low, λ g. absurd (omega arith))
-
+-- the kinds below 6 are no group
 no_group : (r : Rec) → kind r ≤ 5 → kind r ≡ 9 → ⊥
 no_group r high e = omega arith
 
@@ -155,15 +152,15 @@ module _ (before : Net) (s : Seen) (known : SeenOf before s) (r : Rec) where
   fields_row n = rw (known.widths, ne_eqb (kind r) 9 n)
 
   -- row 3 is met; row 5 is, and not row 3; neither is
-  module _ (met : Bool) (placed : Placed r s met) (x : Refusal) where
+  module _ (met : Bool) (placed : met ≡ row3 before r) (x : Refusal) where
     pub order_first : met ≡ true → or_else (form_row before r) x ≡ some (3, length before)
-    order_first e = rw (sym (placed.is before known) ∙ e)
+    order_first e = rw (sym placed ∙ e)
 
     pub fields_first : met ≡ false → kind r ≤ 5 → fields_good s.widths r ≡ false → or_else (form_row before r) x ≡ some (5, length before)
-    fields_first e h f = rw (sym (placed.is before known) ∙ e, fields_row (no_group r h), f)
+    fields_first e h f = rw (sym placed ∙ e, fields_row (no_group r h), f)
 
     pub formed : met ≡ false → kind r ≤ 5 → fields_good s.widths r ≡ true → or_else (form_row before r) x ≡ x
-    formed e h f = rw (sym (placed.is before known) ∙ e, fields_row (no_group r h), f)
+    formed e h f = rw (sym placed ∙ e, fields_row (no_group r h), f)
 
   -- row 16 of a group by what is known
   pub group_row : (after : Net) → kind r ≡ 9

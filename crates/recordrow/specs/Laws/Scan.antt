@@ -1,21 +1,20 @@
 -- Laws of what the scan knows, as one record more comes.
-use Rattle.std.specs.Prelude.{◌≡◌, refl, true, cond, List, [], ◌∷◌, ◌++◌, ℕ, ◌+◌, ◌-◌, ◌^◌, ◌<◌, ◌≤◌, ltb, length, replicate}
-use Rattle.std.proofs.Common.{sym, ap, subst, ◌∙◌, ⊎_elim, arith, length-append, eq-eqb, ne_eqb, eqb-true}
+use Rattle.std.specs.Prelude.{◌≡◌, refl, true, cond, List, [], ◌∷◌, ◌++◌, ℕ, ◌+◌, ◌^◌, ◌<◌, ◌≤◌, ltb, length, replicate}
+use Rattle.std.proofs.Common.{sym, ap, ◌∙◌, ⊎_elim, arith, length-append, eq-eqb, ne_eqb, eqb-true}
 use Rattle.std.proofs.Math.Dec.{eqb}
 use Rattle.std.proofs.lemmas.Bool.{eqb-false}
 use Rattle.basics.specs.Lists.{keep}
 use Rattle.format.specs.Record.{Rec, Net, kind, records, of_kind, widths_of}
 use Rattle.widths.specs.Widths.{within_limits}
-use Rattle.format.specs.Policy.{nodes_of, policy_count, longest_of, longest, free}
+use Rattle.format.specs.Policy.{nodes_of, policy_count, longest_of, longest}
 use Rattle.refusals.specs.Rows.{misses_incomplete, last_group}
 use Rattle.noderows.specs.Policies.{PoliciesOf}
 use Rattle.rows.specs.Groups.{GroupsOf}
 use Rattle.rows.specs.Laws.Noted.{keys_none, keys_other, points_none, points_other}
-use Rattle.recordrow.specs.Scan.{SeenOf, NotedOf, Onward}
+use Rattle.recordrow.specs.Scan.{SeenOf, NotedOf}
 use Rattle.widths.specs.declared.Widths.{Widths}
 use Rattle.recordrow.specs.declared.Seen.{Seen}
-use Rattle.recordrow.specs.declared.Turn.{Turn}
-use Rattle.recordrow.specs.declared.Turn.TheVariants.{Next, Stop}
+use Rattle.recordrow.specs.declared.Notes.{Notes}
 use Rattle.format.specs.Laws.Kinds.{kind_count, widths-append, last_kind_lem}
 use Rattle.basics.specs.Laws.Lists.{keep_fewer}
 use Rattle.format.specs.Laws.Records.{length_records}
@@ -57,10 +56,10 @@ module _ (before : Net) (s : Seen) (known : SeenOf before s) where
 
   -- after the widths record, a link, a miss, a rule, a node and a group
   pub seen_widths : (r : Rec) (w : Widths) → kind r ≡ 1 → s.last ≡ 0 → w ≡ widths_of (r ∷ []) → within_limits w ≡ true
-      → SeenOf (before ++ (r ∷ [])) (record { last = 1; widths = w; links = s.links; misses = s.misses; rules = s.rules; policies = s.policies; groups = s.groups })
+      → SeenOf (before ++ (r ∷ [])) (record { last = kind r; widths = w; links = s.links; misses = s.misses; rules = s.rules; policies = s.policies; groups = s.groups })
   seen_widths r w k z e l =
       let q : before ≡ [] = nothing_yet z in
-      seen_more r (record { last = 1; widths = w; links = s.links; misses = s.misses; rules = s.rules; policies = s.policies; groups = s.groups }) (sym k) (λ q. omega arith)
+      seen_more r (record { last = kind r; widths = w; links = s.links; misses = s.misses; rules = s.rules; policies = s.policies; groups = s.groups }) refl (λ q. omega arith)
       (e ∙ ap (λ (b : Net). widths_of (b ++ (r ∷ []))) (sym q)) l
       (rw k (omega arith)) (rw k (omega arith)) (rw k (omega arith))
       (policies_other before s.policies known.policies r (λ q. omega arith)) (groups_other before s.groups known.groups r (λ q. omega arith))
@@ -70,37 +69,37 @@ module _ (before : Net) (s : Seen) (known : SeenOf before s) where
     same_widths = known.widths ∙ sym (widths-append before (r ∷ []) (begun later))
 
     pub seen_link : kind r ≡ 2
-        → SeenOf (before ++ (r ∷ [])) (record { last = 2; widths = s.widths; links = s.links + 1; misses = s.misses; rules = s.rules; policies = s.policies; groups = s.groups })
+        → SeenOf (before ++ (r ∷ [])) (record { last = kind r; widths = s.widths; links = s.links + 1; misses = s.misses; rules = s.rules; policies = s.policies; groups = s.groups })
     seen_link k =
-        seen_more r (record { last = 2; widths = s.widths; links = s.links + 1; misses = s.misses; rules = s.rules; policies = s.policies; groups = s.groups }) (sym k) (λ q. omega arith)
+        seen_more r (record { last = kind r; widths = s.widths; links = s.links + 1; misses = s.misses; rules = s.rules; policies = s.policies; groups = s.groups }) refl (λ q. omega arith)
         same_widths (known.limits later) (rw k refl) (rw k (omega arith)) (rw k (omega arith))
         (policies_other before s.policies known.policies r (λ q. omega arith)) (groups_other before s.groups known.groups r (λ q. omega arith))
 
     pub seen_miss : kind r ≡ 3
-        → SeenOf (before ++ (r ∷ [])) (record { last = 3; widths = s.widths; links = s.links; misses = s.misses + 1; rules = s.rules; policies = s.policies; groups = s.groups })
+        → SeenOf (before ++ (r ∷ [])) (record { last = kind r; widths = s.widths; links = s.links; misses = s.misses + 1; rules = s.rules; policies = s.policies; groups = s.groups })
     seen_miss k =
-        seen_more r (record { last = 3; widths = s.widths; links = s.links; misses = s.misses + 1; rules = s.rules; policies = s.policies; groups = s.groups }) (sym k) (λ q. omega arith)
+        seen_more r (record { last = kind r; widths = s.widths; links = s.links; misses = s.misses + 1; rules = s.rules; policies = s.policies; groups = s.groups }) refl (λ q. omega arith)
         same_widths (known.limits later) (rw k (omega arith)) (rw k refl) (rw k (omega arith))
         (policies_other before s.policies known.policies r (λ q. omega arith)) (groups_other before s.groups known.groups r (λ q. omega arith))
 
     pub seen_rule : kind r ≡ 4
-        → SeenOf (before ++ (r ∷ [])) (record { last = 4; widths = s.widths; links = s.links; misses = s.misses; rules = s.rules + 1; policies = s.policies; groups = s.groups })
+        → SeenOf (before ++ (r ∷ [])) (record { last = kind r; widths = s.widths; links = s.links; misses = s.misses; rules = s.rules + 1; policies = s.policies; groups = s.groups })
     seen_rule k =
-        seen_more r (record { last = 4; widths = s.widths; links = s.links; misses = s.misses; rules = s.rules + 1; policies = s.policies; groups = s.groups }) (sym k) (λ q. omega arith)
+        seen_more r (record { last = kind r; widths = s.widths; links = s.links; misses = s.misses; rules = s.rules + 1; policies = s.policies; groups = s.groups }) refl (λ q. omega arith)
         same_widths (known.limits later) (rw k (omega arith)) (rw k (omega arith)) (rw k refl)
         (policies_other before s.policies known.policies r (λ q. omega arith)) (groups_other before s.groups known.groups r (λ q. omega arith))
 
     pub seen_node : (p : Policies) → kind r ≡ 5 → PoliciesOf (before ++ (r ∷ [])) p
-        → SeenOf (before ++ (r ∷ [])) (record { last = 5; widths = s.widths; links = s.links; misses = s.misses; rules = s.rules; policies = p; groups = s.groups })
+        → SeenOf (before ++ (r ∷ [])) (record { last = kind r; widths = s.widths; links = s.links; misses = s.misses; rules = s.rules; policies = p; groups = s.groups })
     seen_node p k q =
-        seen_more r (record { last = 5; widths = s.widths; links = s.links; misses = s.misses; rules = s.rules; policies = p; groups = s.groups }) (sym k) (λ q. omega arith)
+        seen_more r (record { last = kind r; widths = s.widths; links = s.links; misses = s.misses; rules = s.rules; policies = p; groups = s.groups }) refl (λ q. omega arith)
         same_widths (known.limits later) (rw k (omega arith)) (rw k (omega arith)) (rw k (omega arith)) q
         (groups_other before s.groups known.groups r (λ q. omega arith))
 
     pub seen_group : (g : Groups) → kind r ≡ 9 → GroupsOf (before ++ (r ∷ [])) g
-        → SeenOf (before ++ (r ∷ [])) (record { last = 9; widths = s.widths; links = s.links; misses = s.misses; rules = s.rules; policies = s.policies; groups = g })
+        → SeenOf (before ++ (r ∷ [])) (record { last = kind r; widths = s.widths; links = s.links; misses = s.misses; rules = s.rules; policies = s.policies; groups = g })
     seen_group g k q =
-        seen_more r (record { last = 9; widths = s.widths; links = s.links; misses = s.misses; rules = s.rules; policies = s.policies; groups = g }) (sym k) (λ q. omega arith)
+        seen_more r (record { last = kind r; widths = s.widths; links = s.links; misses = s.misses; rules = s.rules; policies = s.policies; groups = g }) refl (λ q. omega arith)
         same_widths (known.limits later) (rw k (omega arith)) (rw k (omega arith)) (rw k (omega arith))
         (policies_other before s.policies known.policies r (λ q. omega arith)) q
 
@@ -153,21 +152,10 @@ seen_none = record {
   groups = record { count = refl; switch = refl; number = refl };
 }
 
--- what holds onward: where more does, once the turn has gone on, and where it holds however the turn goes
-pub onward_from : {P Q : Type 0} (t : Turn) → (P → Q) → Onward t P → Onward t Q
-onward_from (Stop k) f h = tt
-onward_from (Next s) f h = f h
-
-pub onward_next : {P : Type 0} (t : Turn) (s : Seen) → t ≡ Next s → Onward t P → P
-onward_next {P} t s e h = subst (λ (u : Turn). Onward u P) e h
-
-pub onward_all : {P : Type 0} (t : Turn) → P → Onward t P
-onward_all (Stop k) h = tt
-onward_all (Next s) h = h
-
 -- nothing is noted of no record; one that is neither a link nor a rule leaves what is noted
-pub noted_none : (s : List ℕ) → NotedOf (records 0 s) (replicate 512 0) (replicate 32 0)
-noted_none s = record { keys = keys_none s; points = points_none s }
+pub noted_none : NotedOf [] (record { keys = replicate 512 0; points = replicate 32 0 })
+unfolding records
+noted_none = record { keys = keys_none []; points = points_none [] }
 
-pub noted_other : (before : Net) (keys points : List ℕ) (r : Rec) → NotedOf before keys points → (kind r ≡ 2 → ⊥) → (kind r ≡ 4 → ⊥) → NotedOf (before ++ (r ∷ [])) keys points
-noted_other before keys points r N l k = record { keys = keys_other before keys r N.keys k; points = points_other before points r N.points l }
+pub noted_other : (before : Net) (notes : Notes) (r : Rec) → NotedOf before notes → (kind r ≡ 2 → ⊥) → (kind r ≡ 4 → ⊥) → NotedOf (before ++ (r ∷ [])) notes
+noted_other before notes r N l k = record { keys = keys_other before notes.keys r N.keys k; points = points_other before notes.points r N.points l }

@@ -6,7 +6,8 @@ use Rattle.std.proofs.Math.Decide.{ℕ_discrete}
 use Rattle.std.proofs.lemmas.Bool.{not-false}
 use Rattle.basics.specs.Laws.Tests.{not_both, both}
 use Rattle.format.specs.Record.{Rec, Net, at, kind}
-use Rattle.format.specs.Policy.{Y, formula, nodes_of, policy_count, forbidden, free}
+use Rattle.format.specs.Policy.{formula, nodes_of, policy_count, forbidden, free}
+use Rattle.format.specs.declared.kinds.Var.TheVariants.{Y}
 use Rattle.refusals.specs.Rows.{ends_policy, free_at}
 use Rattle.refusals.specs.Refusal.{file_row}
 use Rattle.format.specs.Laws.Policies.{count_other, count_node, nodes_in, nodes_other_policy, nodes_other_kind}

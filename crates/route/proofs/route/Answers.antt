@@ -1,14 +1,12 @@
 -- `route::route` meets its contract.
-use mathlib.Core.Path.{refl, sym}
+use Rattle.std.proofs.lemmas.Result.{err_from_is_err_and}
 use Rattle.trails.specs.Call.{route_call}
 use Rattle.route.proofs.Showing.{route_refused, refused_early}
 use Rattle.route.proofs.route.Goals as goal
 
-pub after_check-requires : goal.after_check-requires
-after_check-requires c = let read = c.in-Clean.ensures in (sym read.answer, read.layout _ refl)
-
-pub returns-in-Refused : goal.returns-in-Refused
-returns-in-Refused c =
+pub returns-in_err-net : goal.returns-in_err-net
+returns-in_err-net c =
     let a = c.args in
     let call = route_call a.store.now a.n a.work.now a.start a.end a.list.now in
-    route_refused call _ _ (refused_early call _ _ c.in-Refused.ensures.answer)
+    let e = err_from_is_err_and c.from_residual.result c.from_residual.ensures.1 in
+    rw (e.1, e.2) (route_refused call _ _ (refused_early call _ _ c.in_err-net.ensures))

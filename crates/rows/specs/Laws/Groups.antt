@@ -1,6 +1,6 @@
 -- The table of the groups that are there, and the last group, record by record.
-use Rattle.std.proofs.Common.{eq-eqb, eqb-true, ne_eqb, sym, ap₂, subst, ◌∙◌, arith}
-use Rattle.std.specs.Prelude.{◌≡◌, Bool, false, not, ◌&&◌, ◌||◌, ℕ, ◌+◌, ◌-◌, ◌*◌, ◌<◌, eqb, ltb, take, drop, replicate}
+use Rattle.std.proofs.Common.{eq-eqb, eqb-true, ne_eqb, sym, ap₂, ◌∙◌, arith}
+use Rattle.std.specs.Prelude.{◌≡◌, Bool, false, not, ◌&&◌, ◌||◌, ℕ, ◌+◌, ◌-◌, ◌<◌, eqb, ltb, replicate}
 use Rattle.std.proofs.Math.Path.{ap}
 use Rattle.std.proofs.Math.Bool.{and-false, or_comm}
 use mathlib.Core.List.{List, [], ◌∷◌, ◌++◌}
@@ -17,9 +17,10 @@ use Rattle.format.specs.Group.{is_group, has_group}
 use Rattle.basics.specs.Laws.Lists.{keep_in, keep_out}
 use Rattle.format.specs.Laws.Groups.{has_more}
 use Rattle.format.specs.Laws.Kinds.{is_group_record, kind_count}
-use Rattle.format.specs.Laws.Records.{records_more, part_is}
+use Rattle.format.specs.Laws.Records.{records_more}
 use Rattle.refusals.specs.Rows.{ascends, last_group, out_of_order}
-use Rattle.rows.specs.Groups.{group_bit, There, Noted, GroupsOf}
+use Rattle.rows.specs.Groups.{There, Noted, GroupsOf}
+use Rattle.rows.specs.Table.{table_bit}
 use Rattle.rows.specs.declared.groups.Groups.{Groups}
 
 -- a record that is no group below 16 leaves the table
@@ -39,19 +40,19 @@ module _ (r : Rec) (table : List ℕ) where
   noted_number h = noted_none (λ sw g hs hg. rw (ne_eqb (at r 2) g (λ e. omega (arith, e)), and-false, and-false))
 
 -- no two numbers below 16 at switches have one bit
-pub one_bit : (sw g a b : ℕ) → g < 16 → b < 16 → eqb (group_bit sw g) (group_bit a b) ≡ (eqb a sw && eqb b g)
+pub one_bit : (sw g a b : ℕ) → g < 16 → b < 16 → eqb (table_bit sw g) (table_bit a b) ≡ (eqb a sw && eqb b g)
 one_bit sw g a b lg lb =
     same_test _ _
-    (λ e. let q = eqb-true (group_bit sw g) (group_bit a b) e in and_both _ _ (eq-eqb a sw (omega (arith, q))) (eq-eqb b g (omega (arith, q))))
-    (λ e. let q = both (eqb a sw) (eqb b g) e in eq-eqb _ _ (sym (ap₂ group_bit (eqb-true a sw q.0) (eqb-true b g q.1))))
+    (λ e. let q = eqb-true (table_bit sw g) (table_bit a b) e in and_both _ _ (eq-eqb a sw (omega (arith, q))) (eq-eqb b g (omega (arith, q))))
+    (λ e. let q = both (eqb a sw) (eqb b g) e in eq-eqb _ _ (sym (ap₂ table_bit (eqb-true a sw q.0) (eqb-true b g q.1))))
 
 -- one that is a group sets its bit
-pub noted_group : (r : Rec) (n : ℕ) (a b : List ℕ) → n ≡ group_bit (at r 1) (at r 2) → kind r ≡ 9 → at r 1 < 16 → at r 2 < 16 → BitSet n a b → Noted r a b
+pub noted_group : (r : Rec) (a b : List ℕ) → kind r ≡ 9 → at r 1 < 16 → at r 2 < 16 → BitSet (table_bit (at r 1) (at r 2)) a b → Noted r a b
 unfolding is_group
-noted_group r n a b e k hs hg S = record {
+noted_group r a b k hs hg S = record {
   is = λ sw g ls lg.
-      set_bit n (group_bit sw g) a b S
-      ∙ ap (λ (x : Bool). x || bit a (group_bit sw g)) (ap (eqb (group_bit sw g)) e ∙ one_bit sw g (at r 1) (at r 2) lg hg ∙ sym (named sw g));
+      set_bit (table_bit (at r 1) (at r 2)) (table_bit sw g) a b S
+      ∙ ap (λ (x : Bool). x || bit a (table_bit sw g)) (one_bit sw g (at r 1) (at r 2) lg hg ∙ sym (named sw g));
 }
   where
     named : (sw g : ℕ) → (eqb (kind r) 9 && (eqb (at r 1) sw && eqb (at r 2) g)) ≡ (eqb (at r 1) sw && eqb (at r 2) g)
@@ -60,14 +61,14 @@ noted_group r n a b e k hs hg S = record {
 -- the table of the first records of a store: of none, and of one more
 pub there_none : (s : List ℕ) → There (records 0 s) (replicate 32 0)
 unfolding records has_group of_kind keep any
-there_none s = record { is = λ sw g hs hg. no_bit 32 (group_bit sw g) }
+there_none s = record { is = λ sw g hs hg. no_bit 32 (table_bit sw g) }
 
-pub there_more : (s : List ℕ) (i : ℕ) (a b : List ℕ) → There (records i s) a → Noted (take (i * 24 + 24 - i * 24) (drop (i * 24) s)) a b → There (records (i + 1) s) b
+pub there_more : (s : List ℕ) (i : ℕ) (a b : List ℕ) → There (records i s) a → Noted (record_at s i) a b → There (records (i + 1) s) b
 there_more s i a b T N = record {
   is = λ sw g hs hg.
       let r = record_at s i in
-      (subst (λ (q : Rec). Noted q a b) (part_is s i) N).is sw g hs hg
-      ∙ or_comm (is_group_record r && is_group sw g r) (bit a (group_bit sw g))
+      N.is sw g hs hg
+      ∙ or_comm (is_group_record r && is_group sw g r) (bit a (table_bit sw g))
       ∙ ap (λ (x : Bool). x || (is_group_record r && is_group sw g r)) (T.is sw g hs hg)
       ∙ sym (has_more (records i s) r sw g)
       ∙ ap (λ (net : Net). has_group net sw g) (sym (records_more s i));

@@ -16,7 +16,8 @@ use Rattle.format.specs.Laws.Fields.{link_fields}
 use Rattle.widths.specs.Laws.Limits.{Limits}
 use Rattle.basics.specs.Laws.Lists.{any_keep, any_snoc, same_numbers_lem}
 use Rattle.widths.specs.declared.Widths.{Widths}
-use Rattle.rows.specs.Noted.{key_bit, KeysNoted, point_bit, PointsNoted, EndsNamed}
+use Rattle.rows.specs.Noted.{key_bit, KeysNoted, PointsNoted, EndsNamed}
+use Rattle.rows.specs.Table.{table_bit}
 use Rattle.rows.specs.Laws.Groups.{one_bit}
 
 -- the same rules have one bit
@@ -76,7 +77,7 @@ linked_more net r sw p =
 -- no record has no link
 pub points_none : (s : List ℕ) → PointsNoted (records 0 s) (replicate 32 0)
 unfolding records linked of_kind keep any
-points_none s = record { is = λ sw p hs hp. no_bit 32 (point_bit sw p) }
+points_none s = record { is = λ sw p hs hp. no_bit 32 (table_bit sw p) }
 
 two_ends : (b x y : Bool) → b || (x || y) ≡ (y || (x || b))
 two_ends true true true = refl
@@ -93,15 +94,15 @@ module _ (net : Net) (points : List ℕ) (r : Rec) (P : PointsNoted net points) 
   pub points_other : (kind r ≡ 2 → ⊥) → PointsNoted (net ++ (r ∷ [])) points
   points_other n = record { is = λ sw p hs hp. P.is sw p hs hp ∙ sym (linked_more net r sw p ∙ rw (ne_eqb (kind r) 2 n) (or-false (linked net sw p))) }
 
-  pub points_link : (n m : ℕ) (b c : List ℕ) → kind r ≡ 2 → EndsNamed r → n ≡ point_bit (at r 1) (at r 2) → m ≡ point_bit (at r 3) (at r 4) → BitSet n points b → BitSet m b c
+  pub points_link : (b c : List ℕ) → kind r ≡ 2 → EndsNamed r → BitSet (table_bit (at r 1) (at r 2)) points b → BitSet (table_bit (at r 3) (at r 4)) b c
       → PointsNoted (net ++ (r ∷ [])) c
   unfolding ends_at
-  points_link n m b c k E e f S T = record {
+  points_link b c k E S T = record {
     is = λ sw p hs hp.
-        let q = point_bit sw p in
-        set_bit m q b c T
-        ∙ ap₂ ◌||◌ (ap (eqb q) f ∙ one_bit sw p (at r 3) (at r 4) hp E.other.1)
-        (set_bit n q points b S ∙ ap₂ ◌||◌ (ap (eqb q) e ∙ one_bit sw p (at r 1) (at r 2) hp E.one.1) (P.is sw p hs hp))
+        let q = table_bit sw p in
+        set_bit (table_bit (at r 3) (at r 4)) q b c T
+        ∙ ap₂ ◌||◌ (one_bit sw p (at r 3) (at r 4) hp E.other.1)
+        (set_bit (table_bit (at r 1) (at r 2)) q points b S ∙ ap₂ ◌||◌ (one_bit sw p (at r 1) (at r 2) hp E.one.1) (P.is sw p hs hp))
         ∙ sym (linked_more net r sw p ∙ rw k (two_ends (linked net sw p) (eqb (at r 1) sw && eqb (at r 2) p) (eqb (at r 3) sw && eqb (at r 4) p)));
   }
 

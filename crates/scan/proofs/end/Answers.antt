@@ -1,6 +1,4 @@
-use mathlib.Core.Path.{◌≡◌, sym, ◌∙◌}
-use Prim.Native.Nat.{ℕ}
-use native.Mathlib.Omega.{arith}
+use Rattle.std.proofs.Common.{sym, ◌∙◌}
 use Rattle.refusals.specs.Refusal.{file_row}
 use Rattle.recordrow.specs.Laws.Scan.{misses_known}
 use Rattle.scan.specs.Laws.Layout.{counted}
@@ -8,15 +6,8 @@ use Rattle.scan.proofs.end.Goals as goal
 
 pub returns-then-incomplete : goal.returns-then-incomplete
 unfolding file_row
-returns-then-incomplete c net known len = record {
-  answer = rw (misses_known net _ known ∙ sym c.incomplete.ensures ∙ c.if-incomplete.true, len);
-  layout = λ l e. let z : ◌≡◌ {A = ℕ} 0 1 = cc in absurd (omega arith);
-}
+returns-then-incomplete c net known len = sym (rw (misses_known net _ known ∙ sym c.incomplete.ensures ∙ c.if-incomplete.true, len))
 
 pub returns : goal.returns
 unfolding file_row
-returns c net known len =
-    record {
-      answer = rw (misses_known net _ known ∙ sym c.incomplete.ensures ∙ c.if-incomplete.false);
-      layout = λ l e. let a = c.args in counted net a.s a.n l known len e;
-    }
+returns c net known len = (rw (misses_known net _ known ∙ sym c.incomplete.ensures ∙ c.if-incomplete.false), counted net c.args.s c.args.n known len)

@@ -1,23 +1,15 @@
-use mathlib.Core.Path.{◌≡◌, sym, ap, subst, ◌∙◌}
-use mathlib.Core.List.{List, []}
-use Prim.Native.Nat.{ℕ, ◌*◌, ◌≤◌, ◌<◌}
-use native.Mathlib.Omega.{arith}
-use lib.ListN.{length}
-use Rattle.format.specs.Record.{Net, records}
-use Rattle.refusals.specs.Refusal.{file_row}
+use Rattle.std.proofs.Common.{◌≡◌, sym, subst, ◌∙◌, refl, List, ℕ, ◌*◌, ◌≤◌, ◌<◌, length, arith}
+use Rattle.std.proofs.lemmas.Result.{err_from_is_err_and}
+use Rattle.format.specs.Record.{records}
 use Rattle.recordrow.specs.Scan.{SeenOf}
-use Rattle.scan.specs.Layout.{reading_refusal, Ended, Bounded, Read}
+use Rattle.scan.specs.Layout.{Bounded}
 use Rattle.recordrow.specs.declared.Seen.{Seen}
-use Rattle.scan.specs.declared.Reading.{Reading}
 use Rattle.format.specs.Laws.Records.{length_records, records_more}
-use Rattle.recordrow.specs.Laws.Scan.{few_links, few_misses, few_rules, few_groups, narrow, noted_none}
+use Rattle.recordrow.specs.Laws.Scan.{few_links, few_misses, few_rules, few_groups, narrow}
 use Rattle.scan.specs.Laws.File.{file_start, file_next, file_stop, file_end}
 use Rattle.scan.specs.Laws.Layout.{layout_of}
+use Rattle.scan.specs.Laws.PassedRecords.{stored}
 use Rattle.scan.proofs.scan.Goals as goal
-
--- at the end the layout is read off
-read_all : (net : Net) (r : Reading) → file_row [] net ≡ file_row net [] → Ended net r → Read net (file_row [] net) r
-read_all net r e h = record { answer = h.answer ∙ sym e; layout = λ l q. layout_of net l (e ∙ sym h.answer ∙ ap reading_refusal q) (h.layout l q) }
 
 bounded : (store : List ℕ) (n : ℕ) (s : Seen) → n * 24 ≤ length store → length store < 18446744073709551616 → SeenOf (records n store) s → Bounded s n
 bounded store n s h l known = record {
@@ -31,46 +23,57 @@ bounded store n s h l known = record {
 
 pub loop-i-init : goal.loop-i-init
 unfolding records
-loop-i-init c =
-    let a = c.args in
-    (omega arith, c.start-s.ensures, file_start a.store.now a.n, noted_none a.store.now)
+loop-i-init c = (c.start-seen.ensures, file_start c.args.store.now c.args.n, c.new-notes.ensures)
 
-pub returns-in-Stop : goal.returns-in-Stop
-returns-in-Stop c =
-    let a = c.args in
-    let s = a.store.now in
-    let l = c.loop-i in
-    record {
-      answer = sym (l.invariant.2 ∙ file_stop s a.n l.i _ c.loop-i-test.true c.in-Stop.ensures.0);
-      layout = λ l e. let z : ◌≡◌ {A = ℕ} 0 1 = cc in absurd (omega arith);
-    }
+pub invariant_of-turn : goal.invariant_of-turn
+invariant_of-turn c = record { groups = c.groups_there-there.ensures; known = c.loop-i.invariant.0 }
+
+pub turn_at-requires : goal.turn_at-requires
+turn_at-requires c = c.loop-i.invariant.2
 
 pub loop-i-preserved : goal.loop-i-preserved
 loop-i-preserved c =
-    let a = c.args in
-    let s = a.store.now in
+    let s = c.args.store.now in
     let l = c.loop-i in
-    let turned = c.in-Next.ensures.0 in
-    (omega arith, rw (records_more s l.i) turned.1, l.invariant.2 ∙ file_next s a.n l.i c.loop-i-test.true turned.0, c.in-Next.ensures.1)
+    let t = c.in-Ok.ensures.0 in
+    (rw (records_more s l.i) t.1, l.invariant.1 ∙ file_next s c.args.n l.i c.loop-i-test.true t.0, c.in-Ok.ensures.1)
+
+pub returns-in-Err : goal.returns-in-Err
+returns-in-Err c =
+    let l = c.loop-i in
+    sym (l.invariant.1 ∙ file_stop c.args.store.now c.args.n l.i _ c.loop-i-test.true c.in-Err.ensures.0)
 
 pub end-requires : goal.end-requires
 end-requires c =
-    let a = c.args in
-    let s = a.store.now in
+    let s = c.args.store.now in
     let l = c.loop-i in
-    let e : l.i ≡ a.n = omega arith in
-    bounded s a.n l.s c.requires (omega arith) (subst (λ (m : ℕ). SeenOf (records m s) l.s) e l.invariant.1)
+    let e : l.i ≡ c.args.n = omega (arith, c.loop-i-test.false, l.auto.i-end) in
+    bounded s c.args.n l.seen c.requires (omega arith) (subst (λ (m : ℕ). SeenOf (records m s) l.seen) e l.invariant.0)
+
+pub returns-in_err-layout : goal.returns-in_err-layout
+returns-in_err-layout c =
+    let s = c.args.store.now in
+    let l = c.loop-i in
+    let i : l.i ≡ c.args.n = omega (arith, c.loop-i-test.false, l.auto.i-end) in
+    let known = subst (λ (m : ℕ). SeenOf (records m s) l.seen) i l.invariant.0 in
+    let e = err_from_is_err_and c.from_residual.result c.from_residual.ensures.1 in
+    rw (e.1, e.2) (c.in_err-layout.ensures (records c.args.n s) known (length_records c.args.n s) ∙ sym (l.invariant.1 ∙ file_end s c.args.n l.i i))
+
+pub invariant_of-result : goal.invariant_of-result
+invariant_of-result c =
+    let s = c.args.store.now in
+    let l = c.loop-i in
+    let i : l.i ≡ c.args.n = omega (arith, c.loop-i-test.false, l.auto.i-end) in
+    let known = subst (λ (m : ℕ). SeenOf (records m s) l.seen) i l.invariant.0 in
+    let h = c.in_ok-layout.ensures (records c.args.n s) known (length_records c.args.n s) in
+    let passes = l.invariant.1 ∙ file_end s c.args.n l.i i ∙ h.0 in
+    record { stored = stored c.args.n _ s (record { room = c.requires; laid = layout_of _ _ passes h.1; passes = passes }) }
 
 pub returns : goal.returns
 returns c =
-    let a = c.args in
-    let s = a.store.now in
+    let s = c.args.store.now in
     let l = c.loop-i in
-    let e : l.i ≡ a.n = omega arith in
-    let known = subst (λ (m : ℕ). SeenOf (records m s) l.s) e l.invariant.1 in
-    read_all (records a.n s) _ (l.invariant.2 ∙ file_end s a.n l.i e) (c.end.ensures (records a.n s) known (length_records a.n s))
-
-pub turn_at-t-requires : goal.turn_at-t-requires
-turn_at-t-requires c =
-    let l = c.loop-i in
-    record { n_in_bounds = (c.requires, c.loop-i-test.true, l.invariant.1); there = (c.groups_there-there.ensures, l.invariant.3) }
+    let i : l.i ≡ c.args.n = omega (arith, c.loop-i-test.false, l.auto.i-end) in
+    let known = subst (λ (m : ℕ). SeenOf (records m s) l.seen) i l.invariant.0 in
+    let h = c.in_ok-layout.ensures (records c.args.n s) known (length_records c.args.n s) in
+    (l.invariant.1 ∙ file_end s c.args.n l.i i ∙ h.0, refl, refl)

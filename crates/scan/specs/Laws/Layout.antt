@@ -20,7 +20,6 @@ use Rattle.refusals.specs.Count.{groups_bound}
 use Rattle.recordrow.specs.Scan.{SeenOf}
 use Rattle.scan.specs.Layout.{LayoutOf, Counted}
 use Rattle.recordrow.specs.declared.Seen.{Seen}
-use Rattle.scan.specs.declared.Reading.TheVariants.{Clean}
 use Rattle.widths.specs.declared.Widths.{Widths}
 use Rattle.scan.specs.declared.Layout.{Layout}
 use Rattle.basics.specs.Laws.Lists.{keep_in, keep_out}
@@ -230,11 +229,9 @@ layout_by s n = record {
   longest = s.policies.longest;
 }
 
-pub counted : (net : Net) (s : Seen) (n : ℕ) (l : Layout) → SeenOf net s → length net ≡ n → Clean (layout_by s n) ≡ Clean l → Counted net l
-counted net s n l known len e =
-    let q : layout_by s n ≡ l = cc in
-    subst (Counted net) q
-    (record {
+pub counted : (net : Net) (s : Seen) (n : ℕ) → SeenOf net s → length net ≡ n → Counted net (layout_by s n)
+counted net s n known len =
+    record {
       widths = known.widths;
       misses = ap (λ (k : ℕ). 1 + k) known.links;
       rules = ap (λ (k : ℕ). 1 + s.links + k) known.misses;
@@ -242,7 +239,7 @@ counted net s n l known len e =
       groups = ap₂ ◌-◌ (sym len) known.groups.count;
       policies = known.policies.count;
       longest = known.policies.longest;
-    })
+    }
 
 -- a clean network has a miss for each switch
 pub clean_misses : (net : Net) → file_row [] net ≡ none → length (of_kind 3 net) ≡ 2 ^ (widths_of net).w

@@ -4,6 +4,5 @@ use Rattle.shapes.proofs.combine.Goals as goal
 
 pub returns : goal.returns
 returns c =
-    let a = c.in-Both in
-    let b = c.in-Both-b in
-    rw (a.is, b.is) (planes_joined c.args.o a.p b.q _ _ _ _ c.join_planes.ensures)
+    let planes = c.in-Both-Both in
+    rw (planes.is-0, planes.is-1) (planes_joined c.args.j.op planes.p planes.q _ _ _ _ (rw c.size.ensures at c.join_planes.ensures))

@@ -1,9 +1,6 @@
 -- `shapes::keep` meets its contract.
-use Rattle.format.specs.Policy.{var_of}
 use Rattle.forms.specs.Laws.Forms.{lined_stands, put_lined}
 use Rattle.shapes.proofs.keep.Goals as goal
 
 pub returns : goal.returns
-returns c =
-    rw c.line_code.ensures
-    (lined_stands (var_of c.args.v) _ _ _ _ _ (put_lined _ _ _ _ _ c.put_line.ensures))
+returns c = rw c.line.ensures (lined_stands c.args.v _ _ _ _ _ (put_lined _ _ _ _ _ c.put_line.ensures))

@@ -1,10 +1,6 @@
--- `reaching::all_zero` meets its contract.
-use Prim.Native.Nat.{◌-◌, ◌≤◌}
+-- What is gathered has the bits of the bytes passed.
 use Rattle.sinks.proofs.Blanks.{Has}
 use Rattle.sinks.proofs.all_zero.Given as goal
 
-abbrev pub invariant-loop-j : goal.invariant-loop-j
-invariant-loop-j l = (l.j ≤ l.pitch) × Has l.p l.at l.j l.b
-
-abbrev pub decreases-loop-j : goal.decreases-loop-j
-decreases-loop-j l = l.pitch - l.j
+abbrev pub invariant-loop-b : goal.invariant-loop-b
+invariant-loop-b l = Has l.bytes l.b-index l.all

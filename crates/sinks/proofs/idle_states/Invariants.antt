@@ -1,10 +1,6 @@
--- `reaching::idle_states` meets its contract.
-use Prim.Native.Nat.{◌-◌, ◌*◌, ◌≤◌}
+-- The states passed are noted where they are idle.
 use Rattle.sinks.specs.Turns.{Idle}
 use Rattle.sinks.proofs.idle_states.Given as goal
 
 abbrev pub invariant-loop-x : goal.invariant-loop-x
-invariant-loop-x l = Idle l.to l.pitch l.idle l.work × (l.x ≤ l.pitch * 8)
-
-abbrev pub decreases-loop-x : goal.decreases-loop-x
-decreases-loop-x l = l.pitch * 8 - l.x
+invariant-loop-x l = Idle l.plane.to l.plane.pitch l.idle l.plane.work.now

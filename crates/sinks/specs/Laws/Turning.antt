@@ -1,5 +1,5 @@
 -- What the search from a state keeps.
-use Rattle.std.specs.Prelude.{◌≡◌, refl, Bool, true, false, List, ◌⊎◌, ℕ, ◌+◌, ◌*◌, ◌<◌, ◌≤◌, length, replicate}
+use Rattle.std.specs.Prelude.{◌≡◌, refl, Bool, true, false, List, ◌⊎◌, ℕ, ◌+◌, ◌*◌, ◌<◌, length, replicate}
 use Rattle.std.proofs.Common.{sym, subst, ◌∙◌, inl, inr, ⊎_elim, arith}
 use Rattle.std.proofs.lemmas.Bool.{false≢true}
 use Rattle.std.proofs.Math.Decide.{ℕ_discrete}
@@ -11,11 +11,10 @@ use Rattle.basics.specs.Laws.Tests.{not_both}
 use Rattle.walks.specs.Walk.{Walk}
 use Rattle.walks.specs.Walk.Walk.{one, more}
 use Rattle.walks.specs.Laws.Walks.{start, join}
-use Rattle.sinks.specs.Turns.{Between, Stable, Idle, Blank, Noted, Through, Searched, Met, MetAll}
-
--- a line is within the bytes
-pub line_fits : (base pitch x len : ℕ) → base + plane_size pitch ≤ len → x < pitch * 8 → base + x * pitch + pitch ≤ len
-line_fits base pitch x len h hx = omega (arith, line_before x (pitch * 8) pitch hx)
+use Rattle.std.specs.List.{between}
+use Rattle.words.specs.Words.{Lacks}
+use Rattle.words.specs.Laws.Seeking.{part_bit}
+use Rattle.sinks.specs.Turns.{Between, Stable, Idle, Through, Searched, Met, MetAll}
 
 -- the plane at from stays
 pub from_kept : (from to pitch : ℕ) (a l : List ℕ) → Apart from to pitch (length a) → Between from to pitch a l
@@ -47,7 +46,7 @@ along to pitch k l S s (more {a = z} {b = w} hz r p) = along to pitch k l S (S z
 
 module _ (to pitch x : ℕ) (met met' l : List ℕ) (hx : x < pitch * 8) (G : Through to pitch met l) (M : BitSet x met met') where
   -- line x is stored
-  module _ (left : ℕ) (old line m : List ℕ) (some : 0 < left) (L : Loaded (to + x * pitch) pitch l old) (S : Searched l to pitch old left line)
+  module _ (old line m : List ℕ) (L : Loaded (to + x * pitch) pitch l old) (S : Searched l to pitch old true line)
       (P : Put line (to + x * pitch) pitch l m) where
     was : (y : ℕ) → y < pitch * 8 → bit old y ≡ cell l to pitch x y
     was y hy = loaded_bit (to + x * pitch) pitch l old L y hy
@@ -93,7 +92,7 @@ module _ (to pitch x : ℕ) (met met' l : List ℕ) (hx : x < pitch * 8) (G : Th
     stable k hk s (yes e) z y hz hy (yes f) p q = subst (λ (n : ℕ). On m to pitch n y) (f ∙ sym e) q
     stable k hk s (yes e) z y hz hy (no g) p q =
         subst (λ (n : ℕ). On m to pitch n y) (sym e)
-        (here y hy ∙ S.closed some z y hz hy (sym (here z hz) ∙ subst (λ (n : ℕ). On m to pitch n z) e p) (sym (away z y g hy) ∙ q))
+        (here y hy ∙ S.closed refl z y hz hy (sym (here z hz) ∙ subst (λ (n : ℕ). On m to pitch n z) e p) (sym (away z y g hy) ∙ q))
     stable k hk s (no f) z y hz hy (yes e) p q =
         away k y f hy
         ∙ reach k y hk hy (sym (M.others k f) ∙ s)
@@ -118,26 +117,21 @@ module _ (to pitch x : ℕ) (met met' l : List ℕ) (hx : x < pitch * 8) (G : Th
 pub met_same : (to pitch : ℕ) (met l : List ℕ) → Through to pitch met l → Met to pitch l met l
 met_same to pitch met l G = record { between = between_none to pitch l; through = G }
 
--- idle states: one that is noted, those noted so far
-pub noted_none : (l : List ℕ) (at pitch x : ℕ) (idle : List ℕ) → Noted l at pitch x idle idle
-noted_none l at pitch x idle j s = inl s
-
-pub noted_one : (l : List ℕ) (at pitch x : ℕ) (idle idle' : List ℕ) → Blank l at pitch → BitSet x idle idle' → Noted l at pitch x idle idle'
-noted_one l at pitch x idle idle' blank S j s = go (ℕ_discrete j x)
-  where
-    go : Dec (j ≡ x) → (bit idle j ≡ true) ⊎ ((j ≡ x) × Blank l at pitch)
-    go (yes e) = inr (e, blank)
-    go (no g) = inl (sym (S.others j g) ∙ s)
-
+-- idle states
 pub idle_none : (to pitch n : ℕ) (l : List ℕ) → Idle to pitch (replicate n 0) l
 idle_none to pitch n l x y hx hy s t = not_both s (no_bit n x)
 
-pub idle_more : (to pitch x : ℕ) (l idle idle' : List ℕ) → Idle to pitch idle l → Noted l (to + x * pitch) pitch x idle idle' → Idle to pitch idle' l
-idle_more to pitch x l idle idle' I N j y hj hy s t = go (N j s)
+-- one whose line has no state is noted
+pub idle_more : (to pitch x : ℕ) (l idle idle' line : List ℕ) → Idle to pitch idle l → line ≡ between (to + x * pitch) (to + x * pitch + pitch) l → length line ≡ pitch
+    → Lacks line 0 (length line * 8) → BitSet x idle idle' → Idle to pitch idle' l
+idle_more to pitch x l idle idle' line I e f B S j y hj hy s t = go (ℕ_discrete j x)
   where
-    go : (bit idle j ≡ true) ⊎ ((j ≡ x) × Blank l (to + x * pitch) pitch) → ⊥
-    go (inl p) = I j y hj hy p t
-    go (inr (e, none)) = not_both (subst (λ (n : ℕ). On l to pitch n y) e t) (none y hy)
+    here : bit line y ≡ cell l to pitch x y
+    here = rw e (part_bit l (to + x * pitch) (to + x * pitch + pitch) y (omega arith))
+
+    go : Dec (j ≡ x) → ⊥
+    go (yes q) = not_both (here ∙ subst (λ (n : ℕ). On l to pitch n y) q t) (B.none y (omega arith) (omega (arith, f)))
+    go (no g) = I j y hj hy (sym (S.others j g) ∙ s) t
 
 -- no walk leads from an idle state
 no_walk : (to pitch x : ℕ) (idle l : List ℕ) → Idle to pitch idle l → bit idle x ≡ true → {y : ℕ} → Walk (pitch * 8) (On l to pitch) x y → ⊥

@@ -1,16 +1,17 @@
-use mathlib.Core.Path.{◌≡◌, sym, ap, ap₂, ◌∙◌}
-use mathlib.Core.Bool.{Bool, not, ◌&&◌}
-use native.Mathlib.Omega.{arith}
+use borrow.Author.Tests.{lt-ltb}
+use mathlib.Core.Path.{◌≡◌, sym, ap, ◌∙◌}
+use mathlib.Core.Bool.{Bool, true, false, not, ◌&&◌}
+use Prim.Native.Nat.{ℕ}
+use Rattle.basics.specs.Laws.Tests.{and_both}
 use Rattle.format.specs.Record.{Net, linked, widths_of}
-use Rattle.widths.specs.Laws.Limits.{limits}
+use Rattle.format.specs.Fields.{point_good}
 use Rattle.format.specs.Laws.States.{port_lt, switch_lt}
 use Rattle.format.specs.State.{port_of, switch_of, ordinary}
-use Rattle.widths.specs.declared.Widths.{Widths}
-use Prim.Native.Nat.{ℕ}
 use Rattle.planes.specs.Plane.{bit}
+use Rattle.widths.specs.declared.Widths.{Widths}
+use Rattle.states.specs.declared.Frame.{Frame}
 use Rattle.onestep.specs.Step.{external}
 use Rattle.links.specs.Carried.{point}
-use Rattle.links.specs.Laws.PointBits.{point-lt}
 use Rattle.steps.proofs.is_external.Goals as goal
 
 -- by the widths of the network
@@ -18,28 +19,24 @@ by_widths : (net : Net) (w : Widths) (s : ℕ) → w ≡ widths_of net → exter
 unfolding external
 by_widths net w s e = ap (λ (v : Widths). ordinary v (port_of v s) && not (linked net (switch_of v s) (port_of v s))) (sym e)
 
-pub is_ordinary-requires : goal.is_ordinary-requires
-is_ordinary-requires c = (limits _ c.requires).high_p
+pub contains-requires : goal.contains-requires
+unfolding point_good
+contains-requires c =
+    let F = c.of_state-frame.ensures.fits in
+    (c.requires, and_both _ _ (lt-ltb _ _ F.switch) (lt-ltb _ _ F.port))
 
-pub returns-then-not-is_ordinary : goal.returns-then-not-is_ordinary
-returns-then-not-is_ordinary c =
+pub returns-then-is_ordinary : goal.returns-then-is_ordinary
+returns-then-is_ordinary c net e L =
     let a = c.args in
-    let o = sym c.is_ordinary.ensures ∙ c.if-not-is_ordinary.true in
-    λ net e L. rw (by_widths net a.w a.s e, ← c.port-p.ensures, o)
+    let w = a.w in
+    let q = c.of_state-frame.ensures.is in
+    let o : ordinary w (port_of w a.s) ≡ true = ap (λ (f : Frame). ordinary w f.port) (sym q) ∙ sym c.is_ordinary.ensures ∙ c.if-is_ordinary.true in
+    ap not (c.contains.ensures ∙ ap (λ (f : Frame). bit a.points.now.bits (point w f.switch f.port)) q ∙ L.is (switch_of w a.s) (port_of w a.s) (switch_lt w a.s) (port_lt w a.s))
+    ∙ sym (by_widths net w a.s e ∙ ap (λ (t : Bool). t && not (linked net (switch_of w a.s) (port_of w a.s))) o)
 
-pub join-requires : goal.join-requires
-join-requires c = omega (arith, limits c.args.w c.requires)
-
-pub get_bit-requires : goal.get_bit-requires
-get_bit-requires c =
+pub returns-else-is_ordinary : goal.returns-else-is_ordinary
+returns-else-is_ordinary c net e L =
     let a = c.args in
-    -- the bit that is read is that of the state's point
-    omega (arith, c.join.ensures ∙ ap₂ (point c.args.w) c.switch.ensures c.port-p.ensures, point-lt a.w _ _ c.requires (switch_lt a.w a.s) (port_lt a.w a.s))
-
-pub returns : goal.returns
-returns c =
-    let a = c.args in
-    let o = sym c.is_ordinary.ensures ∙ c.if-not-is_ordinary.false in
-    λ net e L.
-    ap not (c.get_bit.ensures ∙ ap (bit a.points.now) (c.join.ensures ∙ ap₂ (point c.args.w) c.switch.ensures c.port-p.ensures) ∙ L.is (switch_of a.w a.s) (port_of a.w a.s) (switch_lt a.w a.s) (port_lt a.w a.s))
-    ∙ sym (by_widths net a.w a.s e ∙ ap (λ (t : Bool). t && not (linked net (switch_of a.w a.s) (port_of a.w a.s))) (ap (ordinary a.w) (sym c.port-p.ensures) ∙ o))
+    let w = a.w in
+    let o : ordinary w (port_of w a.s) ≡ false = ap (λ (f : Frame). ordinary w f.port) (sym c.of_state-frame.ensures.is) ∙ sym c.is_ordinary.ensures ∙ c.if-is_ordinary.false in
+    c.if-is_ordinary.false ∙ sym (by_widths net w a.s e ∙ ap (λ (t : Bool). t && not (linked net (switch_of w a.s) (port_of w a.s))) o)

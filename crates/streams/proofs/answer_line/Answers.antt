@@ -1,26 +1,26 @@
 use native.Mathlib.Omega.{arith}
 use Rattle.streams.specs.Text.{bytes}
 use Rattle.streams.specs.Line.{answer_line}
-use Rattle.streams.specs.Laws.WrittenLines.{then, line_written, room}
+use Rattle.streams.specs.Laws.Decimal.{at_most_20}
 use Rattle.streams.proofs.answer_line.Goals as goal
 
-pub add_one-requires : goal.add_one-requires
-add_one-requires c = omega (arith, room c.add_number-at.ensures (omega arith) c.requires)
+pub with_one-requires : goal.with_one-requires
+with_one-requires c = rw (c.number-line.ensures, c.new.ensures) (omega (arith, at_most_20 c.args.turn (omega arith)))
 
-pub add_two-requires : goal.add_two-requires
-add_two-requires c = omega (arith, room c.add_number-at.ensures (omega arith) c.requires)
+pub with_two-requires : goal.with_two-requires
+with_two-requires c = rw (c.number-line.ensures, c.new.ensures) (omega (arith, at_most_20 c.args.turn (omega arith)))
 
-pub add_two-requires-in-Refused : goal.add_two-requires-in-Refused
-add_two-requires-in-Refused c = omega (arith, room c.add_number-at.ensures (omega arith) c.requires)
+pub with_two-requires-in-Err : goal.with_two-requires-in-Err
+with_two-requires-in-Err c = rw (c.number-line.ensures, c.new.ensures) (omega (arith, at_most_20 c.args.turn (omega arith)))
 
-pub returns-in-Forwarded : goal.returns-in-Forwarded
+pub returns-in-Ok-Forwarded : goal.returns-in-Ok-Forwarded
 unfolding answer_line bytes
-returns-in-Forwarded c = rw c.in-Forwarded.is (line_written (then c.add_number-at.ensures c.add_one.ensures))
+returns-in-Ok-Forwarded c = rw (c.in-Ok-Forwarded.is, rw c.in-Ok-Forwarded.is at c.in-Ok-Forwarded.field-0-is, c.with_one.ensures, c.number-line.ensures, c.new.ensures)
 
-pub returns-in-Blocked : goal.returns-in-Blocked
+pub returns-in-Ok-Blocked : goal.returns-in-Ok-Blocked
 unfolding answer_line bytes
-returns-in-Blocked c = rw c.in-Blocked.is (line_written (then c.add_number-at.ensures c.add_two.ensures))
+returns-in-Ok-Blocked c = rw (c.in-Ok-Blocked.is, rw c.in-Ok-Blocked.is at c.in-Ok-Blocked.field-0-is, c.with_two.ensures, c.number-line.ensures, c.new.ensures)
 
-pub returns-in-Refused : goal.returns-in-Refused
+pub returns-in-Err : goal.returns-in-Err
 unfolding answer_line bytes
-returns-in-Refused c = rw c.in-Refused.is (line_written (then c.add_number-at.ensures c.add_two-in-Refused.ensures))
+returns-in-Err c = rw (c.in-Err.is, c.with_two-in-Err.ensures, c.number-line.ensures, c.new.ensures, c.number.ensures)

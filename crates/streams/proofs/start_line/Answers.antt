@@ -1,16 +1,15 @@
 use Rattle.streams.specs.Text.{bytes}
 use Rattle.streams.specs.Line.{start_line}
-use Rattle.streams.specs.Laws.WrittenLines.{line_written}
 use Rattle.streams.proofs.start_line.Goals as goal
 
-pub returns-in-Holds : goal.returns-in-Holds
+pub returns-in-Ok-None : goal.returns-in-Ok-None
 unfolding start_line bytes
-returns-in-Holds c = rw c.in-Holds.is (line_written c.add.ensures)
+returns-in-Ok-None c = rw (c.in-Ok-None.is, rw c.in-Ok-None.is at c.in-Ok-None.field-0-is, c.text.ensures, c.new-line.ensures)
 
-pub returns-in-Violated : goal.returns-in-Violated
+pub returns-in-Ok-Some : goal.returns-in-Ok-Some
 unfolding start_line bytes
-returns-in-Violated c = rw c.in-Violated.is (line_written c.add_two.ensures)
+returns-in-Ok-Some c = rw (c.in-Ok-Some.is, rw c.in-Ok-Some.is at c.in-Ok-Some.field-0-is, c.with_two.ensures, c.new-line.ensures)
 
-pub returns-in-Refused : goal.returns-in-Refused
+pub returns-in-Err : goal.returns-in-Err
 unfolding start_line bytes
-returns-in-Refused c = rw c.in-Refused.is (line_written c.add_two-in-Refused.ensures)
+returns-in-Err c = rw (c.in-Err.is, c.with_two-in-Err.ensures, c.new-line.ensures, c.number.ensures)

@@ -4,7 +4,8 @@ use Rattle.std.proofs.Common.{ap, subst, ◌∙◌, arith, lt-ltb, le-ltb, lit<,
 use Rattle.std.proofs.Math.Decide.{dec_lt}
 use Rattle.std.proofs.Math.Nat.{pow-le-pow_right, pow-succ'}
 use Rattle.io.specs.Digits.{last_digits, hex_digit_ascii, IsDigitCount}
-use Rattle.streams.specs.Text.{places_from, places, decimal}
+use Rattle.streams.specs.Text.{bytes, places_from, places, decimal}
+use Rattle.streams.specs.Line.{spaced}
 
 fewest_from : (more k n : ℕ) → 1 ≤ k → (1 < k → 10 ^ (k - 1) ≤ n) → n < 10 ^ (k + more) → IsDigitCount 10 1 n (places_from more k n)
 unfolding places_from
@@ -51,3 +52,8 @@ no_more_than_20 n h t =
 pub at_most_20 : (n : ℕ) → n < 2 ^ 64 → length (decimal n) ≤ 20
 unfolding decimal
 at_most_20 n h = omega (arith, length_digits (places n) n, no_more_than_20 n h)
+
+-- and with a space before it at most 21 bytes
+pub at_most_21 : (n : ℕ) → n < 2 ^ 64 → length (spaced n) ≤ 21
+unfolding spaced bytes
+at_most_21 n h = omega (arith, at_most_20 n h)

@@ -1,13 +1,12 @@
 -- What follows from what a piece is.
 use Rattle.std.proofs.Common.{ltb-true, ltb-false, sym, ap, ap₂, ◌∙◌, arith, length-append, length-take, take_all}
-use Rattle.std.specs.Prelude.{◌≡◌, refl, Bool, true, false, cond, List, [], ◌∷◌, ◌++◌, ℕ, ◌+◌, ◌<◌, ◌≤◌, eqb, ltb, length, take}
+use Rattle.std.specs.Prelude.{◌≡◌, refl, Bool, true, false, cond, Result, Ok, Err, List, [], ◌∷◌, ◌++◌, ℕ, ◌+◌, ◌<◌, ◌≤◌, eqb, ltb, length, take}
 use Rattle.std.proofs.Math.Path.{subst}
 use Rattle.format.specs.Record.{Rec, Net, most_records}
 use Rattle.format.specs.Laws.Records.{whole_join}
 use Rattle.streams.specs.declared.input.Next.{Next}
 use Rattle.streams.specs.declared.input.Next.TheVariants as next
-use Rattle.streams.specs.declared.input.Piece.{Piece}
-use Rattle.streams.specs.declared.input.Piece.TheVariants as piece
+use Rattle.streams.specs.declared.input.ReadFailed.{ReadFailed}
 use Rattle.streams.specs.Input.{is_command}
 use Rattle.streams.specs.Reading.{next_of, next_by, NoCommand, with_record, Holding}
 use Rattle.streams.specs.Laws.Store.{with_more}
@@ -39,19 +38,19 @@ module _ (n : ℕ) (buffer : List ℕ) where
       subst (λ (y : Next). Means y (ltb (length (take k buffer)) 24) (is_command (take k buffer)) (ltb n most_records)) e
       (means (eqb (length (take k buffer)) 0) (ltb (length (take k buffer)) 24) (is_command (take k buffer)) (ltb n most_records))
 
-  pub network_fewer : (p : Piece) → next_by n p buffer ≡ next.Network → n < most_records
-  network_fewer (piece.Bytes k) e = ltb-true n most_records (tests k next.Network e).2
-  network_fewer piece.Failed e = let z : ◌≡◌ {A = ℕ} 0 1 = cc in absurd (omega arith)
+  pub network_fewer : (p : Result ℕ ReadFailed) → next_by n p buffer ≡ next.Network → n < most_records
+  network_fewer (Ok k) e = ltb-true n most_records (tests k next.Network e).2
+  network_fewer (Err x) e = let z : ◌≡◌ {A = ℕ} 0 1 = cc in absurd (omega arith)
 
-  pub too_many_full : (p : Piece) → next_by n p buffer ≡ next.TooMany → most_records ≤ n
-  too_many_full (piece.Bytes k) e = ltb-false n most_records (tests k next.TooMany e)
-  too_many_full piece.Failed e = let z : ◌≡◌ {A = ℕ} 0 1 = cc in absurd (omega arith)
+  pub too_many_full : (p : Result ℕ ReadFailed) → next_by n p buffer ≡ next.TooMany → most_records ≤ n
+  too_many_full (Ok k) e = ltb-false n most_records (tests k next.TooMany e)
+  too_many_full (Err x) e = let z : ◌≡◌ {A = ℕ} 0 1 = cc in absurd (omega arith)
 
-  pub no_command : (p : Piece) → next_by n p buffer ≡ next.Network → length buffer ≡ 24 → is_command buffer ≡ false
-  no_command (piece.Bytes k) e w =
+  pub no_command : (p : Result ℕ ReadFailed) → next_by n p buffer ≡ next.Network → length buffer ≡ 24 → is_command buffer ≡ false
+  no_command (Ok k) e w =
       let t = tests k next.Network e in
       sym (ap is_command (take_all k buffer (omega (arith, ltb-false (length (take k buffer)) 24 t.0, length-take k buffer)))) ∙ t.1
-  no_command piece.Failed e w = let z : ◌≡◌ {A = ℕ} 0 1 = cc in absurd (omega arith)
+  no_command (Err x) e w = let z : ◌≡◌ {A = ℕ} 0 1 = cc in absurd (omega arith)
 
 none_join : (net : Net) (r : Rec) → NoCommand net → is_command r ≡ false → NoCommand (net ++ (r ∷ []))
 none_join [] r a b = (b, tt)

@@ -1,13 +1,8 @@
--- `route::search::nearer` meets its contract. The loop's invariant: no state below y passes, and x steps to y.
-use mathlib.Core.Path.{◌≡◌}
-use mathlib.Core.Bool.{true}
-use Prim.Native.Nat.{ℕ, ◌-◌, ◌*◌, ◌<◌, ◌≤◌}
-use lib.ListN.{get_or}
+-- No state passed is at the distance.
 use Rattle.planes.specs.Plane.{cell}
+use Rattle.trace.specs.Search.{LineOf, NoneNearer}
 use Rattle.trace.proofs.nearer.Given as goal
 
 abbrev pub invariant-loop-y : goal.invariant-loop-y
-invariant-loop-y l = (l.y ≤ l.pitch * 8) × ((z : ℕ) → z < l.y → cell l.work 0 l.pitch l.x z ≡ true → get_or l.distances z 0 ≡ l.k → ⊥) × (l.y < l.pitch * 8 → cell l.work 0 l.pitch l.x l.y ≡ true)
-
-abbrev pub decreases-loop-y : goal.decreases-loop-y
-decreases-loop-y l = l.pitch * 8 - l.y
+invariant-loop-y l = LineOf (λ y. cell l.steps.work.now 0 l.steps.pitch l.x y) l.steps.pitch l.y-iterator.line.now
+    × NoneNearer l.steps.work.now l.steps.pitch l.distances l.x l.k l.y-iterator.next

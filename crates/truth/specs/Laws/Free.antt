@@ -4,7 +4,9 @@ use Rattle.std.proofs.Math.Path.{sym, subst, subst₂}
 use Rattle.std.proofs.Math.Logic.{inl, inr, ⊎_elim}
 use Rattle.basics.specs.Bit.{bit_of}
 use Rattle.basics.specs.Laws.Tests.{not_both, and_both, or_left, or_right}
-use Rattle.format.specs.Policy.{Var, X, Y, Formula, absent, BIT, R, E, NOT, AND, OR, SOME, ALL, TC, same_var, free}
+use Rattle.format.specs.Policy.{Formula, absent, BIT, R, E, NOT, AND, OR, SOME, ALL, TC, same_var, free}
+use Rattle.format.specs.declared.kinds.Var.{Var}
+use Rattle.format.specs.declared.kinds.Var.TheVariants.{X, Y}
 use Rattle.walks.specs.Walk.{Walk}
 use Rattle.truth.specs.Truth.{Model, value, with_x, with_y, Truth}
 

@@ -4,7 +4,9 @@ use Rattle.std.proofs.Common.{sym, inl, inr, ⊎_elim}
 use Rattle.std.proofs.Math.Path.{subst, subst⁻¹}
 use Rattle.std.proofs.Math.Bool.{true, false≢true}
 use Rattle.std.specs.Bool.{beq}
-use Rattle.format.specs.Policy.{Var, X, Y, Formula, absent, BIT, R, E, NOT, AND, OR, SOME, ALL, TC}
+use Rattle.format.specs.Policy.{Formula, absent, BIT, R, E, NOT, AND, OR, SOME, ALL, TC}
+use Rattle.format.specs.declared.kinds.Var.{Var}
+use Rattle.format.specs.declared.kinds.Var.TheVariants.{X, Y}
 use Rattle.walks.specs.Walk.{Walk}
 use Rattle.basics.specs.Tabulated.{grid_test}
 use Rattle.basics.specs.Laws.Below.{any_iff, all_iff}

@@ -1,7 +1,7 @@
 -- The step plane and the row of external states give the network's model; what is left of the work buffer.
-use Rattle.std.specs.Prelude.{◌≡◌, refl, Bool, true, false, List, ◌++◌, ℕ, ◌+◌, ◌-◌, ◌*◌, ◌/◌, ◌^◌, ◌≤◌, ◌<◌, length, get_or, drop, replicate}
+use Rattle.std.specs.Prelude.{◌≡◌, Bool, true, false, Option, List, ◌++◌, ℕ, ◌+◌, ◌-◌, ◌*◌, ◌/◌, ◌^◌, ◌≤◌, ◌<◌, length, get_or, drop, replicate}
 use Rattle.std.proofs.Math.Path.{sym, ap₂}
-use Rattle.std.proofs.Common.{ap, subst, ◌∙◌, inl, inr, ⊎_elim, mul_assoc, mul-one, mul-le-mul_left, mul-le-mul_right, arith, length-append, length-drop, pow-add, pow_mono, ext_get_or, get_or-append-add, get_or-drop}
+use Rattle.std.proofs.Common.{ap, subst, ◌∙◌, inl, inr, ⊎_elim, mul_assoc, mul-le-mul_right, arith, length-append, length-drop, pow-add, ext_get_or, get_or-append-add, get_or-drop}
 use Rattle.std.proofs.lemmas.Bool.{false≢true}
 use Rattle.std.proofs.Math.Decide.{dec_lt}
 use Rattle.std.proofs.lemmas.List.{length-replicate, get_or-replicate}
@@ -17,15 +17,15 @@ use Rattle.format.specs.Policy.{longest}
 use Rattle.refusals.specs.Rows.{work_needed}
 use Rattle.widths.specs.declared.Widths.{Widths}
 use Rattle.scan.specs.declared.Layout.{Layout}
-use Rattle.widths.specs.Laws.Limits.{limits}
 use Rattle.format.specs.Laws.States.{whole_bytes, few_states}
 use Rattle.onestep.specs.Step.{Step, external}
 use Rattle.steps.specs.Filled.{Filled}
-use Rattle.verdict.specs.declared.judge.Judged.{Judged}
+use Rattle.judgement.specs.declared.Violation.{Violation}
 use Rattle.lines.specs.Shapes.{Line, Plane}
 use Rattle.nodes.specs.Node.{plane_at}
 use Rattle.nodes.specs.Laws.NodePlanes.{plane_after}
-use Rattle.verdict.specs.Judge.{verdict_of, CleanStore, Testable, StepsClosed, Searched, Judgeable, Judges}
+use Rattle.scan.specs.Stored.{CleanStore}
+use Rattle.verdict.specs.Judge.{verdict_of, Testable, StepsClosed, Searched, Judgeable, Judges}
 use Rattle.judgement.specs.Judgement.{verdict, verdict_meant, only}
 
 -- a plane has a row for each state
@@ -88,7 +88,7 @@ module _ (end : ℕ) (l : Layout) (bytes : ℕ) (b : List ℕ) (closed : Bool) (
     reached = S.reached;
   }
 
-  pub searched_from : (net : Net) (r : Judged) (d : List ℕ) → Searched net bytes c r d → Searched net bytes b r d
+  pub searched_from : (net : Net) (r : Option Violation) (d : List ℕ) → Searched net bytes c r d → Searched net bytes b r d
   searched_from net r d K = record {
     len = K.len ∙ S.len;
     meant = K.meant;
@@ -133,7 +133,7 @@ module _ (end : ℕ) (l : Layout) (store : List ℕ) where
     zeros = length-replicate k 0
 
     -- what is needed is cleared, and the rest stayed
-    module _ (r : Judged) (a b c d : List ℕ) (h : k ≤ length a) (F : Filled net 0 a b) (S : Searched net (line_bytes own) b r c) (K : Cleared 0 k c d) where
+    module _ (r : Option Violation) (a b c d : List ℕ) (h : k ≤ length a) (F : Filled net 0 a b) (S : Searched net (line_bytes own) b r c) (K : Cleared 0 k c d) where
       size : length d ≡ length (replicate k 0 ++ drop k a)
       size =
           let e = K.len ∙ S.len ∙ F.len in
@@ -154,14 +154,6 @@ module _ (end : ℕ) (l : Layout) (store : List ℕ) where
       pub left : d ≡ replicate k 0 ++ drop k a
       left = ext_get_or 0 d (replicate k 0 ++ drop k a) size (λ i hi. at_byte i (dec_lt i k))
 
-a_byte : (w : Widths) → within_limits w ≡ true → 1 ≤ plane_bytes w
-unfolding plane_bytes
-a_byte w e =
-    let l = limits w e in
-    let h : 3 ≤ 2 * width w = omega arith in
-    let p : 8 ≤ 2 ^ (2 * width w) = pow_mono h in
-    omega arith
-
 module _ (end : ℕ) (l : Layout) (store work : List ℕ) (J : Judgeable end l store work) where
   abbrev network : Net
   network = records end store
@@ -175,11 +167,6 @@ module _ (end : ℕ) (l : Layout) (store work : List ℕ) (J : Judgeable end l s
 
   pub enough : (pb : ℕ) → pb ≡ plane_bytes l.widths → (l.longest + 2) * pb ≤ length work
   enough pb e = omega (arith, ap (λ (n : ℕ). (l.longest + 2) * n) e, amount, J.room)
-
-  pub most_fits : l.longest + 2 ≤ length work
-  most_fits =
-      let h = mul-le-mul_left (l.longest + 2) (a_byte l.widths J.clean.laid.limits) in
-      omega (arith, mul-one (l.longest + 2), enough (plane_bytes l.widths) refl)
 
   pub step_room : plane_size (line_bytes l.widths) ≤ length work
   step_room =
@@ -210,11 +197,11 @@ module _ (end : ℕ) (l : Layout) (store work : List ℕ) (J : Judgeable end l s
         (subst (λ (m : ℕ). Testable end l m store ext false b) (sym row_is)
         (testable end l store J.clean ext work b J.room (subst (λ (m : ℕ). Line (external network) m ext) (e ∙ ap states widths_are) R) F))
 
-    pub judged : (k pb : ℕ) (r : Judged) (b : List ℕ) (closed : Bool) (b2 c d : List ℕ) → k ≡ (l.longest + 2) * pb → pb ≡ plane_bytes l.widths → Filled network 0 work b
+    pub judged : (k : ℕ) (r : Option Violation) (b : List ℕ) (closed : Bool) (b2 c d : List ℕ) → k ≡ (l.longest + 2) * plane_bytes l.widths → Filled network 0 work b
         → StepsClosed (n / 8) b closed b2 → Searched network (n / 8) b2 r c → Cleared 0 k c d → Judges network work r d
-    judged k pb r b closed b2 c d q p F E S2 K = let S = searched_from end l (n / 8) b closed b2 E network r c S2 in record {
+    judged k r b closed b2 c d q F E S2 K = let S = searched_from end l (n / 8) b closed b2 E network r c S2 in record {
       answer = only network (verdict_of r) (verdict network) S.meant (verdict_meant network);
       work =
           left end l store J.clean r work b c d J.room F (subst (λ (m : ℕ). Searched network m b r c) row_is S)
-          (subst (λ (m : ℕ). Cleared 0 m c d) (q ∙ ap (λ (m : ℕ). (l.longest + 2) * m) p ∙ amount) K);
+          (subst (λ (m : ℕ). Cleared 0 m c d) (q ∙ amount) K);
     }

@@ -1,58 +1,42 @@
 use mathlib.Core.Path.{sym, ap, ◌∙◌}
-use mathlib.Core.List.{List}
-use Prim.Native.Nat.{ℕ, ◌+◌, ◌/◌, ◌%◌, ◌≤◌}
+use Prim.Native.Nat.{◌+◌, ◌/◌, ◌%◌, ◌≤◌, ◌<◌}
 use native.Mathlib.Omega.{arith}
-use lib.ListN.{length, length-set}
+use lib.ListN.{length-set}
 use Rattle.format.specs.Record.{Rec, records}
-use Rattle.format.specs.Laws.Records.{length_records, part_is, record_length}
-use Rattle.choice.specs.Laws.GoodRecords.{groups_in}
+use Rattle.format.specs.Laws.Records.{length_records, record_at_lem}
 use Rattle.onestep.specs.Groups.{bucket_header}
-use Rattle.scan.specs.declared.Layout.{Layout}
-use Rattle.scan.specs.Stored.{Stored}
+use Rattle.scan.specs.declared.network.Network.{Network}
+use Rattle.scan.specs.Laws.PassedRecords.{parts_within}
 use Rattle.groups.specs.Laws.BucketHeaders.{headers_more}
-use Rattle.groups.specs.Laws.Running.{record_read}
 use Rattle.groups.proofs.buckets.bucket_headers.Goals as goal
 
--- the groups of the store, at most 16
-groups : (n : ℕ) (l : Layout) (b : List ℕ) → Stored n l b → (l.groups ≤ n) × (n ≤ l.groups + 16)
-groups n l b S =
-    ((groups_in n l b S).1, omega (arith, S.laid.few_groups, length_records n b))
+-- the groups of a network, at most 16
+few : (net : Network) → (net.layout.groups ≤ net.n) × (net.n ≤ net.layout.groups + 16)
+few net = ((parts_within net.n net.layout net.store.now net.stored).1, omega (arith, net.stored.laid.few_groups, length_records net.n net.store.now))
 
-pub loop-x-init : goal.loop-x-init
-loop-x-init c = (omega arith, c.requires.1, λ i j h low lj lh lt. absurd (omega arith))
+pub overflow_sub-x-end : goal.overflow_sub-x-end
+overflow_sub-x-end c = (few c.args.net.now).0
 
-pub header_set-requires : goal.header_set-requires
-header_set-requires c =
-    let b = c.args.store.now in
-    let i = c.args.l.groups + c.loop-x.x / 192 in
-    (ap length (part_is b i) ∙ record_length b i (omega (arith, groups c.args.n c.args.l c.args.store.now c.requires.0, c.requires.0.room)), omega arith, c.requires.0.laid.limits)
+pub overflow_mul-x-end : goal.overflow_mul-x-end
+overflow_mul-x-end c = omega (arith, few c.args.net.now)
+
+pub bounds-headers-x : goal.bounds-headers-x
+bounds-headers-x c = omega (arith, few c.args.net.now)
 
 pub loop-x-preserved : goal.loop-x-preserved
 loop-x-preserved c =
     let o = c.loop-x in
-    let a = c.args in
-    let b = a.store.now in
-    let v = c.header_set.result in (
-      omega (arith, c.loop-x-test.true),
-      length-set o.buckets o.x v ∙ o.invariant.1,
-      headers_more (records a.n b) a.l o.x o.buckets o.invariant.2 v (omega (arith, groups c.args.n c.args.l c.args.store.now c.requires.0, o.invariant.1))
-          (c.header_set.ensures ∙ ap (λ (r : Rec). bucket_header a.l.widths r (o.x / 64 % 3) (o.x % 64)) (sym (record_read a.n b (a.l.groups + o.x / 192) (omega (arith, groups c.args.n c.args.l c.args.store.now c.requires.0))))),
+    let net = c.args.net.now in
+    let rs = records net.n net.store.now in
+    let v = c.header_set.result in
+    let i = net.layout.groups + o.x / 192 in
+    let h : o.x < 3072 = omega (arith, few net) in (
+      length-set o.headers o.x v ∙ o.invariant.0,
+      headers_more rs net.layout o.x o.headers o.invariant.1 v (omega (arith, o.invariant.0))
+          (c.header_set.ensures ∙ ap (λ (r : Rec). bucket_header net.layout.widths r (o.x / 64 % 3) (o.x % 64)) (c.record-r.ensures.is ∙ sym (record_at_lem net.n net.store.now i (omega (arith, few net))))),
     )
 
 pub returns : goal.returns
-returns c =
-    let o = c.loop-x in
-    let a = c.args in
-    λ i j h low lj lh lt. o.invariant.2 i j h low lj lh (omega (arith, c.loop-x-test.false, length_records a.n a.store.now))
-
-pub overflow_sub-end : goal.overflow_sub-end
-overflow_sub-end c = omega (arith, groups c.args.n c.args.l c.args.store.now c.requires.0)
-
-pub overflow_mul-end : goal.overflow_mul-end
-overflow_mul-end c = omega (arith, groups c.args.n c.args.l c.args.store.now c.requires.0)
-
-pub bounds-buckets-x : goal.bounds-buckets-x
-bounds-buckets-x c = omega (arith, groups c.args.n c.args.l c.args.store.now c.requires.0)
-
-pub overflow_add-x : goal.overflow_add-x
-overflow_add-x c = omega (arith, groups c.args.n c.args.l c.args.store.now c.requires.0)
+returns c i j h low lj lh lt =
+    let net = c.args.net.now in
+    c.loop-x.invariant.1 i j h low lj lh (omega (arith, length_records net.n net.store.now))

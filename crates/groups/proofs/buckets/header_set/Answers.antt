@@ -1,11 +1,7 @@
 use mathlib.Core.Path.{ap₂, ◌∙◌}
 use Prim.Native.Nat.{ℕ}
 use Rattle.format.specs.Pattern.{put_bits}
-use Rattle.widths.specs.Laws.Limits.{limits}
 use Rattle.groups.proofs.buckets.header_set.Goals as goal
-
-pub put-requires : goal.put-requires
-put-requires c = (limits c.args.w c.requires.2).high_h
 
 pub returns : goal.returns
 returns c =

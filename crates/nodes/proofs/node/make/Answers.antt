@@ -1,74 +1,66 @@
 -- `nodes::node::make` meets its contract.
-use native.Mathlib.Omega.{arith}
-use Rattle.format.specs.Policy.{node_kind}
-use Rattle.nodes.specs.Laws.NodePlanes.{offset_fits, plane_after, first_operand, op_kinds, op_first, op_second, range_kinds, range_first, range_op, own_plane, operand_source, bit_node, step_node, external_node, op_node, range_node, closure_node, no_node}
+use mathlib.Core.Path.{refl}
+use mathlib.Core.Logic.{inl, inr}
+use Rattle.nodes.specs.Laws.NodePlanes.{operand_low, operand_source, joined_sources, bit_node, step_node, external_node, join_node, range_node, over_node, closure_node, no_node}
 use Rattle.nodes.proofs.node.make.Goals as goal
 
-pub overflow_mul-base-2 : goal.overflow_mul-base-2
-overflow_mul-base-2 c = omega (arith, offset_fits c.args.pitch 0 c.requires.small (omega arith))
+pub joined_at-requires : goal.joined_at-requires
+joined_at-requires c =
+    let low = operand_low _ _ _ _ _ _ c.requires in
+    (low _ (rw c.in-Join.is (inl refl)), low _ (rw c.in-Join.is (inr refl)))
 
-pub overflow_mul-base-3 : goal.overflow_mul-base-3
-overflow_mul-base-3 c = omega (arith, offset_fits c.args.pitch c.args.k c.requires.small (omega (arith, c.requires.few)))
+pub apply-requires-clause-sources : goal.apply-requires-clause-sources
+apply-requires-clause-sources c =
+    rw (c.site_of-to.ensures, c.joined_at.ensures) (joined_sources _ _ _ _ _ _ c.requires _ _ _ (rw c.in-Join.is (inl refl)) (rw c.in-Join.is (inr refl)))
 
-pub bit_line-requires : goal.bit_line-requires
-bit_line-requires c = let M = c.requires in record {
-  plane = own_plane _ _ _ _ _ _ _ M;
-  i_bound = M.bits c.in-0.is;
-}
+pub joined_at-requires-in-Range : goal.joined_at-requires-in-Range
+joined_at-requires-in-Range c =
+    let low = operand_low _ _ _ _ _ _ c.requires in
+    (low _ (rw c.in-Range.is (inl refl)), low _ (rw c.in-Range.is (inl refl)))
 
-pub arrange-requires : goal.arrange-requires
-arrange-requires c = record { plane = own_plane _ _ _ _ _ _ _ c.requires; pitch_bound = plane_after c.args.pitch c.args.k; code_nonzero = omega arith }
+pub range-requires-clause-sources : goal.range-requires-clause-sources
+range-requires-clause-sources c =
+    rw (c.site_of-to.ensures, c.joined_at-in-Range.ensures) (joined_sources _ _ _ _ _ _ c.requires _ _ _ (rw c.in-Range.is (inl refl)) (rw c.in-Range.is (inl refl)))
 
-pub keep-requires : goal.keep-requires
-keep-requires c = own_plane _ _ _ _ _ _ _ c.requires
+pub joined_at-requires-in-Over : goal.joined_at-requires-in-Over
+joined_at-requires-in-Over c =
+    let low = operand_low _ _ _ _ _ _ c.requires in
+    (low _ (rw c.in-Over.is (inl refl)), low _ (rw c.in-Over.is (inr refl)))
 
-pub reach-requires : goal.reach-requires
-unfolding node_kind
-reach-requires c =
-    let M = c.requires in
-    let s = operand_source _ _ _ _ _ _ _ M c.args.codes.now _ (first_operand _ _ _ 8 c.in-8.is (omega arith)) in
-    record { plane = own_plane _ _ _ _ _ _ _ M; source = rw c.form_at-first.ensures s; pitch_bound = plane_after c.args.pitch c.args.k; reached = M.reached }
+pub range-requires-in-Over-clause-sources : goal.range-requires-in-Over-clause-sources
+range-requires-in-Over-clause-sources c =
+    rw (c.site_of-to.ensures, c.joined_at-in-Over.ensures) (joined_sources _ _ _ _ _ _ c.requires _ _ _ (rw c.in-Over.is (inl refl)) (rw c.in-Over.is (inr refl)))
 
-pub apply-requires : goal.apply-requires
-apply-requires c =
-    let M = c.requires in
-    let source = operand_source _ _ _ _ _ _ _ M c.args.codes.now in
-    let e = op_kinds c.args.kind (omega arith) (omega arith) in
-    record { plane = own_plane _ _ _ _ _ _ _ M; source = rw c.form_at-first-in-3-to-5.ensures (source _ (op_first _ _ _ e)); source_2 = rw c.form_at-second.ensures (source _ (op_second _ _ _ _ e c.second_of.ensures)) }
+pub form_at-requires : goal.form_at-requires
+form_at-requires c = operand_low _ _ _ _ _ _ c.requires _ (rw c.in-Tc.is (inl refl))
 
-pub range-requires : goal.range-requires
-range-requires c =
-    let M = c.requires in
-    let e = range_kinds c.args.kind (omega arith) (omega arith) in
-    let s = operand_source _ _ _ _ _ _ _ M c.args.codes.now _ (range_first _ _ _ e) in
-    record { plane = own_plane _ _ _ _ _ _ _ M; source = rw c.form_at-first-in-6-to-7.ensures s; source_2 = rw c.form_at-first-in-6-to-7.ensures s; quantifies = (rw c.operation-in-6-to-7.ensures (range_op _ e), tt) }
+pub reach-requires-clause-source : goal.reach-requires-clause-source
+reach-requires-clause-source c = rw (c.site_of-to.ensures, c.form_at.ensures) (operand_source _ _ _ _ _ _ c.requires _ (rw c.in-Tc.is (inl refl)))
 
-pub keep-requires-in-9-to-255 : goal.keep-requires-in-9-to-255
-keep-requires-in-9-to-255 c = own_plane _ _ _ _ _ _ _ c.requires
+pub returns-in-Bit : goal.returns-in-Bit
+returns-in-Bit c = rw c.in-Bit.is (bit_node _ _ _ _ _ _ _ _ _ (rw c.site_of-to.ensures at c.bit_line.ensures))
 
-pub returns-in-0 : goal.returns-in-0
-returns-in-0 c = bit_node _ _ _ _ _ _ _ _ _ _ c.in-0.is c.bit_line.ensures
+pub returns-in-R : goal.returns-in-R
+returns-in-R c = rw c.in-R.is (step_node _ _ _ _ _ _ _ _ _ (rw c.site_of-to.ensures at c.arrange.ensures))
 
-pub returns-in-1 : goal.returns-in-1
-returns-in-1 c = step_node _ _ _ _ _ _ _ _ _ _ c.in-1.is c.arrange.ensures
+pub returns-in-E : goal.returns-in-E
+returns-in-E c = rw c.in-E.is (external_node _ _ _ _ _ _ _ _ (rw c.site_of-to.ensures at c.keep.ensures))
 
-pub returns-in-2 : goal.returns-in-2
-returns-in-2 c = external_node _ _ _ _ _ _ _ _ _ _ c.in-2.is c.keep.ensures
+pub returns-in-Join : goal.returns-in-Join
+returns-in-Join c = rw c.in-Join.is (join_node _ _ _ _ _ _ _ _ _ _ (rw (c.site_of-to.ensures, c.joined_at.ensures) at c.apply.ensures))
 
-pub returns-in-8 : goal.returns-in-8
-returns-in-8 c = closure_node _ _ _ _ _ _ _ _ _ _ c.in-8.is (rw c.form_at-first.ensures at c.reach.ensures)
+pub returns-in-Range : goal.returns-in-Range
+returns-in-Range c =
+    rw c.in-Range.is
+    (range_node _ _ _ _ _ _ _ _ _ _ (rw c.in-Range.is at c.requires.sound) (rw (c.site_of-to.ensures, c.joined_at-in-Range.ensures) at c.range.ensures))
 
-pub returns-in-3-to-5 : goal.returns-in-3-to-5
-returns-in-3-to-5 c =
-    let kind = c.args.kind in
-    op_node _ kind _ _ _ _ _ _ _ _ _ (op_kinds kind (omega arith) (omega arith)) c.second_of.ensures
-    (rw (c.form_at-first-in-3-to-5.ensures, c.form_at-second.ensures, c.operation.ensures) at c.apply.ensures)
+pub returns-in-Over : goal.returns-in-Over
+returns-in-Over c =
+    let Q = rw c.in-Over.is at c.requires.sound in
+    rw c.in-Over.is (over_node _ _ _ _ _ _ _ _ _ _ _ _ Q.0 (rw (c.site_of-to.ensures, c.joined_at-in-Over.ensures) at c.range-in-Over.ensures))
 
-pub returns-in-6-to-7 : goal.returns-in-6-to-7
-returns-in-6-to-7 c =
-    let kind = c.args.kind in
-    range_node _ kind _ _ _ _ _ _ _ _ (range_kinds kind (omega arith) (omega arith))
-    (rw (c.form_at-first-in-6-to-7.ensures, c.operation-in-6-to-7.ensures) at c.range.ensures)
+pub returns-in-Tc : goal.returns-in-Tc
+returns-in-Tc c = rw c.in-Tc.is (closure_node _ _ _ _ _ _ _ _ _ _ (rw (c.site_of-to.ensures, c.form_at.ensures) at c.reach.ensures))
 
-pub returns-in-9-to-255 : goal.returns-in-9-to-255
-returns-in-9-to-255 c = no_node _ _ _ _ _ _ _ _ _ _ (omega arith) c.keep-in-9-to-255.ensures
+pub returns-in-Absent : goal.returns-in-Absent
+returns-in-Absent c = rw c.in-Absent.is (no_node _ _ _ _ _ _ _ (rw c.site_of-to.ensures at c.keep-in-Absent.ensures))

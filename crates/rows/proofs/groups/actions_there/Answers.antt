@@ -1,20 +1,13 @@
-use borrow.Author.Count.{below_more}
-use mathlib.Core.Path.{sym, ◌∙◌}
-use native.Mathlib.Omega.{arith}
+use Rattle.std.proofs.Common.{◌≡◌, ◌<◌, ℕ, true, rules}
+use Rattle.std.proofs.iter.runs.Sources.{ranges}
+use Rattle.basics.specs.Laws.Tests.{same_test, true_of, not_both}
+use Rattle.format.specs.Group.{runs_there}
 use Rattle.format.specs.Laws.Groups.{action_absent, actions_there_lem}
 use Rattle.rows.proofs.groups.actions_there.Goals as goal
 
-pub loop-i-init : goal.loop-i-init
-loop-i-init c = (omega arith, λ net T k h. absurd (omega arith))
-
-pub returns-then-not-runs_there : goal.returns-then-not-runs_there
-returns-then-not-runs_there c net T =
-    sym (action_absent net c.args.r.now c.loop-i.i c.loop-i-test.true (sym (c.runs_there.ensures net T) ∙ c.if-not-runs_there.true))
-
-pub loop-i-preserved : goal.loop-i-preserved
-loop-i-preserved c =
-    (omega arith, λ net T. below_more _ _ (c.loop-i.invariant.1 net T) (sym (c.runs_there.ensures net T) ∙ c.if-not-runs_there.false))
-
 pub returns : goal.returns
 returns c net T =
-    sym (actions_there_lem net c.args.r.now (λ k h. c.loop-i.invariant.1 net T k (omega arith)))
+    let r = c.args.r.now in
+    let there : c.all.result ≡ true → (i : ℕ) → i < 4 → runs_there net r i ≡ true = search (rules, ranges) in
+    let back : ((i : ℕ) → i < 4 → runs_there net r i ≡ true) → c.all.result ≡ true = search (rules, ranges) in
+    same_test _ _ (λ e. actions_there_lem net r (there e)) (λ e. back (λ i h. true_of _ (λ q. not_both e (action_absent net r i h q))))

@@ -1,20 +1,13 @@
-use borrow.Author.Count.{below_more}
-use mathlib.Core.Path.{sym, ◌∙◌}
-use native.Mathlib.Omega.{arith}
+use Rattle.std.proofs.Common.{◌≡◌, ◌<◌, ℕ, true, rules}
+use Rattle.std.proofs.iter.runs.Sources.{ranges}
+use Rattle.basics.specs.Laws.Tests.{same_test, true_of, not_both}
+use Rattle.format.specs.Group.{goes_there}
 use Rattle.format.specs.Laws.Groups.{bucket_absent, buckets_there_lem}
 use Rattle.rows.proofs.groups.buckets_there.Goals as goal
 
-pub loop-j-init : goal.loop-j-init
-loop-j-init c = (omega arith, λ net T k h. absurd (omega arith))
-
-pub returns-then-not-goes_there : goal.returns-then-not-goes_there
-returns-then-not-goes_there c net T =
-    sym (bucket_absent net c.args.r.now c.loop-j.j c.loop-j-test.true (sym (c.goes_there.ensures net T) ∙ c.if-not-goes_there.true))
-
-pub loop-j-preserved : goal.loop-j-preserved
-loop-j-preserved c =
-    (omega arith, λ net T. below_more _ _ (c.loop-j.invariant.1 net T) (sym (c.goes_there.ensures net T) ∙ c.if-not-goes_there.false))
-
 pub returns : goal.returns
 returns c net T =
-    sym (buckets_there_lem net c.args.r.now (λ k h. c.loop-j.invariant.1 net T k (omega arith)))
+    let r = c.args.r.now in
+    let there : c.all.result ≡ true → (j : ℕ) → j < 3 → goes_there net r j ≡ true = search (rules, ranges) in
+    let back : ((j : ℕ) → j < 3 → goes_there net r j ≡ true) → c.all.result ≡ true = search (rules, ranges) in
+    same_test _ _ (λ e. buckets_there_lem net r (there e)) (λ e. back (λ j h. true_of _ (λ q. not_both e (bucket_absent net r j h q))))

@@ -8,7 +8,7 @@ use Rattle.verdict.proofs.judge.close_steps.Goals as goal
 
 pub close_into-requires : goal.close_into-requires
 close_into-requires c =
-    let P = c.requires.plane in
+    let P = c.requires in
     record { narrow = P.small; first = omega (arith, P.within); second = P.within; apart = inl (omega arith) }
 
 pub returns-then-wants_closure : goal.returns-then-wants_closure

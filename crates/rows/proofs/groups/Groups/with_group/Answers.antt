@@ -11,6 +11,6 @@ returns c before G =
     let last = last_group_lem before r c.requires.1 in
     record {
       count = ap (λ (n : ℕ). n + 1) G.count ∙ sym (kind_count 9 before r ∙ rw c.requires.1);
-      switch = ap (λ (q : Rec). at q 1) (sym last);
-      number = ap (λ (q : Rec). at q 2) (sym last);
+      switch = c.from.ensures ∙ ap (λ (q : Rec). at q 1) (sym last);
+      number = c.from-2.ensures ∙ ap (λ (q : Rec). at q 2) (sym last);
     }

@@ -1,0 +1,4 @@
+-- Laws that several proofs of this crate use.
+pub mod Misplaced
+pub mod Named
+pub mod Same

@@ -1,0 +1,2 @@
+-- The frames of packet states.
+pub mod Frames
