@@ -1,7 +1,7 @@
 // What the actions of a record send.
 #![tactic(auto)]
 
-ghost use Rattle.std.specs.Prelude.{◌≡◌, true, [], ◌∷◌, ℕ, ◌^◌, ◌<◌, ◌≤◌, length, get_or};
+ghost use Rattle.std.specs.Prelude.{◌≡◌, true, [], ◌∷◌, ℕ, ◌^◌, ◌<◌, ◌≤◌, get_or};
 ghost use Rattle.basics.specs.Lists.{from};
 ghost use Rattle.format.specs.Record.{records};
 ghost use Rattle.format.specs.Fields.{actions_good};
@@ -43,7 +43,7 @@ fn flood(relay: &mut Relay, header: u8, value: u8, care: u8)
 }
 
 // Sends a copy with this header to each port that OUTPUT reaches.
-#[tactic(auto, using(widths::specs::Laws::Limits::limits))]
+#[tactic(auto, using(widths::specs::Laws::Limits::limits, onestep::specs::Laws::GoodActions::pattern_value_lt, onestep::specs::Laws::CopiesInOrder::reached_one, onestep::specs::Laws::CopiesInOrder::reached_flooded))]
 fn output(relay: &mut Relay, header: u8, value: u8, care: u8)
     requires header_fits { HeaderFits relay.old header }
     requires care_value { pattern_good relay.old.groups.now.net.layout.widths.p value care ≡ true }
@@ -57,11 +57,12 @@ fn output(relay: &mut Relay, header: u8, value: u8, care: u8)
     }
 }
 
-// Runs action i of a record on a frame that has this header by then; the header after it.
+// Runs action i of a record on a frame that has this header by then; the header after it. The kind is matched once, and each action
+// takes other arguments: a closure for each would be no plainer.
 #[tactic(auto, using(widths::specs::Laws::Limits::limits))]
-fn act(relay: &mut Relay, r: &[u8], i: usize, header: u8) -> u8
+fn act(relay: &mut Relay, r: &[u8; 24], i: usize, header: u8) -> u8
     requires header_fits { HeaderFits relay.old header }
-    requires used { (length r.now ≡ 24) × UsedAction relay.old.groups.now.net.layout.widths r.now i }
+    requires used { UsedAction relay.old.groups.now.net.layout.widths r.now i }
     ensures { Acted r.now i header relay.old relay.new result }
 {
     let value = r[10 + 3 * i];
@@ -85,8 +86,8 @@ fn act(relay: &mut Relay, r: &[u8], i: usize, header: u8) -> u8
 }
 
 // Runs the actions of a record on a frame, in order.
-fn run(relay: &mut Relay, r: &[u8])
-    requires { (length r.now ≡ 24) × (actions_good relay.old.groups.now.net.layout.widths r.now ≡ true) }
+fn run(relay: &mut Relay, r: &[u8; 24])
+    requires { actions_good relay.old.groups.now.net.layout.widths r.now ≡ true }
     ensures { Ran (record_sends relay.old r.now) relay.old relay.new }
 {
     let mut header = relay.frame.header;

@@ -3,7 +3,8 @@
 
 use judgement::Violation;
 
-// What the command call answers to a command that no row refuses.
+// What the command call answers to a command that no row refuses. No Result: that a command is blocked is an answer, and of the
+// call's Result only a refusal is the error.
 #[derive(Clone, Copy)]
 pub enum Commanded {
     Forwarded { count: usize },

@@ -2,11 +2,10 @@
 use mathlib.Core.Path.{◌≡◌, refl, sym, ap, subst⁻¹, ◌∙◌}
 use mathlib.Core.List.{List, [], ◌++◌}
 use mathlib.Core.Option.{none, some}
-use Prim.Native.Nat.{ℕ, ◌+◌, ◌-◌, ◌*◌, ◌≤◌}
+use Prim.Native.Nat.{ℕ, ◌+◌, ◌-◌, ◌*◌, ◌<◌, ◌≤◌}
 use native.Mathlib.Omega.{arith}
-use lib.ListN.{length, drop, replicate, length-append, length-drop, length-replicate}
-use lib.Seq.{length-take-le}
-use Rattle.format.specs.Record.{Rec, Net, store_bytes, records, flat}
+use lib.ListN.{length, drop, replicate, length-append, length-replicate}
+use Rattle.format.specs.Record.{Rec, Net, most_records, store_bytes, records, flat}
 use Rattle.format.specs.Version.{version_of}
 use Rattle.refusals.specs.Rows.{work_needed}
 use Rattle.refusals.specs.Refusal.{file_row, check_refusal, command_row, command_refusal}
@@ -21,14 +20,12 @@ use Rattle.judgement.specs.Judgement.{verdict}
 use Rattle.verdict.specs.Judge.{verdict_of, Judgeable, Judges}
 use Rattle.book.specs.Answer.{CheckAnswer, CommandAnswer, forwarded, blocked, check_answer_of}
 use Rattle.effect.specs.Apply.{applied}
-use Rattle.commands.specs.Effect.{padded, BufferRoom, Built}
-use Rattle.admission.specs.Admission.{Known}
+use Rattle.commands.specs.Effect.{padded, Built}
 use Rattle.book.specs.Check.{of_verdict, check_answer, cleared, check_work, CheckPromised}
 use Rattle.book.specs.Reference.{Installed, Outcome, judged as judgedStep, outcome_of, command_work}
 use Rattle.effect.specs.NeverStuck.{GoesOn, work_same}
 use Rattle.book.specs.Command.{Promised, call}
-use Rattle.effect.specs.Laws.StoredRule.{command}
-use Rattle.book.specs.Laws.Refusals.{checks, passed, goes_on}
+use Rattle.book.specs.Laws.Refusals.{passed, goes_on}
 use Rattle.calls.proofs.InStore.{stored_filled}
 use Rattle.calls.proofs.MovedLayout.{behind}
 use Rattle.commands.specs.Laws.Built.{built_records}
@@ -76,18 +73,13 @@ pub command_refused : (store : List ℕ) (n : ℕ) (work : List ℕ) (given : Re
 unfolding outcome_of command_work
 command_refused store n work given k p e = record { answered = rw (← e) refl; stores = rw (← e) refl; works = rw (← e) refl }
 
--- what is known of a network that rows 1 to 11 and 16 pass
-pub known : (store : List ℕ) (n work : ℕ) (l : Layout) → check_refusal store n work ≡ none → LayoutOf (records n store) l
-    → (v : Version) → v ≡ version_of (records n store) → Known l.widths v store n (l.nodes - l.rules)
-known store n work l e laid v q =
-    let c = checks store n work e in
-    record {
-      stored = omega (arith, c.arguments.few, c.arguments.long);
-      widths = laid.widths;
-      version = q;
-      limits = laid.limits;
-      rules_are = sym (ap length laid.rules ∙ length-take-le (l.nodes - l.rules) (drop l.rules (records n store)) (omega (arith, length-drop l.rules (records n store), laid.within)));
-    }
+-- a network on which no row refuses a command has a first record, which stands in the store
+module _ (store : List ℕ) (n work : ℕ) (given : Rec) (e : command_refusal store n work given ≡ none) where
+  pub first_within : 24 ≤ length store
+  first_within = omega (arith, (passed store n work given e).check.arguments.long)
+
+  pub some_record : 0 < n
+  some_record = (passed store n work given e).check.arguments.some
 
 -- the command call, not refused
 module _ (store : List ℕ) (n : ℕ) (work : List ℕ) (given : Rec) (e : command_refusal store n (length work) given ≡ none)
@@ -104,14 +96,8 @@ module _ (store : List ℕ) (n : ℕ) (work : List ℕ) (given : Rec) (e : comma
   goes : GoesOn present result
   goes = subst⁻¹ (λ (v : Version). GoesOn present (applied v given present)) same (goes_on store n (length work) given e)
 
-  pub in_store_lem : (n * 24 ≤ length store) × (store_bytes ≤ length store)
-  in_store_lem = let a = (passed store n (length work) given e).check.arguments in (omega (arith, a.few, a.long), a.long)
-
-  pub ready : (next : List ℕ) → length next ≡ store_bytes → BufferRoom next store n (length result) × (length given ≡ 24)
-  ready next h = (
-    record { wide = h; stored = in_store_lem.0; fits = goes.few },
-    (command present given (passed store n (length work) given e).command).bytes,
-  )
+  pub few : length result ≤ most_records
+  few = goes.few
 
   -- what was made is the network that the command would leave
   module _ (count : ℕ) (next : List ℕ) (M : Built result count next) where

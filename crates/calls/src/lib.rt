@@ -3,18 +3,19 @@
 
 ghost use Rattle.std.specs.Prelude.{◌≡◌, ◌+◌, ◌≤◌, length};
 ghost use Rattle.std.proofs.Math.Option.{none};
-ghost use Rattle.format.specs.Record.{Net, records};
-ghost use Rattle.format.specs.Version.{version_of};
-ghost use Rattle.refusals.specs.Refusal.{check_refusal, command_refusal};
+ghost use Rattle.format.specs.Record.{Net};
+ghost use Rattle.refusals.specs.Refusal.{command_refusal};
 ghost use Rattle.scan.specs.Layout.{LayoutOf};
 ghost use Rattle.effect.specs.NeverStuck.{GoesOn};
 ghost use Rattle.book.specs.Answer.{check_answer_of, command_answer_of};
 ghost use Rattle.book.specs.Check.{CheckPromised};
 ghost use Rattle.book.specs.Command.{Promised, call};
+ghost use Rattle.calls.specs.Judged.{JudgedAs};
 
 use book::Commanded;
-use format::Version;
+use commands::stored::Stored;
 use judgement::Violation;
+use records::wire::version_of;
 use refusals::Refused;
 use scan::Layout;
 use scan::network::Network;
@@ -40,66 +41,30 @@ fn moved(l: Layout, n: usize, count: usize) -> Layout
     }
 }
 
-// A command that no row refuses, judged by the network that it would leave, which is made in `next` and written back where it holds.
-// The store, its count and its layout are no `Network` here: that would lend the store, which is written at the end.
+// A command that no row refuses, judged by the network that it would leave, which is made in `next`: how many records that has,
+// where it holds.
 fn judged_in(
-    version: Version,
     next: &mut [u8; records::STORE_BYTES],
-    store: &mut [u8],
-    n: usize,
-    l: Layout,
+    net: &Network,
     work: &mut [u8],
-    given: &[u8],
-) -> Commanded
-    requires { (version ≡ version_of (records n store.old)) × (command_refusal store.old n (length work.old) given.now ≡ none) × LayoutOf (records n store.old) l }
-    ensures { Promised (call store.old n work.old given.now (command_answer_of (Ok result)) store.new work.new) }
+    given: &[u8; 24],
+) -> Result<usize, Violation>
+    requires { command_refusal net.now.store.now net.now.n (length work.old) given.now ≡ none }
+    ensures { JudgedAs net.now.store.now net.now.n work.old given.now next.new result work.new }
 {
-    let count = commands::apply_to(version, next, store, n, given);
-    let net = Network {
+    let before = Stored {
+        store: net.store,
+        n: net.n,
+    };
+    let count = commands::apply_to(version_of(net.store), next, before, given);
+    let left = Network {
         store: next,
         n: count,
-        layout: moved(l, n, count),
+        layout: moved(net.layout, net.n, count),
     };
-    match verdict::judge::judge(&net, work) {
-        Some(v) => Commanded::Blocked(v),
-        None => {
-            commands::write_back(store, next);
-            Commanded::Forwarded { count }
-        }
-    }
-}
-
-// The same; the buffer is made here, so that no need of it speaks of 15,768 zeros.
-fn judged(
-    version: Version,
-    store: &mut [u8],
-    n: usize,
-    l: Layout,
-    work: &mut [u8],
-    given: &[u8],
-) -> Commanded
-    requires { (version ≡ version_of (records n store.old)) × (command_refusal store.old n (length work.old) given.now ≡ none) × LayoutOf (records n store.old) l }
-    ensures { Promised (call store.old n work.old given.now (command_answer_of (Ok result)) store.new work.new) }
-{
-    let mut next = [0u8; records::STORE_BYTES];
-    judged_in(version, &mut next, store, n, l, work, given)
-}
-
-// A command on a network that rows 1 to 11 and 16 pass: rows 12, 16 and 13, and then the verdict.
-fn after_check(
-    store: &mut [u8],
-    n: usize,
-    l: Layout,
-    work: &mut [u8],
-    given: &[u8],
-) -> Result<Commanded, Refused>
-    requires { (check_refusal store.old n (length work.old) ≡ none) × LayoutOf (records n store.old) l }
-    ensures { Promised (call store.old n work.old given.now (command_answer_of result) store.new work.new) }
-{
-    let version = records::wire::version_of(store);
-    match admission::command_row(l.widths, version, store, n, l.nodes - l.rules, given) {
-        Ok(()) => Ok(judged(version, store, n, l, work, given)),
-        Err(row) => Err(Refused { row, place: 0 }),
+    match verdict::judge::judge(&left, work) {
+        Some(v) => Err(v),
+        None => Ok(count),
     }
 }
 
@@ -112,6 +77,19 @@ pub fn command(
 ) -> Result<Commanded, Refused>
     ensures { Promised (call store.old n work.old given.now (command_answer_of result) store.new work.new) }
 {
-    let layout = scan::check_rows(store, n, work.len())?.layout;
-    after_check(store, n, layout, work, given)
+    let installed = scan::check_rows(store, n, work.len())?;
+    // A match, as in scan: where the refusal is stands beside its row.
+    let given = match admission::command_row(&installed, given) {
+        Ok(given) => given,
+        Err(row) => return Err(Refused { row, place: 0 }),
+    };
+    let mut next = [0u8; records::STORE_BYTES];
+    // The network that is left holds or not; the answer says what became of the command.
+    match judged_in(&mut next, &installed, work, given) {
+        Ok(count) => {
+            commands::write_back(store, &next);
+            Ok(Commanded::Forwarded { count })
+        }
+        Err(v) => Ok(Commanded::Blocked(v)),
+    }
 }

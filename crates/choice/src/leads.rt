@@ -17,8 +17,8 @@ use widths::Widths;
 // How many states arrive, at most.
 pub const MOST_ARRIVING: usize = 512;
 
-// The highest rank of the rules that match an arrival, 0 where none does, and the first and the last rule of that rank, by
-// their numbers among the rules.
+// The highest rank of the rules that match an arrival, 0 where none does, and the first and the last rule of that rank, by their
+// numbers among the rules. 0 and no Option, as `rank_of` says: no rule that matches has it.
 #[derive(Clone, Copy)]
 pub struct Lead {
     pub rank: u32,
@@ -51,7 +51,8 @@ impl Lead {
     }
 }
 
-// Counts rule j for the arrivals at its switch with this header, at each port that it matches.
+// Counts rule j for the arrivals at its switch with this header, at each port that it matches. The inner loop of raise_rule: one
+// for both over a closure would need a contract of what each paints.
 #[tactic(auto, using(widths::specs::Laws::Limits::limits))]
 fn raise_ports(leads: &mut [Lead; MOST_ARRIVING], w: Widths, rule: &RuleSet, header: u8, j: u8)
     requires { (within_limits w ≡ true) × (rule.now.switch < 2 ^ w.w) × (header < 2 ^ w.h) }
@@ -90,6 +91,7 @@ pub fn find_leads(net: &Network, sets: &[RuleSet; MOST_RULES], leads: &mut [Lead
     let l = net.layout;
     leads.fill(Lead::NONE);
     for j in 0..l.nodes - l.rules {
+        // A `usize` has no `From` into a `u8`; the rules are at most 256.
         raise_rule(leads, l.widths, &sets[j], j as u8);
     }
 }

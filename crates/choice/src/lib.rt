@@ -1,10 +1,11 @@
 // The rules of a network, and which of them act on an arrival.
 #![tactic(auto)]
 
-ghost use Rattle.std.specs.Prelude.{◌≡◌, true, ◌&&◌, cond, ◌<◌, eqb, length};
+ghost use Rattle.std.specs.Prelude.{◌≡◌, suc, true, ◌&&◌, cond, ◌<◌, eqb};
 ghost use Rattle.basics.specs.Bit.{bit_of};
-ghost use Rattle.format.specs.Record.{records};
+ghost use Rattle.format.specs.Record.{priority, records};
 ghost use Rattle.widths.specs.Widths.{within_limits};
+ghost use Rattle.onestep.specs.ByBytes.{of_body};
 ghost use Rattle.choice.specs.RuleSets.{SetsOf, RuleSets};
 
 pub mod leads;
@@ -12,9 +13,18 @@ pub mod rules;
 
 use patterns::{in_set, matched};
 use records::MOST_RULES;
+use records::fields::body;
 use scan::network::Network;
 use states::Frame;
 use widths::Widths;
+
+// The rank of the rule of that body where it matches: one above its priority.
+#[tactic(auto, unfolding(format::specs::Record::priority))]
+pub fn priority_rank(body: &[u8; 20]) -> u32
+    ensures { result ≡ suc (priority (of_body body.now)) }
+{
+    1 + u32::from(body[1]) + 256 * u32::from(body[2])
+}
 
 // A rule: its switch, its rank, which is one above its priority, and the ports and the headers that its patterns match, number x
 // as bit x.
@@ -36,14 +46,14 @@ impl RuleSet {
     };
 
     // What the record of a rule says.
-    #[tactic(auto, using(widths::specs::Laws::Limits::limits), unfolding(format::specs::Record::priority))]
-    fn of_record(w: Widths, rule: &[u8]) -> Self
-        requires { (length rule.now ≡ 24) × (within_limits w ≡ true) }
+    #[tactic(auto, using(widths::specs::Laws::Limits::limits, format::specs::Laws::Fields::priority_body))]
+    fn of_record(w: Widths, rule: &[u8; 24]) -> Self
+        requires { within_limits w ≡ true }
         ensures { SetsOf w rule.now result }
     {
         RuleSet {
             switch: rule[1],
-            rank: 1 + u32::from(rule[2]) + 256 * u32::from(rule[3]),
+            rank: priority_rank(body(rule)),
             ports: matched(w.p, rule[4], rule[5]),
             headers: matched(w.h, rule[6], rule[7]),
         }
@@ -69,7 +79,7 @@ impl RuleSet {
 }
 
 // Works out what each rule says, by its number among the rules.
-fn rule_sets(net: &Network, sets: &mut [RuleSet; MOST_RULES])
+pub fn rule_sets(net: &Network, sets: &mut [RuleSet; MOST_RULES])
     ensures { RuleSets (records net.now.n net.now.store.now) net.now.layout.widths sets.new }
 {
     let l = net.layout;

@@ -1,10 +1,11 @@
 // The rules of a network with what is worked out of them once: what each matches, and which lead each arrival.
-ghost use Rattle.std.specs.Prelude.{◌≡◌, [], ◌<◌, length, get_or};
+ghost use Rattle.std.specs.Prelude.{◌≡◌, [], ◌^◌, ◌<◌, length, get_or};
 ghost use Rattle.format.specs.Record.{records, of_kind};
+ghost use Rattle.format.specs.State.{state};
 ghost use Rattle.states.specs.Frames.{FitsIn};
 ghost use Rattle.onestep.specs.ByBytes.{arrival, rank_of};
 ghost use Rattle.choice.specs.RuleSets.{RuleSets};
-ghost use Rattle.choice.specs.Leads.{Leads, AllLead};
+ghost use Rattle.choice.specs.Leads.{lead_at, Leads, AllLead};
 
 use crate::leads::{Lead, MOST_ARRIVING, find_leads};
 use crate::{RuleSet, rule_sets};
@@ -44,14 +45,15 @@ impl<'s, 't> Rules<'s, 't> {
     // Who leads a frame that arrives.
     pub fn lead(&self, frame: Frame) -> Lead
         requires { FitsIn self.now.net.layout.widths frame }
-        ensures { Leads (records self.now.net.n self.now.net.store.now) self.now.net.layout.widths (arrival frame.switch frame.port frame.header) result }
+        ensures is { result ≡ lead_at self.now.leads.now (state self.now.net.layout.widths 0 frame.switch frame.port frame.header) }
+        ensures leads { Leads (records self.now.net.n self.now.net.store.now) self.now.net.layout.widths (arrival frame.switch frame.port frame.header) result }
     {
         self.leads[frame.arriving(self.net.layout.widths)]
     }
 
     // The rank of rule j for a frame that arrives: 0 where it does not match, else one above its priority.
     pub fn rank(&self, j: usize, frame: Frame) -> u32
-        requires frame_fits { FitsIn self.now.net.layout.widths frame }
+        requires frame_within { (frame.port < 2 ^ self.now.net.layout.widths.p) × (frame.header < 2 ^ self.now.net.layout.widths.h) }
         requires j_bound { j < length (of_kind 4 (records self.now.net.n self.now.net.store.now)) }
         ensures { result ≡ rank_of self.now.net.layout.widths (arrival frame.switch frame.port frame.header) (get_or (of_kind 4 (records self.now.net.n self.now.net.store.now)) j []) }
     {

@@ -1,5 +1,5 @@
 -- The bytes of records that are put one after the other.
-use mathlib.Core.Path.{◌≡◌, refl, sym, ap, ap₂, subst, ◌∙◌}
+use mathlib.Core.Path.{◌≡◌, refl, sym, ap, ap₂, ◌∙◌}
 use mathlib.Core.List.{List, ◌∷◌, ◌++◌, append_assoc}
 use Prim.Native.Nat.{ℕ, zero, suc, ◌+◌, ◌-◌, ◌*◌, ◌≤◌}
 use native.Mathlib.Omega.{arith}
@@ -8,9 +8,9 @@ use lib.Seq.{take_all, take-add, take_at, drop_at, length-take-le}
 use borrow.Rule.Slice.PartMut.{put_mid}
 use Rattle.std.proofs.lemmas.Slice.{take-put_mid}
 use Rattle.std.proofs.lemmas.List.{length-replicate}
-use Rattle.format.specs.Record.{Rec, Net, store_bytes, records, flat}
+use Rattle.format.specs.Record.{Rec, Net, most_records, store_bytes, records, flat}
 use Rattle.format.specs.Laws.Records.{flat_append, length_records, records_split}
-use Rattle.commands.specs.Effect.{padded, filled, spliced, joined, Room}
+use Rattle.commands.specs.Effect.{padded, filled, spliced, joined}
 
 flat_records : (n : ℕ) (s : List ℕ) → flat (records n s) ≡ take (n * 24) s
 unfolding flat records
@@ -51,12 +51,12 @@ module _ (s : List ℕ) (n : ℕ) where
       length-append (take i (records n s)) (drop j (records n s))
       ∙ omega (arith, l, length-take-le i (records n s) (omega arith), length-drop j (records n s))
 
-  -- room for a network is room for the records that it is made of
-  pub room_spliced : {next : List ℕ} {net : Net} (i j : ℕ) (r : Rec) → net ≡ spliced (records n s) i j r → i ≤ n → Room next (length net) → Room next (i + 1 + (n - j))
-  room_spliced {next} i j r e h room = subst (Room next) (ap length e ∙ length_spliced i j r h) room
+  -- so few records as a network has are those that it is made of
+  pub few_spliced : {net : Net} (i j : ℕ) (r : Rec) → net ≡ spliced (records n s) i j r → i ≤ n → length net ≤ most_records → i + 1 + (n - j) ≤ most_records
+  few_spliced i j r e h few = omega (arith, ap length e, length_spliced i j r h)
 
-  pub room_joined : {next : List ℕ} {net : Net} (i j : ℕ) → net ≡ joined (records n s) i j → i ≤ n → Room next (length net) → Room next (i + (n - j))
-  room_joined {next} i j e h room = subst (Room next) (ap length e ∙ length_joined i j h) room
+  pub few_joined : {net : Net} (i j : ℕ) → net ≡ joined (records n s) i j → i ≤ n → length net ≤ most_records → i + (n - j) ≤ most_records
+  few_joined i j e h few = omega (arith, ap length e, length_joined i j h)
 
 -- bytes that are written after those in front, and zeros after them
 pub finished : (b copied zeros : List ℕ) (at end k m : ℕ) → length b ≡ store_bytes → end ≡ at + length copied → end ≤ store_bytes → zeros ≡ replicate (store_bytes - end) 0

@@ -1,6 +1,6 @@
 -- The effect of a command in code: what its functions are lent, and what they leave.
-use Rattle.std.specs.Prelude.{◌≡◌, Bool, List, ◌∷◌, ◌++◌, ℕ, ◌-◌, ◌*◌, ◌≤◌, ltb, length, take, drop, replicate}
-use Rattle.format.specs.Record.{Rec, Net, most_records, store_bytes, kind, records, flat}
+use Rattle.std.specs.Prelude.{◌≡◌, Bool, List, ◌∷◌, ◌++◌, ℕ, ◌-◌, ltb, length, take, drop, replicate}
+use Rattle.format.specs.Record.{Rec, Net, store_bytes, kind, records, flat}
 use Rattle.commands.specs.declared.stored.Stored.{Stored}
 
 -- bytes, then zeros to byte 15,768
@@ -23,20 +23,9 @@ joined net i j = take i net ++ drop j net
 abbrev pub above_rules : Rec → Bool
 above_rules r = ltb 4 (kind r)
 
--- a buffer of 15,768 bytes for `count` records that are made from the n records of a store
-pub record BufferRoom (next store : List ℕ) (n count : ℕ) : Type 0 where
-  pub wide : length next ≡ store_bytes
-  pub stored : n * 24 ≤ length store
-  pub fits : count ≤ most_records
-
 -- the records of a store, as a network
 abbrev pub net_of : Stored → Net
 net_of s = records s.n s.store.now
-
--- a buffer of 15,768 bytes for `count` records
-pub record Room (next : List ℕ) (count : ℕ) : Type 0 where
-  pub wide : length next ≡ store_bytes
-  pub fits : count ≤ most_records
 
 -- the network's records are counted, and stand in the buffer, then zeros
 pub record Built (net : Net) (count : ℕ) (next : List ℕ) : Type 0 where

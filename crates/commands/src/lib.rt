@@ -2,10 +2,10 @@
 #![tactic(auto)]
 
 ghost use Rattle.std.specs.Prelude.{◌≡◌, false, ◌++◌, ◌+◌, ◌-◌, ◌*◌, ◌≤◌, length, take, drop};
-ghost use Rattle.format.specs.Record.{store_bytes, kind, present, records, flat};
+ghost use Rattle.format.specs.Record.{store_bytes, most_records, kind, present, records, flat};
 ghost use Rattle.format.specs.Search.{first_at};
 ghost use Rattle.effect.specs.Apply.{as_rule, with_actions, inserted, added, removed, applied};
-ghost use Rattle.commands.specs.Effect.{padded, spliced, joined, above_rules, BufferRoom, net_of, Room, Built};
+ghost use Rattle.commands.specs.Effect.{padded, spliced, joined, above_rules, net_of, Built};
 
 use format::Version;
 use format::kinds::CommandKind;
@@ -13,28 +13,24 @@ use records::{STORE_BYTES, record};
 use rows::rules::find_rule;
 use stored::Stored;
 
-mod stored;
+pub mod stored;
 
-// The rule of a command.
+// The rule of a command. Kind 4 is a rule's: kinds are read from bytes, and nothing else writes one.
 #[tactic(auto, unfolding(effect::specs::Apply::as_rule))]
-fn as_rule(given: &[u8]) -> [u8; 24]
-    requires { length given.now ≡ 24 }
+fn as_rule(given: &[u8; 24]) -> [u8; 24]
     ensures { result ≡ as_rule given.now }
 {
-    let mut rule = [0u8; 24];
-    rule.copy_from_slice(given);
+    let mut rule = *given;
     rule[0] = 4;
     rule
 }
 
 // A rule with the action count and actions of a command.
 #[tactic(auto, unfolding(effect::specs::Apply::with_actions))]
-fn with_actions(given: &[u8], r: &[u8]) -> [u8; 24]
-    requires { (length given.now ≡ 24) × (length r.now ≡ 24) }
+fn with_actions(given: &[u8; 24], r: &[u8; 24]) -> [u8; 24]
     ensures { result ≡ with_actions given.now r.now }
 {
-    let mut rule = [0u8; 24];
-    rule.copy_from_slice(r);
+    let mut rule = *r;
     rule[8..21].copy_from_slice(&given[8..21]);
     rule
 }
@@ -53,8 +49,8 @@ fn place(before: Stored) -> usize
 }
 
 // After the first `at` bytes of next, the store's records from number j up to n, then zeros.
-fn finish(next: &mut [u8], at: usize, before: Stored, j: usize)
-    requires { (length next.old ≡ store_bytes) × (j ≤ before.n) × (at + (before.n - j) * 24 ≤ store_bytes) }
+fn finish(next: &mut [u8; STORE_BYTES], at: usize, before: Stored, j: usize)
+    requires { (j ≤ before.n) × (at + (before.n - j) * 24 ≤ store_bytes) }
     ensures { next.new ≡ padded (take at next.old ++ flat (drop j (net_of before.entry))) }
 {
     let b = j * 24;
@@ -65,8 +61,14 @@ fn finish(next: &mut [u8], at: usize, before: Stored, j: usize)
 }
 
 // Makes next the n records with a rule in place of those from i up to j, and counts them.
-fn splice(next: &mut [u8], before: Stored, rule: &[u8; 24], i: usize, j: usize) -> usize
-    requires buffer_room { Room next.old (i + 1 + (before.n - j)) }
+fn splice(
+    next: &mut [u8; STORE_BYTES],
+    before: Stored,
+    rule: &[u8; 24],
+    i: usize,
+    j: usize,
+) -> usize
+    requires few { i + 1 + (before.n - j) ≤ most_records }
     requires i_le_j { (i ≤ j) × (j ≤ before.n) }
     ensures { Built (spliced (net_of before.entry) i j rule.now) result next.new }
 {
@@ -79,8 +81,8 @@ fn splice(next: &mut [u8], before: Stored, rule: &[u8; 24], i: usize, j: usize) 
 
 // Makes next the n records without those from i up to j, and counts them: apart from splice, since one for both, over a rule that
 // may be missing, is no plainer.
-fn join(next: &mut [u8], before: Stored, i: usize, j: usize) -> usize
-    requires buffer_room { Room next.old (i + (before.n - j)) }
+fn join(next: &mut [u8; STORE_BYTES], before: Stored, i: usize, j: usize) -> usize
+    requires few { i + (before.n - j) ≤ most_records }
     requires i_le_j { (i ≤ j) × (j ≤ before.n) }
     ensures { Built (joined (net_of before.entry) i j) result next.new }
 {
@@ -90,11 +92,11 @@ fn join(next: &mut [u8], before: Stored, i: usize, j: usize) -> usize
     i + (before.n - j)
 }
 
-// A new rule, after the last rule.
+// A new rule, after the last rule. The buffer, what it is made of and the command go on together from here on: a struct of what
+// is written and what is read would be taken apart at each call.
 #[tactic(auto, using(crate::proofs::EffectInStore::new_below, crate::proofs::EffectInStore::inserted_new, crate::proofs::RecordBytes::length_spliced))]
-fn insert(next: &mut [u8], before: Stored, given: &[u8]) -> usize
-    requires buffer_room { Room next.old (length (inserted given.now (net_of before))) }
-    requires given_len { length given.now ≡ 24 }
+fn insert(next: &mut [u8; STORE_BYTES], before: Stored, given: &[u8; 24]) -> usize
+    requires few { length (inserted given.now (net_of before)) ≤ most_records }
     ensures { Built (inserted given.now (net_of before.entry)) result next.new }
 {
     let i = place(before);
@@ -103,9 +105,8 @@ fn insert(next: &mut [u8], before: Stored, given: &[u8]) -> usize
 
 // Add: replaces the same rule in its place, or else goes after the last rule.
 #[tactic(auto, using(crate::proofs::FoundRule::at_below, crate::proofs::EffectInStore::added_at, crate::proofs::RecordBytes::length_spliced, rows::specs::Laws::Found::found_absent, effect::specs::Laws::RulePlace::added_new))]
-fn add(next: &mut [u8], before: Stored, given: &[u8]) -> usize
-    requires buffer_room { Room next.old (length (added given.now (net_of before))) }
-    requires given_len { length given.now ≡ 24 }
+fn add(next: &mut [u8; STORE_BYTES], before: Stored, given: &[u8; 24]) -> usize
+    requires few { length (added given.now (net_of before)) ≤ most_records }
     ensures { Built (added given.now (net_of before.entry)) result next.new }
 {
     match find_rule(before.store, before.n, given) {
@@ -116,9 +117,14 @@ fn add(next: &mut [u8], before: Stored, given: &[u8]) -> usize
 
 // Modify without its rule: in 1.0 it acts as an add, in 1.3 it changes nothing.
 #[tactic(auto, using(crate::proofs::EffectInStore::all_kept, crate::proofs::RecordBytes::length_joined, effect::specs::Laws::Applied::modify_adds, effect::specs::Laws::Applied::modify_nothing))]
-fn modify_absent(version: Version, next: &mut [u8], before: Stored, given: &[u8]) -> usize
-    requires buffer_room { Room next.old (length (applied version given.now (net_of before))) }
-    requires given_len { (length given.now ≡ 24) × (kind given.now ≡ 7) × (present given.now (net_of before) ≡ false) }
+fn modify_absent(
+    version: Version,
+    next: &mut [u8; STORE_BYTES],
+    before: Stored,
+    given: &[u8; 24],
+) -> usize
+    requires few { length (applied version given.now (net_of before)) ≤ most_records }
+    requires is_absent { (kind given.now ≡ 7) × (present given.now (net_of before) ≡ false) }
     ensures { Built (applied version given.now (net_of before.entry)) result next.new }
 {
     match version {
@@ -129,9 +135,9 @@ fn modify_absent(version: Version, next: &mut [u8], before: Stored, given: &[u8]
 
 // Modify: replaces the action count and actions of the same rule, or else goes by the version.
 #[tactic(auto, using(crate::proofs::FoundRule::at_below, crate::proofs::EffectInStore::changed_at, crate::proofs::RecordBytes::length_spliced, rows::specs::Laws::Found::found_present, rows::specs::Laws::Found::found_absent, effect::specs::Laws::Applied::modify_there))]
-fn modify(version: Version, next: &mut [u8], before: Stored, given: &[u8]) -> usize
-    requires buffer_room { Room next.old (length (applied version given.now (net_of before))) }
-    requires given_len { (length given.now ≡ 24) × (kind given.now ≡ 7) }
+fn modify(version: Version, next: &mut [u8; STORE_BYTES], before: Stored, given: &[u8; 24]) -> usize
+    requires few { length (applied version given.now (net_of before)) ≤ most_records }
+    requires is_modify { kind given.now ≡ 7 }
     ensures { Built (applied version given.now (net_of before.entry)) result next.new }
 {
     match find_rule(before.store, before.n, given) {
@@ -145,9 +151,8 @@ fn modify(version: Version, next: &mut [u8], before: Stored, given: &[u8]) -> us
 
 // Delete: removes the same rule and closes up.
 #[tactic(auto, using(crate::proofs::FoundRule::at_below, crate::proofs::EffectInStore::removed_at, crate::proofs::EffectInStore::removed_absent, crate::proofs::RecordBytes::length_joined))]
-fn delete(next: &mut [u8], before: Stored, given: &[u8]) -> usize
-    requires buffer_room { Room next.old (length (removed given.now (net_of before))) }
-    requires given_len { length given.now ≡ 24 }
+fn delete(next: &mut [u8; STORE_BYTES], before: Stored, given: &[u8; 24]) -> usize
+    requires few { length (removed given.now (net_of before)) ≤ most_records }
     ensures { Built (removed given.now (net_of before.entry)) result next.new }
 {
     match find_rule(before.store, before.n, given) {
@@ -156,25 +161,29 @@ fn delete(next: &mut [u8], before: Stored, given: &[u8]) -> usize
     }
 }
 
-// Makes next the network that a command would leave, and counts its records.
+// Makes next the network that a command would leave, and counts its records. Each kind has a step of its own: a closure for each
+// would be no plainer.
 #[tactic(auto, using(crate::proofs::Named::acts_add, crate::proofs::Named::acts_modify, crate::proofs::Named::acts_delete, crate::proofs::Named::acts_none, crate::proofs::EffectInStore::all_kept, crate::proofs::RecordBytes::length_joined))]
-pub fn apply_to(version: Version, next: &mut [u8], store: &[u8], n: usize, given: &[u8]) -> usize
-    requires buffer_room { BufferRoom next.old store.now n (length (applied version given.now (records n store.now))) }
-    requires given_len { length given.now ≡ 24 }
-    ensures { Built (applied version given.now (records n store.now)) result next.new }
+pub fn apply_to(
+    version: Version,
+    next: &mut [u8; STORE_BYTES],
+    before: Stored,
+    given: &[u8; 24],
+) -> usize
+    requires few { length (applied version given.now (net_of before)) ≤ most_records }
+    ensures { Built (applied version given.now (net_of before.entry)) result next.new }
 {
-    let before = Stored { store, n };
     match CommandKind::from(given[0]) {
         CommandKind::Add => add(next, before, given),
         CommandKind::Modify => modify(version, next, before, given),
         CommandKind::Delete => delete(next, before, given),
-        CommandKind::Unknown => join(next, before, n, n),
+        CommandKind::Unknown => join(next, before, before.n, before.n),
     }
 }
 
 // Stores a network that was made, and keeps the bytes after it.
-pub fn write_back(store: &mut [u8], next: &[u8])
-    requires { (length next.now ≡ store_bytes) × (store_bytes ≤ length store.old) }
+pub fn write_back(store: &mut [u8], next: &[u8; STORE_BYTES])
+    requires { store_bytes ≤ length store.old }
     ensures { store.new ≡ next.now ++ drop store_bytes store.old }
 {
     store[..STORE_BYTES].copy_from_slice(next);

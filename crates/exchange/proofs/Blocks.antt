@@ -1,15 +1,16 @@
 -- Blocks of eight by eight bits are read and written byte by byte, and a plane is exchanged block by block.
-use mathlib.Core.Path.{◌≡◌, sym, ap, ap₂, ◌∙◌}
+use mathlib.Core.Path.{◌≡◌, refl, sym, ap, ap₂, ◌∙◌}
 use mathlib.Core.Bool.{◌||◌}
 use mathlib.Core.List.{List}
 use mathlib.Core.Logic.{◌⊎◌, inl, inr, ⊎_elim}
-use Prim.Native.Nat.{ℕ, ◌+◌, ◌-◌, ◌*◌, ◌/◌, ◌%◌, ◌^◌, ◌<◌, ◌≤◌}
+use Prim.Native.Nat.{ℕ, zero, suc, ◌+◌, ◌-◌, ◌*◌, ◌/◌, ◌%◌, ◌^◌, ◌<◌, ◌≤◌}
 use native.Mathlib.Nat.{add-mul}
 use native.Mathlib.Decide.{ℕ_discrete}
 use native.Mathlib.Omega.{arith}
 use lib.ListN.{length, get_or, set, length-set}
 use lib.Seq.{get_or-set_same, get_or-set_other}
 use lib.Bits.{bit_or}
+use Rattle.std.specs.Int.{w64, to_le_bytes}
 use Rattle.basics.specs.Bit.{bit_of}
 use Rattle.planes.specs.Plane.{cell, plane_size}
 use Rattle.basics.specs.Laws.Bits.{bit_or_lem, bit_above}
@@ -41,6 +42,21 @@ module _ (a pitch : ℕ) (bytes : List ℕ) where
           ∙ bit_up v 8 ((k - 1) * 8 + j) (omega (arith, n))
           ∙ R.bits (k - 1) j (omega (arith, n)) l
           ∙ ap (λ (m : ℕ). bit_of (get_or bytes (a + m * pitch) 0) j) q
+
+-- the bytes of a word, the lowest first
+pub word_byte : (v j : ℕ) → j < 8 → get_or (to_le_bytes w64 v) j 0 ≡ v / 2 ^ (j * 8) % 256
+word_byte v zero h = let e : v / 1 ≡ v = omega arith in ap (λ (m : ℕ). m % 256) (sym e)
+word_byte v (suc zero) h = refl
+word_byte v (suc (suc zero)) h = refl
+word_byte v (suc (suc (suc zero))) h = refl
+word_byte v (suc (suc (suc (suc zero)))) h = refl
+word_byte v (suc (suc (suc (suc (suc zero))))) h = refl
+word_byte v (suc (suc (suc (suc (suc (suc zero)))))) h = refl
+word_byte v (suc (suc (suc (suc (suc (suc (suc zero))))))) h = refl
+word_byte v (suc (suc (suc (suc (suc (suc (suc (suc j)))))))) h = absurd (go h)
+  where
+    go : suc (suc (suc (suc (suc (suc (suc (suc j))))))) < 8 → ⊥
+    go h = omega arith
 
 module _ (a pitch v : ℕ) (before : List ℕ) where
   -- one byte more

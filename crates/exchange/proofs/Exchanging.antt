@@ -17,6 +17,14 @@ use Rattle.words.specs.Laws.Seeking.{front_bit}
 use lib.ListN.{take}
 use Rattle.exchange.specs.Swapped.{Swapped}
 
+-- planes of n bytes share no byte if the one at to ends before the other where it does not begin behind it
+pub parted_apart : (from to n : ℕ) → (to < from + n → to + n ≤ from) → (from + n ≤ to) ⊎ (to + n ≤ from)
+parted_apart from to n h = go (dec_lt to (from + n))
+  where
+    go : Dec (to < from + n) → (from + n ≤ to) ⊎ (to + n ≤ from)
+    go (yes l) = inr (h l)
+    go (no g) = inl (omega (arith, g))
+
 -- a copy of a line has its states
 pub copied : (at pitch : ℕ) (l copy : List ℕ) → Loaded at pitch l copy → (u : ℕ) → u < pitch * 8 → bit (take pitch copy) u ≡ bit l (at * 8 + u)
 copied at pitch l copy L u hu = front_bit copy pitch u hu ∙ loaded_bit at pitch l copy L u hu

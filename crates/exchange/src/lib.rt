@@ -10,37 +10,14 @@ ghost use Rattle.exchange.specs.Blocks.{Block, Turned, Spread, Blocked};
 
 use words::States;
 
-// Sets, in the plane at to, bit x of the line of each state that line x of the plane at from has.
-fn swap_line(work: &mut [u8], from: usize, to: usize, pitch: usize, x: usize)
-    requires { Apart from to pitch (length work.old) × (x < pitch * 8) × (pitch % 8 ≡ 0) }
-    ensures { (before : List ℕ) → Swapped from to pitch x 0 before work.old → Swapped from to pitch (x + 1) 0 before work.new }
-{
-    let line = planes::load_line(work, from + x * pitch, pitch);
-    for y in States::of(&line[..pitch]) {
-        planes::set_at(work, to + y * pitch, x);
-    }
-}
-
-// The plane at to becomes that at from with X and Y exchanged: by set bits, for lines of whole words.
-fn by_bits(work: &mut [u8], from: usize, to: usize, pitch: usize)
-    requires { Apart from to pitch (length work.old) × (pitch % 8 ≡ 0) }
-    ensures { Made (λ x y. cell work.old from pitch y x) pitch to (pitch * 8) work.old work.new }
-{
-    let states = pitch * 8;
-    planes::clear(work, to, states * pitch);
-    for x in 0..states {
-        swap_line(work, from, to, pitch, x);
-    }
-}
-
 // Eight bytes of p, pitch apart, as one number, the first one lowest.
 fn block_at(p: &[u8], a: usize, pitch: usize) -> u64
-    requires { (a + 7 * pitch < length p.now) × (pitch ≤ 128) }
+    requires { a + 7 * pitch < length p.now }
     ensures { Block a pitch p.now result }
 {
     let mut v: u64 = 0;
     for i in (0..8).rev() {
-        v = (v << 8) | (p[a + i * pitch] as u64);
+        v = (v << 8) | u64::from(p[a + i * pitch]);
     }
     v
 }
@@ -64,65 +41,112 @@ fn turned(v: u64) -> u64
 
 // The bytes of v become eight bytes of p, pitch apart.
 fn put_block(p: &mut [u8], a: usize, pitch: usize, v: u64)
-    requires { (a + 7 * pitch < length p.old) × (0 < pitch) × (pitch ≤ 128) }
+    requires { (a + 7 * pitch < length p.old) × (0 < pitch) }
     ensures { Spread a pitch 8 v p.old p.new }
 {
+    let bytes = v.to_le_bytes();
     for i in 0..8 {
-        p[a + i * pitch] = ((v >> (i * 8)) % 256) as u8;
+        p[a + i * pitch] = bytes[i];
     }
 }
 
-// Byte r of eight lines of the plane at to, from line 8 * c on, from byte c of as many lines of the plane at from.
-fn turn_block(work: &mut [u8], from: usize, to: usize, pitch: usize, c: usize, r: usize)
-    requires { Apart from to pitch (length work.old) × (c < pitch) × (r < pitch) }
-    ensures { (before : List ℕ) → Blocked from to pitch c r before work.old → Blocked from to pitch c (r + 1) before work.new }
-{
-    let v = block_at(work, from + r * 8 * pitch + c, pitch);
-    put_block(work, to + c * 8 * pitch + r, pitch, turned(v));
+// Two planes that share no byte of a buffer of len bytes, in lines of pitch bytes: the one at to is to become that at from with X
+// and Y exchanged. The buffer stands beside it, of that length: with a `&mut` to it inside, each method would have to say that
+// the pair keeps its place.
+#[derive(Clone, Copy)]
+struct Planes {
+    from: usize,
+    to: usize,
+    pitch: usize,
+    len: usize,
+    ghost narrow: { pitch ≤ 128 },
+    ghost first: { from + plane_size pitch ≤ len },
+    ghost second: { to + plane_size pitch ≤ len },
+    ghost parted: { to < from + plane_size pitch → to + plane_size pitch ≤ from },
 }
 
-// Eight lines of the plane at to, from line 8 * c on.
-fn turn_lines(work: &mut [u8], from: usize, to: usize, pitch: usize, c: usize)
-    requires { Apart from to pitch (length work.old) × (c < pitch) }
-    ensures { (before : List ℕ) → Blocked from to pitch c 0 before work.old → Blocked from to pitch (c + 1) 0 before work.new }
-{
-    for r in 0..pitch {
-        turn_block(work, from, to, pitch, c, r);
+impl Planes {
+    // Sets, in the plane at to, bit x of the line of each state that line x of the plane at from has.
+    fn swap_line(self, work: &mut [u8], x: usize)
+        requires { (length work.old ≡ self.len) × (x < self.pitch * 8) × (self.pitch % 8 ≡ 0) }
+        ensures { (before : List ℕ) → Swapped self.from self.to self.pitch x 0 before work.old
+            → Swapped self.from self.to self.pitch (x + 1) 0 before work.new }
+    {
+        let line = planes::load_line(work, self.from + x * self.pitch, self.pitch);
+        for y in States::of(&line[..self.pitch]) {
+            planes::set_at(work, self.to + y * self.pitch, x);
+        }
     }
-}
 
-// The plane at to becomes that at from with X and Y exchanged: by blocks.
-fn by_blocks(work: &mut [u8], from: usize, to: usize, pitch: usize)
-    requires { Apart from to pitch (length work.old) }
-    ensures { Made (λ x y. cell work.old from pitch y x) pitch to (pitch * 8) work.old work.new }
-{
-    for c in 0..pitch {
-        turn_lines(work, from, to, pitch, c);
+    // The exchange by set bits, for lines of whole words.
+    fn by_bits(self, work: &mut [u8])
+        requires { (length work.old ≡ self.len) × (self.pitch % 8 ≡ 0) }
+        ensures { Made (λ x y. cell work.old self.from self.pitch y x) self.pitch self.to (self.pitch * 8) work.old work.new }
+    {
+        let states = self.pitch * 8;
+        planes::clear(work, self.to, states * self.pitch);
+        for x in 0..states {
+            self.swap_line(work, x);
+        }
     }
-}
 
-// The set bits in a word of every fourth line or so of the plane at from, one column after the other; any answer will do.
-fn sampled(work: &[u8], from: usize, pitch: usize) -> usize
-    requires { (from + plane_size pitch ≤ length work.now) × (pitch ≤ 128) }
-{
-    let size = pitch * 8 * pitch;
-    let step = pitch * 4 + 8;
-    let mut count = 0;
-    for i in 0..(size + step - 8) / step {
-        count += words::eight(work, from + i * step).count_ones() as usize;
+    // Byte r of eight lines of the plane at to, from line 8 * c on, from byte c of as many lines of the plane at from.
+    fn turn_block(self, work: &mut [u8], c: usize, r: usize)
+        requires { (length work.old ≡ self.len) × (c < self.pitch) × (r < self.pitch) }
+        ensures { (before : List ℕ) → Blocked self.from self.to self.pitch c r before work.old
+            → Blocked self.from self.to self.pitch c (r + 1) before work.new }
+    {
+        let v = block_at(work, self.from + r * 8 * self.pitch + c, self.pitch);
+        put_block(
+            work,
+            self.to + c * 8 * self.pitch + r,
+            self.pitch,
+            turned(v),
+        );
     }
-    count
-}
 
-// Whether set bits are the quicker way, as measured: lines of whole words, and few set bits in the sample. A no will always do.
-fn few(work: &[u8], from: usize, pitch: usize) -> bool
-    requires { (from + plane_size pitch ≤ length work.now) × (pitch ≤ 128) }
-    ensures { result ≡ true → pitch % 8 ≡ 0 }
-{
-    if pitch % 8 != 0 {
-        return false;
+    // Eight lines of the plane at to, from line 8 * c on.
+    fn turn_lines(self, work: &mut [u8], c: usize)
+        requires { (length work.old ≡ self.len) × (c < self.pitch) }
+        ensures { (before : List ℕ) → Blocked self.from self.to self.pitch c 0 before work.old
+            → Blocked self.from self.to self.pitch (c + 1) 0 before work.new }
+    {
+        for r in 0..self.pitch {
+            self.turn_block(work, c, r);
+        }
     }
-    sampled(work, from, pitch) < pitch + 32
+
+    // The exchange by blocks.
+    fn by_blocks(self, work: &mut [u8])
+        requires { length work.old ≡ self.len }
+        ensures { Made (λ x y. cell work.old self.from self.pitch y x) self.pitch self.to (self.pitch * 8) work.old work.new }
+    {
+        for c in 0..self.pitch {
+            self.turn_lines(work, c);
+        }
+    }
+
+    // The set bits in a word of every fourth line or so of the plane at from, one column after the other; any answer will do.
+    fn sampled(self, work: &[u8]) -> usize
+        requires { length work.now ≡ self.len }
+    {
+        let size = self.pitch * 8 * self.pitch;
+        let step = self.pitch * 4 + 8;
+        let mut count = 0;
+        for i in 0..(size + step - 8) / step {
+            // A `u32` has no `From` into a `usize`; at most 64 bits are set.
+            count += words::eight(work, self.from + i * step).count_ones() as usize;
+        }
+        count
+    }
+
+    // Whether set bits are the quicker way, as measured: lines of whole words, and few set bits in the sample. A no will always do.
+    fn has_few(self, work: &[u8]) -> bool
+        requires { length work.now ≡ self.len }
+        ensures { result ≡ true → self.pitch % 8 ≡ 0 }
+    {
+        self.pitch % 8 == 0 && self.sampled(work) < self.pitch + 32
+    }
 }
 
 // The plane at to becomes that at from with X and Y exchanged: by set bits where they are few, by blocks else.
@@ -130,9 +154,16 @@ pub fn exchange(work: &mut [u8], from: usize, to: usize, pitch: usize)
     requires { Apart from to pitch (length work.old) }
     ensures { Made (λ x y. cell work.old from pitch y x) pitch to (pitch * 8) work.old work.new }
 {
-    if few(work, from, pitch) {
-        by_bits(work, from, to, pitch);
-        return;
+    let len = work.len();
+    let apart = Planes {
+        from,
+        to,
+        pitch,
+        len,
+    };
+    if apart.has_few(work) {
+        apart.by_bits(work);
+    } else {
+        apart.by_blocks(work);
     }
-    by_blocks(work, from, to, pitch);
 }

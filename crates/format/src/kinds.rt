@@ -1,4 +1,5 @@
-// What a byte names: the kinds of records, commands, actions, targets and nodes, and a variable.
+// What a byte names: the kinds of records, commands, actions, targets and nodes, and a variable. The arms are numbers, since a
+// byte is read here. Kinds are matched, and derive no `==`; variables are compared too.
 ghost use Rattle.std.specs.Prelude.{◌≡◌};
 ghost use Rattle.format.specs.Record.{record_kind, command_kind, action_kind};
 ghost use Rattle.format.specs.Group.{target_kind};
@@ -138,7 +139,7 @@ impl From<u8> for NodeKind {
 }
 
 // The two variables of a policy.
-#[derive(Clone, Copy)]
+#[derive(Clone, Copy, PartialEq, Eq)]
 pub enum Var {
     X,
     Y,

@@ -23,6 +23,7 @@ pub enum Ternary {
 pub struct Bucket {
     pub value: u8,
     pub care: u8,
+    // The byte of the record, as `IsBucket` says; `TargetKind` reads it.
     pub kind: u8,
     pub target: u8,
 }

@@ -8,6 +8,7 @@ use Rattle.truth.specs.Truth.{value, with_x, with_y}
 use Rattle.lines.specs.Shapes.{op_bool, full_byte, over, Outside, Plane, Source}
 use Rattle.lines.specs.declared.Op.{Op}
 use Rattle.lines.specs.declared.Row.{Row}
+use Rattle.lines.specs.declared.Rows.{Rows}
 use Rattle.lines.specs.declared.Row.TheVariants.{Full, From}
 use Rattle.forms.specs.declared.Form.{Form}
 use Rattle.forms.specs.declared.Form.TheVariants.{OfX, OfY, Both, Turned}
@@ -63,6 +64,10 @@ row_of (OfX at) bytes pitch x = Full (full_byte (bit bytes (at * 8 + x)))
 row_of (OfY at) bytes pitch x = From at
 row_of (Both at) bytes pitch x = From (at + x * pitch)
 row_of (Turned at) bytes pitch x = From at
+
+-- the operation on line x of two such forms
+abbrev pub rows_of : Joined → List ℕ → ℕ → ℕ → Rows
+rows_of j bytes pitch x = record { op = j.op; first = row_of j.first bytes pitch x; second = row_of j.second bytes pitch x }
 
 -- two forms are taken as lines over a variable only if both are, one is exchanged only if it stands exchanged, and then none does
 abbrev pub Pairs : Form → Form → Way → Type 0

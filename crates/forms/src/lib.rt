@@ -3,11 +3,11 @@
 
 ghost use Rattle.std.specs.Prelude.{◌≡◌, ◌*◌, ◌≤◌, ◌<◌};
 ghost use Rattle.planes.specs.Plane.{plane_size};
-ghost use Rattle.lines.specs.Shapes.{Plane};
+ghost use Rattle.lines.specs.Shapes.{pair, Plane};
 ghost use Rattle.forms.specs.Forms.{turned, line_form, tests, place, Pairs, turned_joined};
 
 use format::kinds::Var;
-use lines::Op;
+use lines::{Op, Pair};
 
 // A line over X, a line over Y, a plane, a plane with X and Y exchanged; with the byte at which it starts.
 #[derive(Clone, Copy)]
@@ -112,9 +112,22 @@ impl Joined {
             second: self.second.turned(),
         }
     }
+
+    // The operation on the bytes from the starts of the two forms on. It reads like turned, but makes places of forms.
+    pub fn starts(self) -> Pair
+        ensures { result ≡ pair self.op (place self.first) (place self.second) }
+    {
+        Pair {
+            op: self.op,
+            first: self.first.start(),
+            second: self.second.start(),
+        }
+    }
 }
 
-// The plane in which the form of a node is made: it starts at byte base, in lines of pitch bytes.
+// The plane in which the form of a node is made: it starts at byte base, in lines of pitch bytes. That the buffer has room for it,
+// and that forms lie apart from it, stands in contracts: planes, exchange and reaching are lent the buffer itself, so that a
+// struct that held both would be taken apart at each of these calls.
 #[derive(Clone, Copy)]
 pub struct Site {
     pub base: usize,

@@ -36,11 +36,16 @@ fn read_at(input: &mut Stdin, buffer: &mut [u8], done: usize) -> Result<Option<u
     ensures { ReadBehind done buffer.old buffer.new result }
 {
     let got = input.read(&mut buffer[done..]);
-    streams::input::read_said(got)
+    // A match: whatever the error is, the read failed. A count that fits the buffer fits an `isize`, into which a `usize` has no
+    // `From`.
+    match got {
+        Ok(k) => streams::input::read_said(k as isize),
+        Err(_) => Err(ReadFailed),
+    }
 }
 
-// Reads until the buffer is full, the input ends or a read fails; answers how many bytes there were. Each read tells how far to go on,
-// so that no range is gone over.
+// Reads until the buffer is full, the input ends or a read fails; answers how many bytes there were. Each read tells how far to
+// go on, so that no range is gone over.
 fn fill(input: &mut Stdin, buffer: &mut [u8]) -> Result<usize, ReadFailed>
     ensures { PieceRead buffer.old buffer.new result }
 {
@@ -117,7 +122,8 @@ fn answer(
     Answered { answer, count }
 }
 
-// Answers the command that was read and those behind it, up to the end, a cut record, or a read or write that fails.
+// Answers the command that was read and those behind it, up to the end, a cut record, or a read or write that fails. What it is
+// lent is all that main has: a struct of six would serve this one call.
 fn answer_all(
     input: &mut Stdin,
     output: &Stdout,

@@ -1,7 +1,7 @@
 // What the groups of a switch send.
 #![tactic(auto)]
 
-ghost use Rattle.std.specs.Prelude.{◌≡◌, true, ◌<◌, length};
+ghost use Rattle.std.specs.Prelude.{◌≡◌, true, ◌<◌};
 ghost use Rattle.format.specs.Record.{records};
 ghost use Rattle.format.specs.Group.{is_group, target_kind};
 ghost use Rattle.format.specs.Fields.{target_fields};
@@ -21,14 +21,14 @@ pub mod copies;
 pub mod relay;
 
 // The record of a group is that of number g of a switch.
-fn is_group(r: &[u8], sw: u8, g: u8) -> bool
-    requires { length r.now ≡ 24 }
+fn is_group(r: &[u8; 24], sw: u8, g: u8) -> bool
     ensures { result ≡ is_group sw g r.now }
 {
     r[1] == sw && r[2] == g
 }
 
-// The place of the record of group g of a switch.
+// The place of the record of group g of a switch: from the first on, since at most 16 are so soon gone over that halving is no
+// quicker.
 fn find_group(net: &Network, sw: u8, g: u8) -> Option<usize>
     ensures { GroupFound (records net.now.n net.now.store.now) net.now.layout sw g result }
 {
@@ -48,7 +48,8 @@ fn mark_of(g: u8, h: u8) -> usize
 }
 
 impl Relay<'_, '_, '_> {
-    // Runs a bucket of group g, which set this header, by its target.
+    // Runs a bucket of group g, which set this header, by its target: matched once, each with other arguments, so that a closure
+    // for each would be no plainer.
     #[cycle(run_bucket_run_group)]
     fn run_bucket(&mut self, g: u8, b: Bucket, header: u8)
         requires header_fits { HeaderFits self.old header }

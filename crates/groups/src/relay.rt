@@ -9,7 +9,8 @@ use crate::buckets::Groups;
 use states::Frame;
 
 // A frame as it arrived at a port of a switch, the line of the copies that were sent of it, and the marks of the groups that have
-// run for it, by 64 headers for each of 16 groups: those that are marked have their copies in the line.
+// run for it, by 64 headers for each of 16 groups: those that are marked have their copies in the line. That a header or a port
+// fits stays a clause of what is run: a type for it would be opened at each call.
 #[derive(Drop)]
 pub struct Relay<'g, 's, 't> {
     pub groups: &'g Groups<'s, 't>,

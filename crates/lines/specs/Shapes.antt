@@ -6,8 +6,11 @@ use Rattle.planes.specs.Plane.{bit, plane_size}
 use Rattle.basics.specs.Below.{any_below, all_below}
 use Rattle.lines.specs.declared.Op.{Op}
 use Rattle.lines.specs.declared.Op.TheVariants.{Not, And, Or}
+use Rattle.lines.specs.declared.Quantifier.{Quantifier}
+use Rattle.lines.specs.declared.Quantifier.TheVariants.{All, Any}
 use Rattle.lines.specs.declared.Row.{Row}
 use Rattle.lines.specs.declared.Row.TheVariants.{Full, From}
+use Rattle.lines.specs.declared.Pair.{Pair}
 use Rattle.lines.specs.declared.Join.{Join}
 use Rattle.lines.specs.declared.Join.TheVariants.{Same, Two}
 
@@ -34,6 +37,11 @@ abbrev pub Quantifies : Op → Type 0
 Quantifies Not = ⊥
 Quantifies And = Unit {0}
 Quantifies Or = Unit {0}
+
+-- the operation of what quantifies
+abbrev pub op_of : Quantifier → Op
+op_of All = And
+op_of Any = Or
 
 -- a byte of eight equal tests
 abbrev pub full_byte : Bool → ℕ
@@ -106,29 +114,40 @@ abbrev pub RowWithin : ℕ → ℕ → Row → Type 0
 RowWithin n len (Full c) = Unit {0}
 RowWithin n len (From a) = a + len ≤ n
 
--- byte j of a join by an operation
-abbrev pub join_byte : Op → Join → List ℕ → ℕ → ℕ
-join_byte t (Same c) bytes j = c
-join_byte t (Two a b) bytes j = op_byte t (get_or bytes (a + j) 0) (get_or bytes (b + j) 0)
+-- an operation on the bytes from two places on, and byte j of what it gives
+abbrev pub pair : Op → ℕ → ℕ → Pair
+pair t a b = record { op = t; first = a; second = b }
+
+abbrev pub pair_byte : Pair → List ℕ → ℕ → ℕ
+pair_byte s bytes j = op_byte s.op (get_or bytes (s.first + j) 0) (get_or bytes (s.second + j) 0)
+
+-- and its test z
+abbrev pub pair_bool : Pair → List ℕ → ℕ → Bool
+pair_bool s bytes z = op_bool s.op (bit bytes (s.first * 8 + z)) (bit bytes (s.second * 8 + z))
+
+-- byte j of a join
+abbrev pub join_byte : Join → List ℕ → ℕ → ℕ
+join_byte (Same c) bytes j = c
+join_byte (Two s) bytes j = pair_byte s bytes j
 
 -- its len bytes are made of bytes within a buffer of n bytes
 abbrev pub JoinWithin : ℕ → ℕ → Join → Type 0
 JoinWithin n len (Same c) = Unit {0}
-JoinWithin n len (Two a b) = (a + len ≤ n) × (b + len ≤ n)
+JoinWithin n len (Two s) = (s.first + len ≤ n) × (s.second + len ≤ n)
 
 -- a join is the operation on two rows, test by test
 pub record Joins (t : Op) (p q : Row) (e : Join) : Type 0 where
   pub within : (n len : ℕ) → RowWithin n len p → RowWithin n len q → JoinWithin n len e
-  pub is : (bytes : List ℕ) (j i : ℕ) → i < 8 → bit_of (join_byte t e bytes j) i ≡ op_bool t (bit_of (row_byte p bytes j) i) (bit_of (row_byte q bytes j) i)
+  pub is : (bytes : List ℕ) (j i : ℕ) → i < 8 → bit_of (join_byte e bytes j) i ≡ op_bool t (bit_of (row_byte p bytes j) i) (bit_of (row_byte q bytes j) i)
 
 -- bit y of the bytes f 0, f 1, ..
 abbrev pub bits_of : (ℕ → ℕ) → ℕ → Bool
 bits_of f y = bit_of (f (y / 8)) (y % 8)
 
 -- a join is a line of a plane, with the tests g
-pub record LineIs (g : ℕ → Bool) (t : Op) (bytes : List ℕ) (pitch : ℕ) (e : Join) : Type 0 where
+pub record LineIs (g : ℕ → Bool) (bytes : List ℕ) (pitch : ℕ) (e : Join) : Type 0 where
   pub within : JoinWithin (length bytes) pitch e
-  pub is : (y : ℕ) → bits_of (join_byte t e bytes) y ≡ g y
+  pub is : (y : ℕ) → bits_of (join_byte e bytes) y ≡ g y
 
 -- a byte lies outside of the plane at base
 abbrev pub Outside : ℕ → ℕ → ℕ → Type 0

@@ -3,72 +3,34 @@ use mathlib.Core.Path.{◌≡◌, sym, ap, subst, ◌∙◌}
 use mathlib.Core.Bool.{Bool, true, false, ◌||◌}
 use mathlib.Core.List.{List}
 use mathlib.Core.Logic.{◌⊎◌, inl, inr, ⊎_elim}
-use Prim.Native.Nat.{ℕ, ◌+◌, ◌*◌, ◌/◌, ◌%◌, ◌<◌, ◌≤◌}
+use Prim.Native.Nat.{ℕ, ◌+◌, ◌*◌, ◌<◌}
 use native.Mathlib.Decide.{ℕ_discrete}
 use native.Mathlib.Omega.{arith}
-use borrow.Author.Count.{below_more}
-use lib.ListN.{length, get_or, set}
-use lib.Seq.{get_or-set_same, get_or-set_other}
-use lib.Bits.{bit_or}
-use Rattle.basics.specs.Bit.{bit_of}
+use lib.ListN.{length}
 use Rattle.planes.specs.Plane.{bit, cell, On}
-use Rattle.planes.specs.Lines.{BitSet}
-use Rattle.basics.specs.Laws.Bits.{bit_or_lem}
-use Rattle.planes.specs.Laws.Places.{in_line}
+use Rattle.planes.specs.Lines.{BitSet, Ored}
+use Rattle.planes.specs.Laws.Lines.{ored_bit}
 use Rattle.basics.specs.Laws.Tests.{or_left, or_right, or_cases}
 use Rattle.walks.specs.Walk.{Walk}
 use Rattle.walks.specs.Walk.Walk.{one}
 use Rattle.walks.specs.Laws.Walks.{join}
-use Rattle.sinks.specs.Turns.{Joined, Taken, Idle, Through, Searched}
+use Rattle.sinks.specs.Turns.{Taken, Idle, Through, Searched}
 use Rattle.words.specs.Laws.Seeking.{part_bit}
 use Rattle.std.specs.List.{between}
-use Rattle.std.specs.Array.{IsFirstChunk}
-use Rattle.std.proofs.lemmas.List.{length-take-le, get_or-take}
 use mathlib.Core.Bool.{false≢true}
-
--- the bytes below j of a line have had others ORed in, the rest not yet
-pub record Joining (bytes : List ℕ) (j : ℕ) (a l : List ℕ) : Type 0 where
-  pub len : length l ≡ length a
-  pub done : (i : ℕ) → i < j → get_or l i 0 ≡ bit_or (get_or a i 0) (get_or bytes i 0)
-  pub rest : (i : ℕ) → j ≤ i → get_or l i 0 ≡ get_or a i 0
-
-pub joining_more : (bytes : List ℕ) (j : ℕ) (a l : List ℕ) → Joining bytes j a l → j < length a
-    → Joining bytes (j + 1) a (set l j (bit_or (get_or l j 0) (get_or bytes j 0)))
-joining_more bytes j a l I h = record {
-  len = simp lib.ListN.length-set I.len;
-  done = below_more (λ (i : ℕ). get_or (set l j (bit_or (get_or l j 0) (get_or bytes j 0))) i 0 ≡ bit_or (get_or a i 0) (get_or bytes i 0)) j
-      (λ i k. get_or-set_other l j i (bit_or (get_or l j 0) (get_or bytes j 0)) 0 (λ q. omega arith) ∙ I.done i k)
-      (get_or-set_same l j (bit_or (get_or l j 0) (get_or bytes j 0)) 0 (omega (arith, I.len))
-      ∙ ap (λ (v : ℕ). bit_or v (get_or bytes j 0)) (I.rest j (omega arith)));
-  rest = λ i k. get_or-set_other l j i (bit_or (get_or l j 0) (get_or bytes j 0)) 0 (λ q. omega arith) ∙ I.rest i (omega arith);
-}
-
--- of bytes that are their own front
-pub joined_front : (bytes front a l : List ℕ) → length bytes ≤ 128 → IsFirstChunk bytes front 128 → Joined front a l → Joined bytes a l
-joined_front bytes front a l h F J =
-    let len : length front ≡ 128 = ap length F.same ∙ length-take-le 128 bytes F.enough in
-    record {
-      inside = λ j k.
-          J.inside j (omega (arith, len))
-          ∙ ap (λ (v : ℕ). bit_or (get_or a j 0) v) (ap (λ (bs : List ℕ). get_or bs j 0) F.same ∙ get_or-take 128 bytes j 0 (omega arith));
-    }
-
--- the bits of a line that was ORed
-pub joined_bit : (bytes a l : List ℕ) → Joined bytes a l → (y : ℕ) → y < length bytes * 8 → bit l y ≡ (bit a y || bit bytes y)
-unfolding bit
-joined_bit bytes a l J y h =
-    ap (λ (v : ℕ). bit_of v (y % 8)) (J.inside (y / 8) (in_line (length bytes) y h))
-    ∙ bit_or_lem (get_or a (y / 8) 0) (get_or bytes (y / 8) 0) (y % 8)
 
 -- line k is taken in
 module _ (bytes : List ℕ) (to pitch k : ℕ) (taken : List ℕ) (is : taken ≡ between (to + k * pitch) (to + k * pitch + pitch) bytes) (width : length taken ≡ pitch) where
   -- the bits of a line that it was ORed into
-  taken_bit : (a l : List ℕ) → Joined taken a l → (y : ℕ) → y < pitch * 8 → bit l y ≡ (bit a y || cell bytes to pitch k y)
+  taken_bit : (a l : List ℕ) → Ored taken 0 (length taken) a l → (y : ℕ) → y < pitch * 8 → bit l y ≡ (bit a y || cell bytes to pitch k y)
   taken_bit a l J y h =
-      joined_bit taken a l J y (omega (arith, width))
+      let e : y ≡ 0 * 8 + y = omega arith in
+      ap (bit l) e
+      ∙ ored_bit taken 0 (length taken) a l J y (omega (arith, width))
+      ∙ ap (λ (m : ℕ). bit a m || bit taken y) (sym e)
       ∙ ap (λ (t : Bool). bit a y || t) (rw is (part_bit bytes (to + k * pitch) (to + k * pitch + pitch) y (omega arith)))
 
-  module _ (met line done line' : List ℕ) (J : Joined taken line line') where
+  module _ (met line done line' : List ℕ) (J : Ored taken 0 (length taken) line line') where
     -- k is noted
     pub taken_one : (done' : List ℕ) → BitSet k done done' → Taken bytes to pitch k met line done line' done'
     taken_one done' S = record { joins = taken_bit line line' J; notes = λ j hj t. go j t (ℕ_discrete j k) }
@@ -78,7 +40,7 @@ module _ (bytes : List ℕ) (to pitch k : ℕ) (taken : List ℕ) (is : taken �
         go j t (no g) = inl (sym (S.others j g) ∙ t)
 
     -- where k is met, with all its states
-    pub taken_met : (noted done' : List ℕ) → bit met k ≡ true → BitSet k done noted → Joined taken noted done' → Taken bytes to pitch k met line done line' done'
+    pub taken_met : (noted done' : List ℕ) → bit met k ≡ true → BitSet k done noted → Ored taken 0 (length taken) noted done' → Taken bytes to pitch k met line done line' done'
     taken_met noted done' m S N =
         let T = taken_one noted S in
         record {

@@ -3,7 +3,7 @@
 
 ghost use Rattle.std.specs.Prelude.{◌≡◌, true, ℕ, ◌+◌, ◌*◌, ◌%◌, ◌≤◌, ◌<◌, length, is_some, All};
 ghost use Rattle.planes.specs.Plane.{bit, plane_size};
-ghost use Rattle.sinks.specs.Turns.{Joined, Taken, Idle, Through, Searched, Met, MetAll};
+ghost use Rattle.sinks.specs.Turns.{Taken, Idle, Through, Searched, Met, MetAll};
 ghost use Rattle.words.specs.Words.{Open};
 
 use sinks::{Plane, StateList};
@@ -18,28 +18,6 @@ struct Known<'a, 'b> {
     last: usize,
     ghost nowhere: { Idle plane.to plane.pitch idle.now plane.work.now },
     ghost through: { Through plane.to plane.pitch met.now plane.work.now },
-}
-
-// ORs bytes into the first ones of line.
-fn or_bytes(line: &mut [u8], bytes: &[u8])
-    requires { length bytes.now ≤ length line.old }
-    ensures { Joined bytes.now line.old line.new }
-{
-    for j in 0..bytes.len() {
-        line[j] |= bytes[j];
-    }
-}
-
-// The same: 128 bytes by a loop of a known length, which is the quicker.
-fn or_line(line: &mut [u8; 128], bytes: &[u8])
-    requires { length bytes.now ≤ 128 }
-    ensures { Joined bytes.now line.old line.new }
-{
-    if let Some(whole) = bytes.first_chunk::<128>() {
-        or_bytes(line, whole);
-    } else {
-        or_bytes(line, bytes);
-    }
 }
 
 // Whether all bits of the bytes are set.
@@ -57,24 +35,23 @@ fn all_of(r: &[u8; 128], pitch: usize) -> bool
     are_full(&r[..pitch])
 }
 
-// Whether k is a state of line that is not in done; a no will always do.
-fn is_open(line: &[u8; 128], done: &[u8; 128], k: usize, pitch: usize) -> bool
-    requires { pitch ≤ 128 }
-    ensures { result ≡ true → (k < pitch * 8) × (bit line.now k ≡ true) }
-{
-    k < pitch * 8 && planes::get_bit(line, k) && !planes::get_bit(done, k)
-}
-
 impl<'a, 'b> Known<'a, 'b> {
+    // Whether k is a state of line that is not in done; a no will always do.
+    fn is_open(&self, line: &[u8; 128], done: &[u8; 128], k: usize) -> bool
+        ensures { result ≡ true → (k < self.now.plane.pitch * 8) × (bit line.now k ≡ true) }
+    {
+        k < self.plane.states() && planes::get_bit(line, k) && !planes::get_bit(done, k)
+    }
+
     // A state of line that is not in done: the one met last or another one that is met, if there is one, since its line has all
     // that can be reached from it.
     fn pick(&self, line: &[u8; 128], done: &[u8; 128]) -> Option<usize>
         ensures { Open line.now done.now line.now self.now.plane.pitch result }
     {
-        let pitch = self.plane.pitch;
-        if is_open(line, done, self.last, pitch) {
+        if self.is_open(line, done, self.last) {
             return Some(self.last);
         }
+        let pitch = self.plane.pitch;
         let met = self.met;
         let any = words::next_open(line, done, line, pitch)?;
         words::next_open(line, done, met, pitch).or(Some(any))
@@ -86,11 +63,11 @@ impl<'a, 'b> Known<'a, 'b> {
         ensures { Taken self.now.plane.work.now self.now.plane.to self.now.plane.pitch k self.now.met.now line.old done.old line.new done.new }
     {
         let taken = self.plane.line(k);
-        or_line(line, taken);
+        planes::or_bytes(line, 0, taken);
         planes::set_bit(done, k);
         let met = self.met;
         if planes::get_bit(met, k) {
-            or_line(done, taken);
+            planes::or_bytes(done, 0, taken);
         }
     }
 
@@ -110,6 +87,19 @@ impl<'a, 'b> Known<'a, 'b> {
     }
 }
 
+// How far the searches are: the states that lead nowhere, those that are met, the one met last, and how many lines may still be
+// taken in.
+#[derive(Drop)]
+struct Progress<'a> {
+    idle: &'a [u8; 128],
+    met: [u8; 128],
+    last: usize,
+    left: usize,
+}
+
+// The place of the plane stays three parameters here and below: `Plane` lends work to be read alone, and a struct that lends it
+// to be written would have to say at each function that it keeps its place.
+
 // Line x of the plane at to gets all that can be reached from x, and x is met then, if enough lines may be taken in; answers how
 // many may still be. Where x is no state or is met, nothing is done.
 fn meet(
@@ -117,34 +107,32 @@ fn meet(
     to: usize,
     pitch: usize,
     x: usize,
-    last: usize,
-    idle: &[u8; 128],
-    met: &mut [u8; 128],
-    most: usize,
+    progress: &mut Progress,
 ) -> Option<usize>
     requires pitch_in_bounds { (to + plane_size pitch ≤ length work.old) × (pitch ≤ 128) × (pitch % 8 ≡ 0) }
-    requires idle { Idle to pitch idle.now work.old × Through to pitch met.old work.old }
-    ensures { Met to pitch work.old met.new work.new }
+    requires idle { Idle to pitch progress.old.idle.now work.old × Through to pitch progress.old.met work.old }
+    ensures { Met to pitch work.old progress.new.met work.new × (progress.new.idle.now ≡ progress.old.idle.now) }
 {
-    if pitch * 8 <= x || planes::get_bit(met, x) {
-        return Some(most);
+    if pitch * 8 <= x || planes::get_bit(&progress.met, x) {
+        return Some(progress.left);
     }
     let plane = Plane { work, to, pitch };
     let at = to + x * pitch;
     let mut line = planes::load_line(work, at, pitch);
-    let left = Known {
+    let known = Known {
         plane,
-        idle,
-        met,
-        last,
-    }
-    .search_line(&mut line, most)?;
+        idle: progress.idle,
+        met: &progress.met,
+        last: progress.last,
+    };
+    let left = known.search_line(&mut line, progress.left)?;
     planes::put_line(work, at, &line, pitch);
-    planes::set_bit(met, x);
+    planes::set_bit(&mut progress.met, x);
     Some(left)
 }
 
-// The lines of the plane at to in this order, with 16 lines for each to take in; whether all are met.
+// The lines of the plane at to in this order, with 16 lines for each to take in; whether all are met, and nothing stands beside the
+// yes.
 pub fn meet_all(
     work: &mut [u8],
     to: usize,
@@ -156,16 +144,20 @@ pub fn meet_all(
     requires idle { Idle to pitch idle.now work.old }
     ensures { MetAll to pitch work.old result work.new }
 {
-    let mut met = *idle;
-    let mut left = pitch * 128;
-    let mut last = 0;
+    let mut progress = Progress {
+        idle,
+        met: *idle,
+        last: 0,
+        left: pitch * 128,
+    };
     for entry in order.entries() {
-        let x = *entry as usize;
-        let Some(rest) = meet(work, to, pitch, x, last, idle, &mut met, left) else {
+        let x = usize::from(*entry);
+        // Out of a loop that also goes on with what is met.
+        let Some(left) = meet(work, to, pitch, x, &mut progress) else {
             return false;
         };
-        left = rest;
-        last = x;
+        progress.left = left;
+        progress.last = x;
     }
-    all_of(&met, pitch)
+    all_of(&progress.met, pitch)
 }

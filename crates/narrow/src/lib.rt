@@ -9,6 +9,8 @@ ghost use Rattle.basics.specs.Tabulated.{grid_test};
 ghost use Rattle.walks.specs.Computed.{closed};
 ghost use Rattle.narrow.specs.Words.{Joins, test, Lines, Spread, ClosedWords, byte_of};
 
+// A pitch of at most 4 stays a number: it is counted with in each function, so that a type of its own would be no plainer.
+
 // The pitch bytes of p from at on as one word, the lowest first.
 fn word_at(p: &[u8], at: usize, pitch: usize) -> u32
     requires { (at + pitch ≤ length p.now) × (pitch ≤ 4) }

@@ -15,23 +15,19 @@ pub struct At<'a> {
 
 impl<'a> At<'a> {
     // The record.
-    pub fn record(&self) -> &'a [u8]
+    pub fn record(&self) -> &'a [u8; 24]
         ensures is { result.now ≡ record_at self.now.store.now self.now.i }
-        ensures len { length result.now ≡ 24 }
         ensures fits { self.now.n * 24 < 2 ^ 64 }
     {
         records::record(self.store, self.i)
     }
 
-    // The next record is no node of the same policy.
+    // The next record is no node of the same policy: by bytes, kind 5 and the policy's number, as the definition compares them.
     pub fn ends_policy(&self) -> bool
         ensures { result ≡ ends_policy (record_at self.now.store.now self.now.i) (records_after self.now.n self.now.store.now self.now.i) }
     {
-        if self.i + 1 == self.n {
-            return true;
-        }
         let at = self.i * 24;
         let next = at + 24;
-        self.store[next] != 5 || self.store[next + 1] != self.store[at + 1]
+        self.i + 1 == self.n || self.store[next] != 5 || self.store[next + 1] != self.store[at + 1]
     }
 }

@@ -76,14 +76,14 @@ fn operands_good(k: NodeKind, a: u8, b: u8, i: usize) -> bool
     }
 }
 
-// Bit i of a mask.
+// Bit i of a mask. The crate would stand on planes for its `bit_of` alone.
 fn in_mask(mask: u32, i: u8) -> bool
     ensures { result ≡ bit_of mask i }
 {
     i < 32 && (mask >> i) % 2 == 1
 }
 
-// Y is free in a node of a kind, where the mask has the earlier nodes in which it is.
+// Y is free in a node of a kind, where the mask has the earlier nodes in which it is. A byte other than 0 is Y, as `y_said` says.
 fn y_free(k: NodeKind, a: u8, b: u8, mask: u32) -> bool
     ensures { result ≡ y_said k a b (bit_of mask) }
 {

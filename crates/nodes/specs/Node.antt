@@ -8,9 +8,10 @@ use Rattle.format.specs.declared.kinds.NodeKind.{NodeKind}
 use Rattle.format.specs.declared.kinds.NodeKind.TheVariants.{Bit as k_bit, R as k_r, E as k_e, Not as k_not, And as k_and, Or as k_or, Some as k_some, All as k_all, Tc as k_tc, Unknown as k_none}
 use Rattle.format.specs.declared.kinds.Var.{Var}
 use Rattle.truth.specs.Truth.{Model, Truth}
-use Rattle.lines.specs.Shapes.{Quantifies, Outside}
+use Rattle.lines.specs.Shapes.{op_of, Outside}
 use Rattle.lines.specs.declared.Op.{Op}
 use Rattle.lines.specs.declared.Op.TheVariants.{Not, And, Or}
+use Rattle.lines.specs.declared.Quantifier.TheVariants.{All, Any}
 use Rattle.forms.specs.declared.Form.{Form}
 use Rattle.forms.specs.declared.Form.TheVariants.{Both}
 use Rattle.forms.specs.declared.Joined.{Joined}
@@ -52,8 +53,8 @@ node_of k_e a b = E (var_of a)
 node_of k_not a b = Join Not a a
 node_of k_and a b = Join And a b
 node_of k_or a b = Join Or a b
-node_of k_some a b = Range Or (var_of b) a
-node_of k_all a b = Range And (var_of b) a
+node_of k_some a b = Range (record { by = Any; over = var_of b }) a
+node_of k_all a b = Range (record { by = All; over = var_of b }) a
 node_of k_tc a b = Tc a (var_of (b / 2)) (var_of (b % 2))
 node_of k_none a b = Absent
 
@@ -63,8 +64,8 @@ operands (Bit v i) = None
 operands (R u v) = None
 operands (E v) = None
 operands (Join t a b) = Some (a, b)
-operands (Range o v a) = Some (a, a)
-operands (Over o v t a b) = Some (a, b)
+operands (Range r a) = Some (a, a)
+operands (Over r t a b) = Some (a, b)
 operands (Tc a u v) = Some (a, a)
 operands Absent = None
 
@@ -77,14 +78,14 @@ Among (Some p) j = (j ≡ p.0) ⊎ (j ≡ p.1)
 abbrev pub Needs : Node → ℕ → Type 0
 Needs n j = Among (operands n) j
 
--- BIT names a bit of a number, and SOME and ALL, and the AND or OR below, are by And or Or
+-- BIT names a bit of a number
 abbrev pub Sound : Node → Type 0
 Sound (Bit v i) = i < 64
 Sound (R u v) = Unit {0}
 Sound (E v) = Unit {0}
 Sound (Join t a b) = Unit {0}
-Sound (Range o v a) = Quantifies o
-Sound (Over o v t a b) = Quantifies o × Quantifies t
+Sound (Range r a) = Unit {0}
+Sound (Over r t a b) = Unit {0}
 Sound (Tc a u v) = Unit {0}
 Sound Absent = Unit {0}
 
@@ -106,8 +107,8 @@ says (Bit v i) operand = BIT v i
 says (R u v) operand = r_of u v
 says (E v) operand = e_of v
 says (Join t a b) operand = joins t (operand a) (operand b)
-says (Range o v a) operand = ranges o v (operand a)
-says (Over o v t a b) operand = ranges o v (joins t (operand a) (operand b))
+says (Range r a) operand = ranges (op_of r.by) r.over (operand a)
+says (Over r t a b) operand = ranges (op_of r.by) r.over (joins t (operand a) (operand b))
 says (Tc a u v) operand = TC (operand a) u v
 says Absent operand = absent
 

@@ -4,19 +4,20 @@ ghost use Rattle.nodes.specs.Node.{node_of, operands, form_at, joined_at, site_o
 
 use format::kinds::{NodeKind, Var};
 use forms::{Form, Joined, Site};
-use lines::Op;
+use lines::{Op, Quantifier};
+use quantify::Ranging;
 
-// A node of a policy. NOT, AND and OR are an operation on two earlier nodes, NOT on one twice; SOME and ALL are Or and And over
-// a variable.
+// A node of a policy. NOT, AND and OR are an operation on two earlier nodes, NOT on one twice. Operands are numbers of earlier
+// nodes, as in the records, and no Box: there is no heap.
 #[derive(Clone, Copy)]
 pub enum Node {
     Bit(Var, usize),
     R(Var, Var),
     E(Var),
     Join(Op, usize, usize),
-    Range(Op, Var, usize),
-    // A SOME or ALL over a variable, of the AND or OR of two earlier nodes.
-    Over(Op, Var, Op, usize, usize),
+    Range(Ranging, usize),
+    // A SOME or ALL of an operation on two earlier nodes.
+    Over(Ranging, Op, usize, usize),
     Tc(usize, Var, Var),
     Absent,
 }
@@ -26,8 +27,8 @@ impl Node {
     pub fn of(kind: NodeKind, a: u8, b: u8) -> Self
         ensures { result ≡ node_of kind a b }
     {
-        let p = a as usize;
-        let q = b as usize;
+        let p = usize::from(a);
+        let q = usize::from(b);
         match kind {
             NodeKind::Bit => Node::Bit(Var::from(a), q),
             NodeKind::R => Node::R(Var::from(a), Var::from(b)),
@@ -35,8 +36,8 @@ impl Node {
             NodeKind::Not => Node::Join(Op::Not, p, p),
             NodeKind::And => Node::Join(Op::And, p, q),
             NodeKind::Or => Node::Join(Op::Or, p, q),
-            NodeKind::Some => Node::Range(Op::Or, Var::from(b), p),
-            NodeKind::All => Node::Range(Op::And, Var::from(b), p),
+            NodeKind::Some => Node::Range(Ranging::new(Quantifier::Any, Var::from(b)), p),
+            NodeKind::All => Node::Range(Ranging::new(Quantifier::All, Var::from(b)), p),
             NodeKind::Tc => Node::Tc(p, Var::from(b / 2), Var::from(b % 2)),
             NodeKind::Unknown => Node::Absent,
         }
@@ -51,8 +52,8 @@ impl Node {
             Node::R(_, _) => None,
             Node::E(_) => None,
             Node::Join(_, a, b) => Some((a, b)),
-            Node::Range(_, _, a) => Some((a, a)),
-            Node::Over(_, _, _, a, b) => Some((a, b)),
+            Node::Range(_, a) => Some((a, a)),
+            Node::Over(_, _, a, b) => Some((a, b)),
             Node::Tc(a, _, _) => Some((a, a)),
             Node::Absent => None,
         }
@@ -99,7 +100,8 @@ fn site_of(k: usize, pitch: usize) -> Site
     }
 }
 
-// Makes node k, in its own plane or by reference to the first two, of the forms of its operands; answers its form.
+// Makes node k, in its own plane or by reference to the first two, of the forms of its operands; answers its form. The node is
+// matched once, and each step takes other arguments: a closure for each would be no plainer.
 pub fn make(work: &mut [u8], ground: Ground, forms: &[Option<Form>; 32], n: Node, k: usize) -> Form
     requires { Makeable n forms.now k ground.pitch ground.closed work.old }
     ensures { NodeMade forms.now n k ground.entry.pitch ground.entry.external.now work.old result work.new }
@@ -107,12 +109,12 @@ pub fn make(work: &mut [u8], ground: Ground, forms: &[Option<Form>; 32], n: Node
     let to = site_of(k, ground.pitch);
     match n {
         Node::Bit(v, i) => shapes::bit_line(work, v, i, to),
-        Node::R(u, v) => pairs::arrange(work, Form::Both(0), u, v, to),
+        Node::R(u, v) => pairs::arrange(work, Form::Both(0), (u, v), to),
         Node::E(v) => shapes::keep(work, ground.external, v, to),
         Node::Join(t, a, b) => shapes::apply(work, joined_at(forms, t, a, b), to),
-        Node::Range(o, v, a) => quantify::range(work, o, joined_at(forms, Op::Or, a, a), v, to),
-        Node::Over(o, v, t, a, b) => quantify::range(work, o, joined_at(forms, t, a, b), v, to),
-        Node::Tc(a, u, v) => pairs::reach(work, ground.closed, form_at(forms, a), u, v, to),
+        Node::Range(r, a) => quantify::range(work, r, joined_at(forms, Op::Or, a, a), to),
+        Node::Over(r, t, a, b) => quantify::range(work, r, joined_at(forms, t, a, b), to),
+        Node::Tc(a, u, v) => pairs::reach(work, ground.closed, form_at(forms, a), (u, v), to),
         Node::Absent => {
             let none = [0u8; 128];
             shapes::keep(work, &none, Var::X, to)

@@ -45,18 +45,19 @@ fn same(work: &mut [u8], f: Form, v: Var, to: Site) -> Form
     shapes::keep(work, &e, v, to)
 }
 
-// R, and the pair of a TC: a form with the variables (u, v) for (X, Y); answers its form.
-pub fn arrange(work: &mut [u8], f: Form, u: Var, v: Var, to: Site) -> Form
+// R, and the pair of a TC: a form with two variables for (X, Y); answers its form. This and `shut` match a form once, each with
+// other arguments: a closure for each would be no plainer.
+pub fn arrange(work: &mut [u8], f: Form, vars: (Var, Var), to: Site) -> Form
     requires plane { Plane work.old to.pitch to.base }
     requires behind { plane_size to.pitch + plane_size to.pitch ≤ to.base }
     requires lies { Lies to.pitch to.base f }
-    ensures { Stands (arranged u v f work.old to.pitch) result to.pitch to.base work.old work.new }
+    ensures { Stands (arranged vars.0 vars.1 f work.old to.pitch) result to.pitch to.base work.old work.new }
 {
-    match (u, v) {
-        (Var::X, Var::X) => same(work, f, u, to),
+    match vars {
+        (Var::X, Var::X) => same(work, f, Var::X, to),
         (Var::X, Var::Y) => f,
         (Var::Y, Var::X) => f.turned(),
-        (Var::Y, Var::Y) => same(work, f, u, to),
+        (Var::Y, Var::Y) => same(work, f, Var::Y, to),
     }
 }
 
@@ -101,13 +102,13 @@ fn shut(work: &mut [u8], closed: bool, f: Form, to: Site) -> Form
 }
 
 // TC: the closure of a form, arranged; answers its form.
-pub fn reach(work: &mut [u8], closed: bool, f: Form, u: Var, v: Var, to: Site) -> Form
+pub fn reach(work: &mut [u8], closed: bool, f: Form, vars: (Var, Var), to: Site) -> Form
     requires plane { Plane work.old to.pitch to.base }
     requires source { Source work.old to.pitch to.base (place f) }
     requires behind { plane_size to.pitch + plane_size to.pitch ≤ to.base }
     requires reached { closed ≡ true → Reached to.pitch work.old }
-    ensures { Reaches u v f result to.pitch to.base work.old work.new }
+    ensures { Reaches vars.0 vars.1 f result to.pitch to.base work.old work.new }
 {
     let g = shut(work, closed, f, to);
-    arrange(work, g, u, v, to)
+    arrange(work, g, vars, to)
 }

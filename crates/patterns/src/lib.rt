@@ -9,7 +9,7 @@ ghost use Rattle.patterns.specs.Matched.{MatchedSet, widened};
 use format::Ternary;
 use planes::bit_of;
 
-// Bit i of a pattern.
+// Bit i of a pattern. Value and care stay two numbers, as the definitions take them: callers read them from a record just before.
 fn ternary_at(value: u8, care: u8, i: u8) -> Ternary
     requires { i < 8 }
     ensures { result ≡ ternary value care i }

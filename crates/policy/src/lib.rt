@@ -8,11 +8,10 @@ ghost use Rattle.policy.specs.Evaluated.{nodes_at, node_at, Standing, Planned, P
 
 use format::kinds::NodeKind;
 use forms::Form;
-use lines::Op;
 use nodes::node;
 use nodes::node::{Ground, Node};
 
-// The nodes of a policy: count records of a store, from number start on.
+// The nodes of a policy: count records of a store, from number start on, as `Standing` speaks of them.
 #[derive(Clone, Copy)]
 pub struct Nodes<'a> {
     pub store: &'a [u8],
@@ -32,14 +31,14 @@ impl<'a> Nodes<'a> {
     }
 }
 
-// Node k as it is made. The AND or OR below a SOME or ALL is passed over if it is not made: its operands are taken instead.
+// Node k as it is made. The NOT, AND or OR below a SOME or ALL is passed over if it is not made: its operands are taken instead.
 fn planned(nodes: Nodes, forms: &[Option<Form>; 32], k: usize) -> Node
     requires standing { Standing nodes.store.now nodes.start nodes.count }
     requires inside { k < nodes.count }
     ensures { Planned (nodes_at nodes.entry.store.now nodes.entry.start nodes.entry.count) k result }
 {
     let n = nodes.at(k);
-    let Node::Range(o, v, a) = n else {
+    let Node::Range(r, a) = n else {
         return n;
     };
     if forms[a].is_some() {
@@ -48,10 +47,7 @@ fn planned(nodes: Nodes, forms: &[Option<Form>; 32], k: usize) -> Node
     let Node::Join(t, p, q) = nodes.at(a) else {
         return n;
     };
-    match t {
-        Op::Not => n,
-        Op::And | Op::Or => Node::Over(o, v, t, p, q),
-    }
+    Node::Over(r, t, p, q)
 }
 
 // Works out node k of a policy, its operands first, unless it is made, and keeps the forms of all.
@@ -76,12 +72,7 @@ fn lowest_state(work: &[u8], f: Form, pitch: usize) -> Option<usize>
     requires { Plane work.now pitch (place f) }
     ensures { LowestPassing (pitch * 8) (λ x. tests f work.now pitch x 0) result }
 {
-    for x in 0..pitch * 8 {
-        if f.test(work, x, 0, pitch) {
-            return Some(x);
-        }
-    }
-    None
+    (0..pitch * 8).find(move |x| f.test(work, *x, 0, pitch))
 }
 
 // The lowest state that breaks a policy.

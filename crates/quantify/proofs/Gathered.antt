@@ -7,11 +7,13 @@ use Prim.Native.Nat.{ℕ, ◌+◌, ◌*◌, ◌/◌, ◌%◌, ◌≤◌, ◌<◌
 use native.Mathlib.Nat.{zero-add}
 use native.Mathlib.Omega.{arith}
 use lib.ListN.{length, get_or, replicate, get_or-replicate}
+use denote.Enum.Bare.{sameb}
 use Rattle.basics.specs.Bit.{bit_of}
 use Rattle.planes.specs.Plane.{bit}
 use Rattle.planes.specs.Lines.{Laid}
 use Rattle.planes.specs.Laws.Places.{bit_at}
 use Rattle.format.specs.Policy.{same_var}
+use Rattle.format.specs.contracts.kinds.Var.{the_type}
 use Rattle.format.specs.declared.kinds.Var.{Var}
 use Rattle.format.specs.declared.kinds.Var.TheVariants.{X, Y}
 use Rattle.truth.specs.Truth.{value, with_x, with_y}
@@ -44,7 +46,7 @@ module _ (bytes : List ℕ) (pitch x : ℕ) where
     row_within (Both at) P = line_room bytes pitch at P x hx
     row_within (Turned at) P = first_room bytes pitch at P
 
-    pub line_is : (j : Joined) (e : Join) → Paired bytes pitch j → Joins j.op (row_of j.first bytes pitch x) (row_of j.second bytes pitch x) e → LineIs (joined j bytes pitch x) j.op bytes pitch e
+    pub line_is : (j : Joined) (e : Join) → Paired bytes pitch j → Joins j.op (row_of j.first bytes pitch x) (row_of j.second bytes pitch x) e → LineIs (joined j bytes pitch x) bytes pitch e
     line_is j e P J = record {
       within = J.within (length bytes) pitch (row_within j.first P.first) (row_within j.second P.second);
       is = λ y.
@@ -63,6 +65,13 @@ module _ (bytes : List ℕ) (pitch base : ℕ) (P : Plane bytes pitch base) wher
 
   pub sources_paired : (j : Joined) → Sources bytes pitch base j → Upright j.first × Upright j.second → Paired bytes pitch j
   sources_paired j S U = joinable_paired j (sources_joinable bytes pitch base j S U)
+
+-- the equality that Var derives
+pub vars_same : (u v : Var) → sameb the_type u v ≡ same_var u v
+vars_same X X = refl
+vars_same X Y = refl
+vars_same Y X = refl
+vars_same Y Y = refl
 
 -- the operation on two lines
 module _ (o : Op) (h : Quantifies o) (t : Op) (a b pitch base : ℕ) (l m : List ℕ) where
@@ -148,14 +157,14 @@ module _ (o : Op) (h : Quantifies o) (pitch : ℕ) where
         ∙ sym (over_none o h (λ x. g x y));
   }
 
-  pub taken_more : (t : Op) (g : ℕ → ℕ → Bool) (x : ℕ) (bytes : List ℕ) (e : Join) (r s : List ℕ) → Line (λ y. over o x (λ i. g i y)) (pitch * 8) r → LineIs (g x) t bytes pitch e
-      → Laid (λ j. op_byte o (get_or r j 0) (join_byte t e bytes j)) 0 pitch r s → Line (λ y. over o (x + 1) (λ i. g i y)) (pitch * 8) s
+  pub taken_more : (g : ℕ → ℕ → Bool) (x : ℕ) (bytes : List ℕ) (e : Join) (r s : List ℕ) → Line (λ y. over o x (λ i. g i y)) (pitch * 8) r → LineIs (g x) bytes pitch e
+      → Laid (λ j. op_byte o (get_or r j 0) (join_byte e bytes j)) 0 pitch r s → Line (λ y. over o (x + 1) (λ i. g i y)) (pitch * 8) s
   unfolding bit
-  taken_more t g x bytes e r s L J T = record {
+  taken_more g x bytes e r s L J T = record {
     is = λ y hy.
         ap (λ (m : ℕ). bit_of (get_or s m 0) (y % 8)) (sym (zero-add (y / 8)))
         ∙ ap (λ (v : ℕ). bit_of v (y % 8)) (T.inside (y / 8) (omega arith))
-        ∙ op_bit o (get_or r (y / 8) 0) (join_byte t e bytes (y / 8)) (y % 8) (omega arith)
+        ∙ op_bit o (get_or r (y / 8) 0) (join_byte e bytes (y / 8)) (y % 8) (omega arith)
         ∙ ap₂ (op_bool o) (L.is y hy) (J.is y)
         ∙ sym (over_more o h x (λ i. g i y));
   }

@@ -2,52 +2,74 @@
 #![tactic(auto)]
 
 ghost use Rattle.std.specs.Prelude.{◌≡◌, ◌+◌, ◌*◌, ◌<◌};
-ghost use Rattle.planes.specs.Plane.{bit};
-ghost use Rattle.format.specs.Policy.{same_var};
-ghost use Rattle.lines.specs.Shapes.{op_bool, over, Quantifies, Line, LineIs, Lined, Plane, Source};
+ghost use Rattle.lines.specs.Shapes.{over, op_of, pair_bool, Line, LineIs, Lined, Plane, Source};
 ghost use Rattle.forms.specs.declared.Way.TheVariants.{Over};
 ghost use Rattle.forms.specs.Forms.{other, Pairs, Sources, Paired, joined, Stands, ranged};
 
 use format::kinds::Var;
 use forms::{Form, Joined, Site, Way};
-use lines::{Join, Op};
+use lines::{Join, Pair, Quantifier};
+
+// A SOME or ALL: by what it quantifies, and the variable that runs over every state.
+#[derive(Clone, Copy)]
+pub struct Ranging {
+    pub by: Quantifier,
+    pub over: Var,
+}
+
+impl Ranging {
+    // One of these.
+    pub fn new(by: Quantifier, over: Var) -> Self
+        ensures by { result.by ≡ by }
+        ensures over { result.over ≡ over }
+    {
+        Ranging { by, over }
+    }
+
+    // The same of the other variable.
+    fn turned(self) -> Self
+        ensures by { result.by ≡ self.by }
+        ensures over { result.over ≡ other self.over }
+    {
+        Ranging {
+            by: self.by,
+            over: other(self.over),
+        }
+    }
+}
 
 // Line x of the operation on two forms.
 fn line_of(work: &[u8], j: Joined, x: usize, pitch: usize) -> Join
     requires paired { Paired work.now pitch j }
-    requires quantifies { Quantifies j.op }
     requires x_bound { x < pitch * 8 }
-    ensures { LineIs (joined j work.now pitch x) j.op work.now pitch result }
+    ensures { LineIs (joined j work.now pitch x) work.now pitch result }
 {
-    let p = shapes::row_of(work, j.first, x, pitch);
-    let q = shapes::row_of(work, j.second, x, pitch);
-    lines::join_of(j.op, p, q)
+    lines::join_of(shapes::rows_of(work, j, x, pitch))
 }
 
-// The states y for which the operation on two forms passes with every x (And), or with some x (Or).
-fn gather_x(work: &[u8], o: Op, j: Joined, pitch: usize) -> [u8; 128]
+// The states y for which the operation on two forms passes with every x, or with some x.
+fn gather_x(work: &[u8], q: Quantifier, j: Joined, pitch: usize) -> [u8; 128]
     requires paired { Paired work.now pitch j }
-    requires quantifies { Quantifies o × Quantifies j.op }
-    ensures { Line (λ y. over o (pitch * 8) (λ x. joined j work.now pitch x y)) (pitch * 8) result }
+    ensures { Line (λ y. over (op_of q) (pitch * 8) (λ x. joined j work.now pitch x y)) (pitch * 8) result }
 {
+    let o = q.op();
     let mut r = [lines::units(o); 128];
     for x in 0..pitch * 8 {
         let e = line_of(work, j, x, pitch);
-        lines::take_join(&mut r, work, o, j.op, e, pitch);
+        lines::take_join(&mut r, work, o, e, pitch);
     }
     r
 }
 
-// The states x for which the operation on two forms passes with every y (And), or with some y (Or).
-fn gather_y(work: &[u8], o: Op, j: Joined, pitch: usize) -> [u8; 128]
+// The states x for which the operation on two forms passes with every y, or with some y.
+fn gather_y(work: &[u8], q: Quantifier, j: Joined, pitch: usize) -> [u8; 128]
     requires paired { Paired work.now pitch j }
-    requires quantifies { Quantifies o × Quantifies j.op }
-    ensures { Line (λ x. over o (pitch * 8) (joined j work.now pitch x)) (pitch * 8) result }
+    ensures { Line (λ x. over (op_of q) (pitch * 8) (joined j work.now pitch x)) (pitch * 8) result }
 {
     let mut r = [0u8; 128];
     for x in 0..pitch * 8 {
         let e = line_of(work, j, x, pitch);
-        let s = lines::join_over(work, o, j.op, e, pitch);
+        let s = lines::join_over(work, q, e, pitch);
         lines::push(&mut r, x, s);
     }
     r
@@ -63,79 +85,60 @@ fn other(u: Var) -> Var
     }
 }
 
-// Whether two variables are one.
-fn same(u: Var, v: Var) -> bool
-    ensures { result ≡ same_var u v }
-{
-    match (u, v) {
-        (Var::X, Var::X) => true,
-        (Var::X, Var::Y) => false,
-        (Var::Y, Var::X) => false,
-        (Var::Y, Var::Y) => true,
-    }
-}
-
-// The operation on two forms with v running over every state, by o; answers its form.
-fn range_lines(work: &mut [u8], o: Op, j: Joined, v: Var, to: Site) -> Form
+// A SOME or ALL of the operation on two forms that can be read line by line; answers its form.
+fn range_lines(work: &mut [u8], r: Ranging, j: Joined, to: Site) -> Form
     requires plane { Plane work.old to.pitch to.base }
     requires paired { Paired work.old to.pitch j }
-    requires quantifies { Quantifies o × Quantifies j.op }
-    ensures { Stands (ranged o v j work.old to.pitch) result to.pitch to.base work.old work.new }
+    ensures { Stands (ranged (op_of r.by) r.over j work.old to.pitch) result to.pitch to.base work.old work.new }
 {
-    let e = match v {
-        Var::X => gather_x(work, o, j, to.pitch),
-        Var::Y => gather_y(work, o, j, to.pitch),
+    let e = match r.over {
+        Var::X => gather_x(work, r.by, j, to.pitch),
+        Var::Y => gather_y(work, r.by, j, to.pitch),
     };
-    shapes::keep(work, &e, other(v), to)
+    shapes::keep(work, &e, other(r.over), to)
 }
 
-// The line at a site becomes equal tests: whether the operation t on the lines at a and b passes with every state (And), or with
-// some (Or).
-fn same_line(work: &mut [u8], o: Op, t: Op, a: usize, b: usize, to: Site)
+// The line at a site becomes equal tests: whether the operation on two lines passes with every state, or with some.
+fn same_line(work: &mut [u8], q: Quantifier, s: Pair, to: Site)
     requires plane { Plane work.old to.pitch to.base }
-    requires source { Source work.old to.pitch to.base a }
-    requires source_2 { Source work.old to.pitch to.base b }
-    requires quantifies { Quantifies o }
-    ensures { Lined (λ z. over o (to.pitch * 8) (λ i. op_bool t (bit work.old (a * 8 + i)) (bit work.old (b * 8 + i)))) (to.pitch * 8) to.pitch to.base work.old work.new }
+    requires source { Source work.old to.pitch to.base s.first }
+    requires source_2 { Source work.old to.pitch to.base s.second }
+    ensures { Lined (λ z. over (op_of q) (to.pitch * 8) (pair_bool s work.old)) (to.pitch * 8) to.pitch to.base work.old work.new }
 {
-    shapes::join_lines(work, t, a, b, to);
-    let s = lines::line_over(work, o, to.base, to.pitch);
-    planes::fill(work, lines::full(s), to.base, to.pitch);
+    shapes::join_lines(work, s, to);
+    let t = lines::line_over(work, q, to.base, to.pitch);
+    planes::fill(work, lines::full(t), to.base, to.pitch);
 }
 
 // The same as range_lines of two lines over the variable u.
-fn range_flat(work: &mut [u8], o: Op, j: Joined, u: Var, v: Var, to: Site) -> Form
+fn range_flat(work: &mut [u8], r: Ranging, j: Joined, u: Var, to: Site) -> Form
     requires plane { Plane work.old to.pitch to.base }
     requires sources { Sources work.old to.pitch to.base j }
     requires flat { Pairs j.first j.second (Over u) }
-    requires quantifies { Quantifies o }
-    ensures { Stands (ranged o v j work.old to.pitch) result to.pitch to.base work.old work.new }
+    ensures { Stands (ranged (op_of r.by) r.over j work.old to.pitch) result to.pitch to.base work.old work.new }
 {
-    let a = j.first.start();
-    let b = j.second.start();
-    if same(u, v) {
-        same_line(work, o, j.op, a, b, to);
+    if u == r.over {
+        same_line(work, r.by, j.starts(), to);
     } else {
-        shapes::join_lines(work, j.op, a, b, to);
+        shapes::join_lines(work, j.starts(), to);
     }
     Form::line(u, to.base)
 }
 
-// SOME, ALL: the operation on two forms with v running over every state, by Or and by And; answers its form. The operation on
-// the forms itself is not laid.
-pub fn range(work: &mut [u8], o: Op, j: Joined, v: Var, to: Site) -> Form
+// SOME, ALL: of the operation on two forms; answers its form. The operation on the forms itself is not laid. The way is matched
+// once, and each step takes other arguments: a closure for each would be no plainer.
+pub fn range(work: &mut [u8], r: Ranging, j: Joined, to: Site) -> Form
     requires plane { Plane work.old to.pitch to.base }
     requires sources { Sources work.old to.pitch to.base j }
-    requires quantifies { Quantifies o × Quantifies j.op }
-    ensures { Stands (ranged o v j work.old to.pitch) result to.pitch to.base work.old work.new }
+    ensures { Stands (ranged (op_of r.by) r.over j work.old to.pitch) result to.pitch to.base work.old work.new }
 {
     match j.first.beside(j.second) {
-        Way::Over(u) => range_flat(work, o, j, u, v, to),
-        Way::Straight => range_lines(work, o, j, v, to),
-        Way::Exchanged => range_lines(work, o, j.turned(), other(v), to).turned(),
+        Way::Over(u) => range_flat(work, r, j, u, to),
+        Way::Straight => range_lines(work, r, j, to),
+        Way::Exchanged => range_lines(work, r.turned(), j.turned(), to).turned(),
         Way::Mixed => {
             let laid = shapes::straighten(work, j, to);
-            range_lines(work, o, laid, v, to)
+            range_lines(work, r, laid, to)
         }
     }
 }

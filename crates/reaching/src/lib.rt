@@ -7,6 +7,7 @@ ghost use Rattle.planes.specs.Lines.{Laid};
 ghost use Rattle.reaching.specs.Into.{ClosedInto, lie_apart, ClosedApart};
 ghost use Rattle.sinks.specs.Turns.{MetAll};
 
+use closure::lies_within;
 use sinks::Plane;
 
 // Copies the plane at from to the plane at to.
@@ -18,19 +19,24 @@ fn copy_plane(work: &mut [u8], from: usize, to: usize, pitch: usize)
     work.copy_within(from..from + size, to);
 }
 
-// The plane at to becomes its own closure, if its lines are of whole words and not too many have to be taken in; whether it is
-// that.
-fn by_search(work: &mut [u8], to: usize, pitch: usize) -> bool
-    requires { (to + plane_size pitch ≤ length work.old) × (pitch ≤ 128) }
+// The plane at to, in lines of whole words, becomes its own closure, if not too many lines have to be taken in; whether it is that,
+// and nothing stands beside the yes.
+fn search(work: &mut [u8], to: usize, pitch: usize) -> bool
+    requires { (to + plane_size pitch ≤ length work.old) × (pitch ≤ 128) × (pitch % 8 ≡ 0) }
     ensures { MetAll to pitch work.old result work.new }
 {
-    if pitch % 8 != 0 {
-        return false;
-    }
     let plane = Plane { work, to, pitch };
     let idle = sinks::idle_states(&plane);
     let order = sinks::search_order(&plane, &idle);
     meeting::meet_all(work, to, pitch, &order, &idle)
+}
+
+// The same for lines of any width: a no where they are not of whole words.
+fn by_search(work: &mut [u8], to: usize, pitch: usize) -> bool
+    requires { (to + plane_size pitch ≤ length work.old) × (pitch ≤ 128) }
+    ensures { MetAll to pitch work.old result work.new }
+{
+    pitch % 8 == 0 && search(work, to, pitch)
 }
 
 // The plane at to becomes the closure of the plane at from: on words where a line is no longer than one, by search, or else by
@@ -55,33 +61,19 @@ pub fn close_into(work: &mut [u8], from: usize, to: usize, pitch: usize)
 fn lie_apart(len: usize, from: usize, to: usize, pitch: usize) -> bool
     ensures { result ≡ lie_apart len from to pitch }
 {
-    if 128 < pitch {
-        return false;
-    }
-    let size = pitch * 8 * pitch;
-    if len < size {
-        return false;
-    }
-    let last = len - size;
-    if last < from {
-        return false;
-    }
-    if last < to {
-        return false;
-    }
-    if from < to {
-        return size <= to - from;
-    }
-    size <= from - to
+    lies_within(len, from, pitch)
+        && lies_within(len, to, pitch)
+        && (from + pitch * 8 * pitch <= to || to + pitch * 8 * pitch <= from)
 }
 
-// Close into, for the benchmark from Rust: answers whether both planes lie within work and share no byte, and closes if so.
+// Close into, for the benchmark from Rust: answers whether both planes lie within work and share no byte, and closes if so. C takes
+// the answer, a bool.
 pub fn wegbaro_close_into(work: &mut [u8], from: usize, to: usize, pitch: usize) -> bool
     ensures { ClosedApart from to pitch work.old result work.new }
 {
-    if lie_apart(work.len(), from, to, pitch) {
+    let apart = lie_apart(work.len(), from, to, pitch);
+    if apart {
         close_into(work, from, to, pitch);
-        return true;
     }
-    false
+    apart
 }

@@ -24,7 +24,7 @@ use widths::Widths;
 // rules there are, the policies and the groups.
 #[derive(Clone, Copy)]
 pub struct Seen {
-    // A byte and no RecordKind, as row 3 compares bytes, those of no kind too.
+    // A byte, 0 for none, and no Option of a RecordKind: row 3 compares bytes, those of no kind too.
     pub last: u8,
     pub widths: Widths,
     pub links: usize,
@@ -205,16 +205,10 @@ impl Turn<'_, '_> {
         ensures few { result ≡ false → self.now.seen.groups.count < most_groups }
     {
         let r = self.at.record();
-        if !group_good(self.seen.widths, r) {
-            return true;
-        }
-        if self.seen.groups.out_of_order(r) {
-            return true;
-        }
-        if records::MOST_GROUPS <= self.seen.groups.count {
-            return true;
-        }
-        !groups::buckets_there(self.there, r)
+        !group_good(self.seen.widths, r)
+            || self.seen.groups.out_of_order(r)
+            || records::MOST_GROUPS <= self.seen.groups.count
+            || !groups::buckets_there(self.there, r)
     }
 
     // A group.
@@ -240,7 +234,8 @@ impl Turn<'_, '_> {
     }
 }
 
-// A record, where the keys and points of the records before are noted: the kind byte decides how the other 23 are read.
+// A record, where the keys and points of the records before are noted: the kind byte decides how the other 23 are read. Each kind
+// has a step of its own with other arguments: a closure for each would be no plainer.
 pub fn turn_at(turn: &Turn, notes: &mut Notes) -> Result<Seen, Row>
     requires { NotedOf (before_turn turn.now) notes.old }
     ensures { Turned (before_turn turn.now) (at_turn turn.now) (after_turn turn.now) result × OnOk result (NotedOf (records (turn.now.at.i + 1) turn.now.at.store.now) notes.new) }

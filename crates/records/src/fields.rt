@@ -1,13 +1,13 @@
 // The fields of one record: ranges, widths, patterns and unnamed bytes.
-ghost use Rattle.std.specs.Prelude.{◌≡◌, true, [], ◌∷◌, ◌≤◌, ◌<◌, ◌^◌, ◌&&◌, ltb, length};
+ghost use Rattle.std.specs.Prelude.{◌≡◌, true, [], ◌∷◌, ◌≤◌, ◌<◌, ◌^◌, ◌&&◌, ltb, length, take, drop};
 ghost use Rattle.format.specs.Record.{kind, widths_of};
 ghost use Rattle.widths.specs.Widths.{within_limits};
 ghost use Rattle.format.specs.State.{ordinary};
 ghost use Rattle.format.specs.Pattern.{pattern_good};
 ghost use Rattle.format.specs.Fields.{zeros, point_good, no_pattern, match_good, action_good, actions_good, node_good, fields_good, command_good};
 
-use crate::MOST_POLICIES;
 use crate::wire::version_good;
+use crate::{MOST_POLICIES, part};
 use format::kinds::{ActionKind, CommandKind, NodeKind};
 use widths::Widths;
 
@@ -46,10 +46,17 @@ fn point_good(w: Widths, sw: u8, p: u8) -> bool
     in_width(w.w, sw) && in_width(w.p, p)
 }
 
+// The body of a record, bytes 1 to 20.
+pub fn body(r: &[u8; 24]) -> &[u8; 20]
+    ensures { result.now ≡ take 20 (drop 1 r.now) }
+{
+    part(r, 1)
+}
+
 // The switch and the two patterns of a rule, from the rule's body.
 #[tactic(auto, using(widths::specs::Laws::Limits::limits), unfolding(format::specs::Fields::match_good))]
-pub fn match_good(w: Widths, body: &[u8]) -> bool
-    requires { (length body.now ≡ 20) × (within_limits w ≡ true) }
+pub fn match_good(w: Widths, body: &[u8; 20]) -> bool
+    requires { within_limits w ≡ true }
     ensures { result ≡ match_good w (0 ∷ body.now) }
 {
     in_width(w.w, body[0])
@@ -66,8 +73,8 @@ fn no_pattern(value: u8, care: u8) -> bool
 
 // Action i of a body that uses `count` of them.
 #[tactic(auto, using(widths::specs::Laws::Limits::limits, format::specs::Laws::Fields::action_used, format::specs::Laws::Fields::action_unused))]
-fn action_good(w: Widths, body: &[u8], count: u8, i: u8) -> bool
-    requires { (length body.now ≡ 20) × (within_limits w ≡ true) × (i < 4) }
+fn action_good(w: Widths, body: &[u8; 20], count: u8, i: u8) -> bool
+    requires { (within_limits w ≡ true) × (i < 4) }
     ensures { result ≡ action_good w (0 ∷ body.now) count i }
 {
     let at = 8 + 3 * usize::from(i);
@@ -86,8 +93,8 @@ fn action_good(w: Widths, body: &[u8], count: u8, i: u8) -> bool
 
 // An action count of 1 to 4 and the actions of a body.
 #[tactic(auto, using(format::specs::Laws::Fields::count_low, format::specs::Laws::Fields::count_high))]
-pub fn actions_good(w: Widths, body: &[u8]) -> bool
-    requires { (length body.now ≡ 20) × (within_limits w ≡ true) }
+pub fn actions_good(w: Widths, body: &[u8; 20]) -> bool
+    requires { within_limits w ≡ true }
     ensures { result ≡ actions_good w (0 ∷ body.now) }
 {
     let count = body[7];
@@ -114,36 +121,35 @@ pub fn node_good(w: Widths, k: u8, a: u8, b: u8) -> bool
 
 // The fields of a link.
 #[tactic(auto, using(format::specs::Laws::Fields::link_fields))]
-pub fn link_good(w: Widths, r: &[u8]) -> bool
-    requires { (length r.now ≡ 24) × (within_limits w ≡ true) × (kind r.now ≡ 2) }
+pub fn link_good(w: Widths, r: &[u8; 24]) -> bool
+    requires { (within_limits w ≡ true) × (kind r.now ≡ 2) }
     ensures { result ≡ fields_good w r.now }
 {
     point_good(w, r[1], r[2]) && point_good(w, r[3], r[4]) && zeros(r, 5, 23)
 }
 
 // The fields of a miss.
-#[tactic(auto, using(widths::specs::Laws::Limits::limits, format::specs::Laws::Fields::body_length, format::specs::Laws::Fields::miss_fields, format::specs::Laws::Fields::actions_body))]
-pub fn miss_good(w: Widths, r: &[u8]) -> bool
-    requires { (length r.now ≡ 24) × (within_limits w ≡ true) × (kind r.now ≡ 3) }
+#[tactic(auto, using(widths::specs::Laws::Limits::limits, format::specs::Laws::Fields::miss_fields, format::specs::Laws::Fields::actions_body))]
+pub fn miss_good(w: Widths, r: &[u8; 24]) -> bool
+    requires { (within_limits w ≡ true) × (kind r.now ≡ 3) }
     ensures { result ≡ fields_good w r.now }
 {
-    in_width(w.w, r[1]) && zeros(r, 2, 7) && actions_good(w, &r[1..21]) && zeros(r, 21, 23)
+    in_width(w.w, r[1]) && zeros(r, 2, 7) && actions_good(w, body(r)) && zeros(r, 21, 23)
 }
 
 // The match, the actions and the last bytes of a rule, and of an add or a modify.
-#[tactic(auto, using(format::specs::Laws::Fields::body_length, format::specs::Laws::Fields::match_body, format::specs::Laws::Fields::actions_body))]
-fn changed_good(w: Widths, r: &[u8]) -> bool
-    requires { (length r.now ≡ 24) × (within_limits w ≡ true) }
+#[tactic(auto, using(format::specs::Laws::Fields::match_body, format::specs::Laws::Fields::actions_body))]
+fn changed_good(w: Widths, r: &[u8; 24]) -> bool
+    requires { within_limits w ≡ true }
     ensures { result ≡ (match_good w r.now && actions_good w r.now && zeros 21 23 r.now) }
 {
-    let body = &r[1..21];
-    match_good(w, body) && actions_good(w, body) && zeros(r, 21, 23)
+    match_good(w, body(r)) && actions_good(w, body(r)) && zeros(r, 21, 23)
 }
 
 // The fields of a rule.
 #[tactic(auto, using(format::specs::Laws::Fields::rule_fields))]
-pub fn rule_good(w: Widths, r: &[u8]) -> bool
-    requires { (length r.now ≡ 24) × (within_limits w ≡ true) × (kind r.now ≡ 4) }
+pub fn rule_good(w: Widths, r: &[u8; 24]) -> bool
+    requires { (within_limits w ≡ true) × (kind r.now ≡ 4) }
     ensures { result ≡ fields_good w r.now }
 {
     changed_good(w, r)
@@ -151,8 +157,8 @@ pub fn rule_good(w: Widths, r: &[u8]) -> bool
 
 // The fields of a policy node.
 #[tactic(auto, using(format::specs::Laws::Fields::node_fields_lem))]
-pub fn policy_node_good(w: Widths, r: &[u8]) -> bool
-    requires { (length r.now ≡ 24) × (within_limits w ≡ true) × (kind r.now ≡ 5) }
+pub fn policy_node_good(w: Widths, r: &[u8; 24]) -> bool
+    requires { (within_limits w ≡ true) × (kind r.now ≡ 5) }
     ensures { result ≡ fields_good w r.now }
 {
     r[1] <= MOST_POLICIES && node_good(w, r[2], r[3], r[4]) && zeros(r, 5, 23)
@@ -160,8 +166,8 @@ pub fn policy_node_good(w: Widths, r: &[u8]) -> bool
 
 // The fields of the widths record, besides the widths: its version. No widths are needed for it.
 #[tactic(auto, using(format::specs::Laws::Fields::widths_fields))]
-pub fn widths_record_good(r: &[u8]) -> bool
-    requires { (length r.now ≡ 24) × (kind r.now ≡ 1) }
+pub fn widths_record_good(r: &[u8; 24]) -> bool
+    requires { kind r.now ≡ 1 }
     ensures { (w : Widths) → result ≡ fields_good w r.now }
 {
     version_good(r[4]) && zeros(r, 5, 23)
@@ -169,8 +175,7 @@ pub fn widths_record_good(r: &[u8]) -> bool
 
 // The widths that a record's bytes 1 to 3 give.
 #[tactic(auto, unfolding(format::specs::Record::widths_of))]
-pub fn widths_at(r: &[u8]) -> Widths
-    requires { length r.now ≡ 24 }
+pub fn widths_at(r: &[u8; 24]) -> Widths
     ensures { result ≡ widths_of (r.now ∷ []) }
 {
     Widths {
@@ -181,14 +186,14 @@ pub fn widths_at(r: &[u8]) -> Widths
 }
 
 // The fields of a command: as a rule's; delete has bytes 8 to 20 zero.
-#[tactic(auto, using(format::specs::Laws::Fields::body_length, format::specs::Laws::Fields::match_body), unfolding(format::specs::Fields::command_good))]
-pub fn command_good(w: Widths, c: &[u8]) -> bool
-    requires { (length c.now ≡ 24) × (within_limits w ≡ true) }
+#[tactic(auto, using(format::specs::Laws::Fields::match_body), unfolding(format::specs::Fields::command_good))]
+pub fn command_good(w: Widths, c: &[u8; 24]) -> bool
+    requires { within_limits w ≡ true }
     ensures { result ≡ command_good w c.now }
 {
     match CommandKind::from(c[0]) {
         CommandKind::Add | CommandKind::Modify => changed_good(w, c),
-        CommandKind::Delete => match_good(w, &c[1..21]) && zeros(c, 8, 23),
+        CommandKind::Delete => match_good(w, body(c)) && zeros(c, 8, 23),
         CommandKind::Unknown => false,
     }
 }

@@ -13,7 +13,8 @@ pub fn version_good(b: u8) -> bool
     matches!(b, 0 | 1 | 4)
 }
 
-// The version that the first record of a store gives: 0 reads as 4, and so does any byte but 1, by which alone it goes.
+// The version that the first record of a store gives: 0 reads as 4, and so does any byte but 1, by which alone it goes. The arms
+// are numbers, since a byte is read.
 #[tactic(auto, using(format::specs::Laws::Records::byte_of_lem), unfolding(format::specs::Version::version_of, format::specs::Version::version_named))]
 pub fn version_of(store: &[u8]) -> Version
     requires { 24 ≤ length store.now }

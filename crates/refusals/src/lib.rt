@@ -41,7 +41,8 @@ pub enum Row {
     Group = 16,
 }
 
-// A call is refused: by which row, and at which place.
+// A call is refused: by which row, and at which place. Made in full where it is made: a row alone does not say its place, so that
+// there is no From<Row>, and no `?` of a row.
 #[derive(Clone, Copy)]
 pub struct Refused {
     pub row: Row,
@@ -49,10 +50,11 @@ pub struct Refused {
 }
 
 impl Row {
-    // The row's number.
+    // The row's number. A method and no From: of a `usize` nothing tells that it is a row's number.
     pub fn number(self) -> usize
         ensures { result ≡ row_number self }
     {
+        // The number of a variant, which Rust tells by `as` alone.
         self as usize
     }
 }

@@ -56,7 +56,8 @@ fn after_check(
     Ok(show(net, work, start, end, list))
 }
 
-// The route call: writes the route from start to end, in the network of n records in the store, into the list.
+// The route call: writes the route from start to end, in the network of n records in the store, into the list. Its parameters are
+// those that C lends.
 pub fn route(
     store: &[u8],
     n: usize,

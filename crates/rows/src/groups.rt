@@ -13,8 +13,7 @@ use records::record;
 
 // Notes in a table the group that a record is, if it is one that a sound record can name.
 #[tactic(auto, using(crate::proofs::Named::names_group, crate::proofs::Named::names_no_group, crate::specs::Laws::Groups::noted_other, crate::specs::Laws::Groups::noted_switch, crate::specs::Laws::Groups::noted_number, crate::specs::Laws::Groups::noted_group))]
-fn note(there: &mut [u8; 32], r: &[u8])
-    requires { length r.now ≡ 24 }
+fn note(there: &mut [u8; 32], r: &[u8; 24])
     ensures { Noted r.now there.old there.new }
 {
     if let RecordKind::Group = RecordKind::from(r[0]) {
@@ -39,8 +38,8 @@ pub fn groups_there(store: &[u8], n: usize) -> [u8; 32]
 
 // Action i of a record runs no group, or one that is there.
 #[tactic(auto, using(crate::proofs::Named::runs_a_group, crate::proofs::Named::runs_none), unfolding(format::specs::Group::runs_there))]
-fn runs_there(there: &[u8; 32], r: &[u8], i: usize) -> bool
-    requires { (length r.now ≡ 24) × (i < 4) × ActionsNamed r.now }
+fn runs_there(there: &[u8; 32], r: &[u8; 24], i: usize) -> bool
+    requires { (i < 4) × ActionsNamed r.now }
     ensures { (net : Net) → There net there.now → result ≡ runs_there net r.now i }
 {
     let at = 9 + 3 * i;
@@ -51,8 +50,8 @@ fn runs_there(there: &[u8; 32], r: &[u8], i: usize) -> bool
 }
 
 // The groups that a record's actions run are there.
-pub fn actions_there(there: &[u8; 32], r: &[u8]) -> bool
-    requires { (length r.now ≡ 24) × ActionsNamed r.now }
+pub fn actions_there(there: &[u8; 32], r: &[u8; 24]) -> bool
+    requires { ActionsNamed r.now }
     ensures { (net : Net) → There net there.now → result ≡ actions_there net r.now }
 {
     (0..4).all(|i| runs_there(there, r, i))
@@ -60,8 +59,8 @@ pub fn actions_there(there: &[u8; 32], r: &[u8]) -> bool
 
 // Bucket j of a group goes on to no group, or to one that is there.
 #[tactic(auto, using(crate::proofs::Named::goes_to_group, crate::proofs::Named::goes_to_none), unfolding(format::specs::Group::goes_there))]
-fn goes_there(there: &[u8; 32], r: &[u8], j: usize) -> bool
-    requires { (length r.now ≡ 24) × (j < 3) × BucketsNamed r.now }
+fn goes_there(there: &[u8; 32], r: &[u8; 24], j: usize) -> bool
+    requires { (j < 3) × BucketsNamed r.now }
     ensures { (net : Net) → There net there.now → result ≡ goes_there net r.now j }
 {
     let b = bucket_at(r, j);
@@ -71,16 +70,18 @@ fn goes_there(there: &[u8; 32], r: &[u8], j: usize) -> bool
     }
 }
 
-// The groups to which a group's buckets go on are there.
-pub fn buckets_there(there: &[u8; 32], r: &[u8]) -> bool
-    requires { (length r.now ≡ 24) × BucketsNamed r.now }
+// The groups to which a group's buckets go on are there. Apart from actions_there, as buckets_good is from actions_good in
+// records.
+pub fn buckets_there(there: &[u8; 32], r: &[u8; 24]) -> bool
+    requires { BucketsNamed r.now }
     ensures { (net : Net) → There net there.now → result ≡ buckets_there net r.now }
 {
     (0..3).all(|j| goes_there(there, r, j))
 }
 
 // What is known of the groups of the records before: how many there are, and the switch and number of the last, as wide as the
-// count so that the bytes stand with no gap between and are copied as words.
+// count so that the bytes stand with no gap between and are copied as words. An Option beside the count would say twice that
+// there is none.
 #[derive(Clone, Copy)]
 pub struct Groups {
     pub count: usize,
@@ -90,8 +91,7 @@ pub struct Groups {
 
 impl Groups {
     // There is a group before, and the last does not stand before r.
-    pub fn out_of_order(self, r: &[u8]) -> bool
-        requires { length r.now ≡ 24 }
+    pub fn out_of_order(self, r: &[u8; 24]) -> bool
         ensures { (before : Net) → GroupsOf before self → result ≡ out_of_order before r.now }
     {
         let place = (usize::from(r[1]), usize::from(r[2]));
@@ -99,8 +99,8 @@ impl Groups {
     }
 
     // With the group r.
-    pub fn with_group(self, r: &[u8]) -> Groups
-        requires { (length r.now ≡ 24) × (kind r.now ≡ 9) × (self.count < 16) }
+    pub fn with_group(self, r: &[u8; 24]) -> Groups
+        requires { (kind r.now ≡ 9) × (self.count < 16) }
         ensures { (before : Net) → GroupsOf before self → GroupsOf (before ++ (r.now ∷ [])) result }
     {
         Groups {

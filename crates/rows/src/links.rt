@@ -1,5 +1,5 @@
 // Links: the points where they end, noted as bits.
-ghost use Rattle.std.specs.Prelude.{◌≡◌, ◌≤◌, [], ◌∷◌, ◌++◌, length};
+ghost use Rattle.std.specs.Prelude.{◌≡◌, ◌≤◌, [], ◌∷◌, ◌++◌};
 ghost use Rattle.format.specs.Record.{Net, kind, widths_of};
 ghost use Rattle.refusals.specs.Rows.{row6};
 ghost use Rattle.rows.specs.Noted.{PointsNoted, EndsNamed};
@@ -9,8 +9,8 @@ use records::fields::is_ordinary;
 use widths::Widths;
 
 // The link r ends at a port not ordinary or at a point already linked, or twice at one point, where the linked points are noted.
-pub fn is_misplaced(points: &[u8; 32], w: Widths, r: &[u8]) -> bool
-    requires { (length r.now ≡ 24) × (kind r.now ≡ 2) × EndsNamed r.now × (w.p ≤ 4) }
+pub fn is_misplaced(points: &[u8; 32], w: Widths, r: &[u8; 24]) -> bool
+    requires { (kind r.now ≡ 2) × EndsNamed r.now × (w.p ≤ 4) }
     ensures { (before : Net) → w ≡ widths_of before → PointsNoted before points.now → result ≡ row6 before r.now }
 {
     !is_ordinary(w, r[2])
@@ -22,8 +22,8 @@ pub fn is_misplaced(points: &[u8; 32], w: Widths, r: &[u8]) -> bool
 
 // Notes the points where the link r ends.
 #[tactic(auto, using(crate::specs::Laws::Noted::points_link))]
-pub fn note_ends(points: &mut [u8; 32], r: &[u8])
-    requires { (length r.now ≡ 24) × (kind r.now ≡ 2) × EndsNamed r.now }
+pub fn note_ends(points: &mut [u8; 32], r: &[u8; 24])
+    requires { (kind r.now ≡ 2) × EndsNamed r.now }
     ensures { (before : Net) → PointsNoted before points.old → PointsNoted (before ++ (r.now ∷ [])) points.new }
 {
     table::set(points, r[1], r[2]);

@@ -3,8 +3,9 @@
 
 pub mod network;
 
-ghost use Rattle.std.specs.Prelude.{◌≡◌, [], ◌*◌, ◌≤◌, length};
-ghost use Rattle.format.specs.Record.{Net, records};
+ghost use Rattle.std.specs.Prelude.{◌≡◌, true, [], ◌+◌, ◌*◌, ◌≤◌, length};
+ghost use Rattle.format.specs.Record.{Net, most_nodes, records};
+ghost use Rattle.widths.specs.Widths.{within_limits, plane_bytes};
 ghost use Rattle.refusals.specs.Refusal.{file_row, check_refusal};
 ghost use Rattle.recordrow.specs.Scan.{SeenOf};
 ghost use Rattle.scan.specs.Layout.{Bounded, Ended};
@@ -32,7 +33,18 @@ pub struct Layout {
     pub longest: usize,
 }
 
-// What is known before the first record.
+impl Layout {
+    // The work that a verdict needs: a plane for each node of the longest policy, and two more.
+    pub fn work_needed(self) -> usize
+        requires { (within_limits self.widths ≡ true) × (self.longest ≤ most_nodes) }
+        ensures { result ≡ (self.longest + 2) * plane_bytes self.widths }
+    {
+        (self.longest + 2) * self.widths.plane_bytes()
+    }
+}
+
+// What is known before the first record. In full and no Default: widths of zero bits are none, and a type that has a default
+// would offer them.
 fn start() -> Seen
     ensures { SeenOf [] result }
 {
@@ -80,7 +92,7 @@ fn end(s: Seen, n: usize) -> Result<Layout, Refused>
     })
 }
 
-// The first n records: rows 3 to 10 and 16.
+// The first n records: rows 3 to 10 and 16. C lends a store and a count; they are a Network when this has passed.
 pub fn scan<'a>(store: &'a [u8], n: usize) -> Result<Network<'a>, Refused>
     requires { n * 24 ≤ length store.now }
     ensures { Read store.now n (file_row [] (records n store.now)) result }
@@ -95,6 +107,7 @@ pub fn scan<'a>(store: &'a [u8], n: usize) -> Result<Network<'a>, Refused>
             there: &there,
             seen,
         };
+        // A match: where the refusal is stands beside its row, and not in a closure of `map_err`.
         match turn_at(&turn, &mut notes) {
             Ok(next) => seen = next,
             Err(row) => return Err(Refused { row, place: i }),

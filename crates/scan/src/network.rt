@@ -1,5 +1,5 @@
 // A network in a lent store.
-ghost use Rattle.std.specs.Prelude.{◌≡◌, ◌+◌, ◌*◌, ◌<◌, length};
+ghost use Rattle.std.specs.Prelude.{◌≡◌, ◌+◌, ◌*◌, ◌<◌};
 ghost use Rattle.format.specs.Search.{record_at};
 ghost use Rattle.widths.specs.Widths.{plane_bytes};
 ghost use Rattle.scan.specs.Stored.{Stored};
@@ -17,10 +17,9 @@ pub struct Network<'a> {
 
 impl<'a> Network<'a> {
     // Record i.
-    pub fn record(&self, i: usize) -> &'a [u8]
+    pub fn record(&self, i: usize) -> &'a [u8; 24]
         requires { i < self.now.n }
-        ensures is { result.now ≡ record_at self.now.store.now i }
-        ensures len { length result.now ≡ 24 }
+        ensures { result.now ≡ record_at self.now.store.now i }
     {
         records::record(self.store, i)
     }
@@ -29,6 +28,6 @@ impl<'a> Network<'a> {
     pub fn work_needed(&self) -> usize
         ensures { result ≡ (self.now.layout.longest + 2) * plane_bytes self.now.layout.widths }
     {
-        (self.layout.longest + 2) * self.layout.widths.plane_bytes()
+        self.layout.work_needed()
     }
 }

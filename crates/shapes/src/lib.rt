@@ -6,13 +6,13 @@ ghost use Rattle.basics.specs.Bit.{bit_of};
 ghost use Rattle.planes.specs.Plane.{bit};
 ghost use Rattle.planes.specs.Lines.{Laid, Made};
 ghost use Rattle.truth.specs.Truth.{value};
-ghost use Rattle.lines.specs.Shapes.{op_bool, op_byte, Lined, Plane, Source, Span};
+ghost use Rattle.lines.specs.Shapes.{pair_byte, pair_bool, Lined, Plane, Source, Span};
 ghost use Rattle.forms.specs.declared.Way.TheVariants.{Mixed};
-ghost use Rattle.forms.specs.Forms.{place, Upright, row_of, Pairs, Joinable, Sources, joined, Straightened, Stands};
+ghost use Rattle.forms.specs.Forms.{place, row_of, rows_of, Pairs, Joinable, Sources, joined, Straightened, Stands};
 
 use format::kinds::Var;
 use forms::{Form, Joined, Site, Way};
-use lines::{Op, Row};
+use lines::{Pair, Row, Rows};
 
 // Line x of a form that does not stand exchanged.
 pub fn row_of(work: &[u8], f: Form, x: usize, pitch: usize) -> Row
@@ -27,6 +27,20 @@ pub fn row_of(work: &[u8], f: Form, x: usize, pitch: usize) -> Row
     }
 }
 
+// The operation on line x of two forms that do not stand exchanged.
+pub fn rows_of(work: &[u8], j: Joined, x: usize, pitch: usize) -> Rows
+    requires first { Plane work.now pitch (place j.first) }
+    requires second { Plane work.now pitch (place j.second) }
+    requires x_bound { x < pitch * 8 }
+    ensures { result ≡ rows_of j work.now pitch x }
+{
+    Rows {
+        op: j.op,
+        first: row_of(work, j.first, x, pitch),
+        second: row_of(work, j.second, x, pitch),
+    }
+}
+
 // The plane of a site becomes the operation on two forms, line by line.
 fn combine_lines(work: &mut [u8], j: Joined, to: Site)
     requires plane { Plane work.old to.pitch to.base }
@@ -34,26 +48,25 @@ fn combine_lines(work: &mut [u8], j: Joined, to: Site)
     ensures { Made (joined j work.old to.pitch) to.pitch to.base (to.pitch * 8) work.old work.new }
 {
     for x in 0..to.pitch * 8 {
-        let p = row_of(work, j.first, x, to.pitch);
-        let q = row_of(work, j.second, x, to.pitch);
-        lines::join_rows(work, j.op, p, q, to.base + x * to.pitch, to.pitch);
+        let r = rows_of(work, j, x, to.pitch);
+        lines::join_rows(work, r, to.base + x * to.pitch, to.pitch);
     }
 }
 
-// The len bytes from base on become the operation on those from a on and from b on. Where one of these is base, the call says
-// so, and the compiler need not think of bytes that overlap in part.
-fn join_planes(work: &mut [u8], o: Op, a: usize, b: usize, base: usize, len: usize)
-    requires span { Span work.old len base a }
-    requires span_2 { Span work.old len base b }
+// The len bytes from base on become the operation on those from two places on. Where one of these is base, the call says so, and
+// the compiler need not think of bytes that overlap in part.
+fn join_planes(work: &mut [u8], s: Pair, base: usize, len: usize)
+    requires span { Span work.old len base s.first }
+    requires span_2 { Span work.old len base s.second }
     requires len_in_bounds { base + len ≤ length work.old }
-    ensures { Laid (λ j. op_byte o (get_or work.old (a + j) 0) (get_or work.old (b + j) 0)) base len work.old work.new }
+    ensures { Laid (λ j. pair_byte s work.old j) base len work.old work.new }
 {
-    if a == base {
-        lines::join_span(work, o, base, b, base, len);
-    } else if b == base {
-        lines::join_span(work, o, a, base, base, len);
+    if s.first == base {
+        lines::join_span(work, Pair { first: base, ..s }, base, len);
+    } else if s.second == base {
+        lines::join_span(work, Pair { second: base, ..s }, base, len);
     } else {
-        lines::join_span(work, o, a, b, base, len);
+        lines::join_span(work, s, base, len);
     }
 }
 
@@ -63,11 +76,11 @@ fn combine(work: &mut [u8], j: Joined, to: Site)
     requires joinable { Joinable work.old to.pitch to.base j }
     ensures { Made (joined j work.old to.pitch) to.pitch to.base (to.pitch * 8) work.old work.new }
 {
-    let (Form::Both(p), Form::Both(q)) = (j.first, j.second) else {
+    let (Form::Both(_), Form::Both(_)) = (j.first, j.second) else {
         combine_lines(work, j, to);
         return;
     };
-    join_planes(work, j.op, p, q, to.base, to.size());
+    join_planes(work, j.starts(), to.base, to.size());
 }
 
 // The line of a node over the variable v is kept; answers its form.
@@ -79,14 +92,14 @@ pub fn keep(work: &mut [u8], e: &[u8; 128], v: Var, to: Site) -> Form
     Form::line(v, to.base)
 }
 
-// The line at a site becomes the operation on the lines at a and b.
-pub fn join_lines(work: &mut [u8], o: Op, a: usize, b: usize, to: Site)
+// The line at a site becomes the operation on two lines.
+pub fn join_lines(work: &mut [u8], s: Pair, to: Site)
     requires plane { Plane work.old to.pitch to.base }
-    requires source { Source work.old to.pitch to.base a }
-    requires source_2 { Source work.old to.pitch to.base b }
-    ensures { Lined (λ z. op_bool o (bit work.old (a * 8 + z)) (bit work.old (b * 8 + z))) (to.pitch * 8) to.pitch to.base work.old work.new }
+    requires source { Source work.old to.pitch to.base s.first }
+    requires source_2 { Source work.old to.pitch to.base s.second }
+    ensures { Lined (λ z. pair_bool s work.old z) (to.pitch * 8) to.pitch to.base work.old work.new }
 {
-    lines::join_span(work, o, a, b, to.base, to.pitch);
+    lines::join_span(work, s, to.base, to.pitch);
 }
 
 // Of two forms, the one that stands exchanged is laid as a plane: both can then be read line by line.
@@ -113,7 +126,8 @@ pub fn straighten(work: &mut [u8], j: Joined, to: Site) -> Joined
     }
 }
 
-// NOT, AND, OR: the operation on two forms; answers its form.
+// NOT, AND, OR: the operation on two forms; answers its form. The way is matched once, and each step takes other arguments: a
+// closure for each would be no plainer.
 pub fn apply(work: &mut [u8], j: Joined, to: Site) -> Form
     requires plane { Plane work.old to.pitch to.base }
     requires sources { Sources work.old to.pitch to.base j }
@@ -121,7 +135,7 @@ pub fn apply(work: &mut [u8], j: Joined, to: Site) -> Form
 {
     match j.first.beside(j.second) {
         Way::Over(v) => {
-            join_lines(work, j.op, j.first.start(), j.second.start(), to);
+            join_lines(work, j.starts(), to);
             Form::line(v, to.base)
         }
         Way::Straight => {

@@ -1,12 +1,7 @@
 -- What the search from a state leaves, and that from all states.
-use Rattle.std.specs.Prelude.{◌≡◌, Bool, true, ◌||◌, List, ◌⊎◌, ℕ, ◌+◌, ◌*◌, ◌<◌, ◌≤◌, length, get_or}
-use Rattle.std.specs.Int.Bits.{bit_or}
+use Rattle.std.specs.Prelude.{◌≡◌, Bool, true, false, ◌||◌, List, ◌⊎◌, ℕ, ◌+◌, ◌*◌, ◌<◌, ◌≤◌, length, get_or}
 use Rattle.planes.specs.Plane.{bit, cell, On, plane_size}
 use Rattle.walks.specs.Walk.{Walk}
-
--- the first bytes of line have had the others ORed in
-pub record Joined (bytes before after : List ℕ) : Type 0 where
-  pub inside : (j : ℕ) → j < length bytes → get_or after j 0 ≡ bit_or (get_or before j 0) (get_or bytes j 0)
 
 -- line has line k of the plane at to; done has no more than k and, where k is met, the states of that line
 pub record Taken (bytes : List ℕ) (to pitch k : ℕ) (met line done line' done' : List ℕ) : Type 0 where
@@ -16,6 +11,14 @@ pub record Taken (bytes : List ℕ) (to pitch k : ℕ) (met line done line' done
 -- no idle state has a state in its line of the plane at to
 abbrev pub Idle : ℕ → ℕ → List ℕ → List ℕ → Type 0
 Idle to pitch idle bytes = (x y : ℕ) → x < pitch * 8 → y < pitch * 8 → bit idle x ≡ true → On bytes to pitch x y → ⊥
+
+-- the line at `at` has no state
+abbrev pub Blank : List ℕ → ℕ → ℕ → Type 0
+Blank bytes at pitch = (y : ℕ) → y < pitch * 8 → bit bytes (at * 8 + y) ≡ false
+
+-- idle has no more than x, and this only if the line at `at` has no state
+abbrev pub Noted : List ℕ → ℕ → ℕ → ℕ → List ℕ → List ℕ → Type 0
+Noted bytes at pitch x idle idle' = (j : ℕ) → bit idle' j ≡ true → (bit idle j ≡ true) ⊎ ((j ≡ x) × Blank bytes at pitch)
 
 -- line x of the plane at to has the lines of its states
 abbrev pub Stable : ℕ → ℕ → List ℕ → ℕ → Type 0

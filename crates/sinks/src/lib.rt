@@ -39,7 +39,7 @@ impl<'a> Plane<'a> {
     }
 }
 
-// A list of at most 1024 states.
+// A list of at most 1024 states: an array and how much of it is used, as there is no heap, so no Vec.
 #[derive(Drop)]
 pub struct StateList {
     states: [u16; 1024],
@@ -61,6 +61,7 @@ impl StateList {
         requires { x < 65536 }
     {
         if self.count < 1024 {
+            // A `usize` has no `From` into a `u16`; x fits.
             self.states[self.count] = x as u16;
             self.count += 1;
         }
@@ -73,7 +74,7 @@ impl StateList {
         if self.count == 0 {
             return None;
         }
-        Some(self.states[self.count - 1] as usize)
+        Some(usize::from(self.states[self.count - 1]))
     }
 
     // Takes the last state off.
@@ -89,9 +90,8 @@ impl StateList {
     }
 }
 
-// Whether the bytes are all zero; a no will always do.
+// Whether the bytes are all zero; a no will always do. Of records, `zeros` says it both ways; neither crate stands on the other.
 fn all_zero(bytes: &[u8]) -> bool
-    requires { length bytes.now ≤ 128 }
     ensures { result ≡ true → Lacks bytes.now 0 (length bytes.now * 8) }
 {
     let mut all = 0;
@@ -136,7 +136,8 @@ fn next_unseen(plane: &Plane, x: usize, seen: &[u8; 128]) -> Option<usize>
     words::next_open(line, seen, line, plane.pitch)
 }
 
-// Adds the states that a search from root comes to, as it leaves them; the stack, empty before and after, is lent since it is large.
+// Adds the states that a search from root comes to, as it leaves them; the stack, empty before and after, is lent since it is
+// large. Each state goes on and off it once: twice as many turns are enough.
 fn search_from(
     plane: &Plane,
     root: usize,

@@ -31,13 +31,13 @@ impl Frame {
         }
     }
 
-    // The number of its state in a direction: 0 arriving, 1 departing.
+    // The number of its state in a direction: 0 arriving, 1 departing, a number since `state` counts with it.
     #[tactic(auto, using(widths::specs::Laws::Limits::limits, basics::specs::Laws::Shifts::scaled, format::specs::Laws::States::state_digits))]
-    fn number(self, w: Widths, direction: usize) -> usize
-        requires { (within_limits w ≡ true) × (direction < 2) }
+    pub fn number(self, w: Widths, direction: u8) -> usize
+        requires { within_limits w ≡ true }
         ensures { result ≡ state w direction self.switch self.port self.header }
     {
-        let at_switch = join(direction, w.w, self.switch);
+        let at_switch = join(usize::from(direction), w.w, self.switch);
         let at_port = join(at_switch, w.p, self.port);
         join(at_port, w.h, self.header)
     }
@@ -83,10 +83,11 @@ fn bits(s: usize, i: u8, k: u8) -> u8
     requires { (i < 64) × (k ≤ 8) }
     ensures { result ≡ s / 2 ^ i % 2 ^ k }
 {
+    // A `usize` has no `From` into a `u8`; k bits of it, at most 8, fit.
     ((s >> i) % (1usize << k)) as u8
 }
 
-// The direction of a state: 0 arriving, 1 departing.
+// The direction of a state: 0 arriving, 1 departing, a number as `direction_of` is.
 #[tactic(auto, using(widths::specs::Laws::Limits::limits), unfolding(format::specs::State::direction_of))]
 pub fn direction(w: Widths, s: usize) -> usize
     requires { within_limits w ≡ true }

@@ -1,6 +1,5 @@
 -- What the program does with each piece of the input, 24 bytes or the fewer that are left.
-use Rattle.std.specs.Prelude.{false, cond, ◌≡◌, Option, None, Some, Result, Ok, Err, List, [], ◌∷◌, ◌++◌, ℕ, zero, suc, ◌+◌, ◌-◌, ◌*◌, ◌<◌, ◌≤◌, min, eqb, ltb, length, take, drop}
-use Rattle.std.specs.declared.io.Error.{Error}
+use Rattle.std.specs.Prelude.{false, cond, ◌≡◌, Option, None, Some, Result, Ok, Err, List, [], ◌∷◌, ◌++◌, ℕ, zero, suc, ◌+◌, ◌-◌, ◌*◌, ◌<◌, ◌≤◌, min, eqb, ltb, ℤ, pos, negsuc, length, take, drop}
 use Rattle.io.specs.Counts.{IsPrefixLen}
 use Rattle.format.specs.Record.{Rec, Net, most_records, flat}
 use Rattle.format.specs.Laws.Records.{Whole}
@@ -11,11 +10,11 @@ use Rattle.streams.specs.declared.input.Later.TheVariants as later
 use Rattle.streams.specs.declared.input.ReadFailed.{ReadFailed}
 use Rattle.streams.specs.Input.{is_command}
 
--- what a call of read said: that it failed, with no bytes that the input ended, else how many bytes it read
-abbrev pub said_by : Result ℕ Error → Result (Option ℕ) ReadFailed
-said_by (Ok zero) = Ok None
-said_by (Ok (suc k)) = Ok (Some (suc k))
-said_by (Err e) = Err (record {})
+-- what a call of read said: a negative number that it failed, 0 that the input ended, else how many bytes it read
+abbrev pub said_by : ℤ → Result (Option ℕ) ReadFailed
+said_by (pos zero) = Ok None
+said_by (pos (suc k)) = Ok (Some (suc k))
+said_by (negsuc k) = Err (record {})
 
 -- what was read is not nothing, and there was room for it
 abbrev pub InRoom : Result (Option ℕ) ReadFailed → ℕ → Type 0

@@ -1,17 +1,15 @@
 // What a piece of the input does: 24 bytes, or the fewer that are left.
-ghost use Rattle.std.specs.Prelude.{◌≡◌, ◌<◌, length};
-ghost use Rattle.format.specs.Record.{store_bytes, most_records};
+ghost use Rattle.std.specs.Prelude.{◌≡◌, ◌<◌};
+ghost use Rattle.format.specs.Record.{most_records};
 ghost use Rattle.streams.specs.Input.{is_command_kind};
 ghost use Rattle.streams.specs.Reading.{said_by, PieceWithin, next_of, next_by, later_of, later_by, with_record};
-
-use format::kinds::CommandKind;
-use std::io;
 
 // A read failed.
 #[derive(Clone, Copy, PartialEq, Eq)]
 pub struct ReadFailed;
 
-// What a piece is before any command.
+// What a piece is before any command. A failed read is one of the cases and no Err, as `next_by` says: the program does with it
+// what it does with the end.
 #[derive(Clone, Copy, PartialEq, Eq)]
 pub enum Next {
     // A record of the network.
@@ -30,7 +28,7 @@ pub enum Next {
     Failed,
 }
 
-// What a piece is behind a command.
+// What a piece is behind a command. A failed read is one of the cases, by `later_by`.
 #[derive(Clone, Copy, PartialEq, Eq)]
 pub enum Later {
     // The next command.
@@ -43,22 +41,24 @@ pub enum Later {
     Failed,
 }
 
-// What a call of read said by its answer: how many bytes there were, or that the input ended. A read that failed is not its end.
-pub fn read_said(got: io::Result<usize>) -> Result<Option<usize>, ReadFailed>
+// What a call of read said by its answer: how many bytes there were, or that the input ended. A read that failed, which answers a
+// negative number, is not its end.
+pub fn read_said(got: isize) -> Result<Option<usize>, ReadFailed>
     ensures { result ≡ said_by got }
 {
-    match got {
+    match usize::try_from(got) {
         Ok(0) => Ok(None),
         Ok(k) => Ok(Some(k)),
         Err(_) => Err(ReadFailed),
     }
 }
 
-// A record of this kind is a command.
+// A record of this kind is a command. By number, as the definition says.
+#[tactic(auto, unfolding(crate::specs::Input::is_command_kind))]
 fn is_command(kind: u8) -> bool
     ensures { result ≡ is_command_kind kind }
 {
-    !matches!(CommandKind::from(kind), CommandKind::Unknown)
+    (6..=8).contains(&kind)
 }
 
 // What bytes are behind n network records, before any command.
@@ -120,8 +120,8 @@ pub fn later_of(buffer: &[u8], piece: Result<usize, ReadFailed>) -> Later
 }
 
 // Puts record number n of the network into the store.
-pub fn keep(store: &mut [u8], n: usize, rec: &[u8])
-    requires { (n < most_records) × (length store.old ≡ store_bytes) × (length rec.now ≡ 24) }
+pub fn keep(store: &mut [u8; records::STORE_BYTES], n: usize, rec: &[u8; 24])
+    requires { n < most_records }
     ensures { store.new ≡ with_record rec.now n store.old }
 {
     let at = n * 24;

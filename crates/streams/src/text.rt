@@ -9,7 +9,8 @@ use std::marker::Model;
 // The longest line has three numbers of 20 digits, a word of 7 letters, 3 spaces and its end: 71 bytes, so that 80 are enough.
 const MOST_BYTES: usize = 80;
 
-// A line of the program: the first bytes of an array.
+// A line of the program: the first bytes of an array. There is no heap, so no Vec. Not Display: its law speaks of what is written
+// to a String, and a Line is the bytes that `write_all` is lent.
 #[derive(Drop)]
 pub struct Line {
     bytes: [u8; MOST_BYTES],

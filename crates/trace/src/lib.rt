@@ -25,7 +25,7 @@ impl<'a> Steps<'a> {
         self.pitch * 8
     }
 
-    // The states that x steps to.
+    // The states that x steps to. This and `before` are two, since each says of a plane of its own what the bits mean.
     fn after(&self, x: usize) -> States<'a>
         requires { x < self.now.pitch * 8 }
         ensures line { LineOf (λ y. cell self.now.work.now 0 self.now.pitch x y) self.now.pitch result.line.now }
@@ -48,11 +48,13 @@ impl<'a> Steps<'a> {
     }
 }
 
-// Gives the distance k + 1 to each state without one that steps to x.
+// Gives the distance k + 1 to each state without one that steps to x. A distance of 0 says that none is known, as `Marked` and
+// `Measured` say: an Option for each would take twice the stack.
 fn mark(steps: &Steps, distances: &mut [u16; 1024], x: usize, k: usize)
     requires { (x < steps.now.pitch * 8) × (k < 1024) }
     ensures { Marked steps.now.work.now steps.now.pitch x k (steps.now.pitch * 8) distances.old distances.new }
 {
+    // A `usize` has no `From` into a `u16`; k + 1 is at most 1024.
     let distance = (k + 1) as u16;
     for y in steps.before(x) {
         if distances[y] == 0 {
@@ -66,10 +68,9 @@ fn advance(steps: &Steps, distances: &mut [u16; 1024], k: usize) -> bool
     requires { (1 ≤ k) × (k < 1024) }
     ensures { Advanced steps.now.work.now steps.now.pitch k (steps.now.pitch * 8) distances.old result distances.new }
 {
-    let distance = k as u16;
     let mut some = false;
     for x in 0..steps.states() {
-        if distances[x] == distance {
+        if usize::from(distances[x]) == k {
             mark(steps, distances, x, k);
             some = true;
         }
@@ -94,14 +95,14 @@ fn measure(steps: &Steps, distances: &mut [u16; 1024], start: usize, end: usize)
     }
 }
 
-// The smallest state that x steps to and that is at the distance k.
+// The smallest state that x steps to and that is at the distance k. Start, end and list go on as C lends them from here on: a
+// struct would be taken apart at each call.
 fn nearer(steps: &Steps, distances: &[u16; 1024], x: usize, k: usize) -> Option<usize>
-    requires { (x < steps.now.pitch * 8) × (k < 1024) }
+    requires { x < steps.now.pitch * 8 }
     ensures { Nearer steps.now.work.now steps.now.pitch distances.now x k result }
 {
-    let distance = k as u16;
     for y in steps.after(x) {
-        if distances[y] == distance {
+        if usize::from(distances[y]) == k {
             return Some(y);
         }
     }
@@ -119,7 +120,8 @@ fn write_route(
     requires { Writable steps.now.work.now steps.now.pitch start end distances.now list.old }
     ensures { RouteWritten steps.now.work.now steps.now.pitch start end distances.now list.old result list.new }
 {
-    let last = distances[start] as usize;
+    // A `usize` has no `From` into a `u16`; each state is below 1024.
+    let last = usize::from(distances[start]);
     list[0] = start as u16;
     let mut x = start;
     for i in 1..last {

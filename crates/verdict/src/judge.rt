@@ -1,5 +1,5 @@
 // The verdict on a network: its policies in ascending order, over the step plane.
-ghost use Rattle.std.specs.Prelude.{◌≡◌, ◌≤◌, ◌<◌, length};
+ghost use Rattle.std.specs.Prelude.{◌≡◌, ◌≤◌, ◌<◌};
 ghost use Rattle.format.specs.Record.{records};
 ghost use Rattle.format.specs.Search.{record_at};
 ghost use Rattle.onestep.specs.Step.{external};
@@ -13,11 +13,10 @@ use nodes::node::Ground;
 use policy::Nodes;
 use scan::network::Network;
 
-// Record i, a node or one before the nodes.
-fn node<'a>(net: &Network<'a>, i: usize) -> &'a [u8]
+// Record i, a node or one before the nodes. That a number is below the groups stays a clause: a type for it would be no plainer.
+fn node<'a>(net: &Network<'a>, i: usize) -> &'a [u8; 24]
     requires { i < net.now.layout.groups }
-    ensures is { result.now ≡ record_at net.now.store.now i }
-    ensures len { length result.now ≡ 24 }
+    ensures { result.now ≡ record_at net.now.store.now i }
 {
     net.record(i)
 }
@@ -80,13 +79,14 @@ fn externals(net: &Network, s: usize) -> [u8; 128]
     row
 }
 
-// Whether record i is an R of two variables; any answer will do.
-fn is_step(net: &Network, i: usize) -> bool {
-    if net.layout.groups <= i {
-        return false;
-    }
-    let r = node(net, i);
+// Whether a node is an R of two variables; any answer will do.
+fn reads_steps(r: &[u8; 24]) -> bool {
     matches!(NodeKind::from(r[2]), NodeKind::R) && r[3] != r[4]
+}
+
+// Whether record i is one; any answer will do.
+fn is_step(net: &Network, i: usize) -> bool {
+    i < net.layout.groups && reads_steps(node(net, i))
 }
 
 // Whether record i is a TC over an R of two variables, in a policy that begins at record start; any answer will do.
@@ -113,6 +113,7 @@ fn wants_closure(net: &Network) -> bool {
     let mut start = net.layout.nodes;
     for i in net.layout.nodes..net.layout.groups {
         start = policy_start(net, start, i);
+        // Out of a loop that also finds where each policy begins.
         if closes_steps(net, start, i) {
             return true;
         }
@@ -125,11 +126,11 @@ fn close_steps(net: &Network, work: &mut [u8], pitch: usize) -> bool
     requires { Plane work.old pitch (plane_size pitch) }
     ensures { StepsClosed pitch work.old result work.new }
 {
-    if wants_closure(net) {
+    let wanted = wants_closure(net);
+    if wanted {
         reaching::close_into(work, 0, pitch * 8 * pitch, pitch);
-        return true;
     }
-    false
+    wanted
 }
 
 // Judges a network; the work that this needs is zero afterwards.

@@ -22,7 +22,7 @@ pub fn wegbaro_command(store: &mut [u8], n: usize, work: &mut [u8], given: &[u8]
     codes::command_code(a)
 }
 
-// The route call.
+// The route call. Its parameters are those that C lends.
 pub fn wegbaro_route(
     store: &[u8],
     n: usize,

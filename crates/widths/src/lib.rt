@@ -4,7 +4,8 @@
 ghost use Rattle.std.specs.Prelude.{◌≡◌, ◌≤◌};
 ghost use Rattle.widths.specs.Widths.{width, states, plane_bytes, within_limits};
 
-// The widths of a network: of headers, of ports and of switches.
+// The widths of a network: of headers, of ports and of switches. They may be outside their limits, as row 4 tells; what needs these
+// asks for them.
 #[derive(Clone, Copy, Debug, PartialEq, Eq)]
 pub struct Widths {
     pub h: u8,

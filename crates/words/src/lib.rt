@@ -27,61 +27,8 @@ pub fn lowest(v: u64) -> usize
     requires { 0 < v }
     ensures { Lowest v result }
 {
+    // A `u32` has no `From` into a `usize`; the count is below 64.
     v.trailing_zeros() as usize
-}
-
-// The first state of a line of whole words from its word w on.
-fn from_word(line: &[u8], w: usize) -> Option<usize>
-    requires { (length line.now ≤ 128) × (length line.now % 8 ≡ 0) }
-    ensures { First line.now (w * 64) result }
-{
-    for i in w..line.len() / 8 {
-        let v = eight(line, i * 8);
-        if v != 0 {
-            return Some(i * 64 + lowest(v));
-        }
-    }
-    None
-}
-
-// The first state of a line of whole words from k on.
-fn by_words(line: &[u8], k: usize) -> Option<usize>
-    requires { (length line.now ≤ 128) × (length line.now % 8 ≡ 0) }
-    ensures { First line.now k result }
-{
-    if line.len() * 8 <= k {
-        return None;
-    }
-    let w = k / 64;
-    let left = eight(line, w * 8) >> (k % 64);
-    if left != 0 {
-        return Some(k + lowest(left));
-    }
-    from_word(line, w + 1)
-}
-
-// The first state of a line from k on, bit by bit.
-fn by_bits(line: &[u8], k: usize) -> Option<usize>
-    requires { length line.now ≤ 128 }
-    ensures { First line.now k result }
-{
-    for i in k..line.len() * 8 {
-        if planes::get_bit(line, i) {
-            return Some(i);
-        }
-    }
-    None
-}
-
-// The first state of a line from k on.
-fn next_state(line: &[u8], k: usize) -> Option<usize>
-    requires { length line.now ≤ 128 }
-    ensures { First line.now k result }
-{
-    if line.len() % 8 != 0 {
-        return by_bits(line, k);
-    }
-    by_words(line, k)
 }
 
 // A state of line that is in among and not in done, of those below pitch * 8.
@@ -116,6 +63,60 @@ impl<'a> States<'a> {
     {
         States { line, next: 0 }
     }
+
+    // The first state of a line of whole words from its word w on.
+    fn from_word(&self, w: usize) -> Option<usize>
+        requires { length self.now.line.now % 8 ≡ 0 }
+        ensures { First self.now.line.now (w * 64) result }
+    {
+        for i in w..self.line.len() / 8 {
+            let v = eight(self.line, i * 8);
+            if v != 0 {
+                return Some(i * 64 + lowest(v));
+            }
+        }
+        None
+    }
+
+    // The first state from `next` on, of a line of whole words.
+    fn by_words(&self) -> Option<usize>
+        requires { length self.now.line.now % 8 ≡ 0 }
+        ensures { First self.now.line.now self.now.next result }
+    {
+        let k = self.next;
+        if self.line.len() * 8 <= k {
+            return None;
+        }
+        let w = k / 64;
+        let left = eight(self.line, w * 8) >> (k % 64);
+        if left != 0 {
+            return Some(k + lowest(left));
+        }
+        self.from_word(w + 1)
+    }
+
+    // The same, bit by bit.
+    fn by_bits(&self) -> Option<usize>
+        ensures { First self.now.line.now self.now.next result }
+    {
+        for i in self.next..self.line.len() * 8 {
+            if planes::get_bit(self.line, i) {
+                return Some(i);
+            }
+        }
+        None
+    }
+
+    // The first state from `next` on.
+    fn first(&self) -> Option<usize>
+        ensures { First self.now.line.now self.now.next result }
+    {
+        if self.line.len() % 8 == 0 {
+            self.by_words()
+        } else {
+            self.by_bits()
+        }
+    }
 }
 
 impl<'a> Iterator for States<'a> {
@@ -126,7 +127,7 @@ impl<'a> Iterator for States<'a> {
     ghost remaining = { λ s. at_most (length s.line.now * 8 - s.next) };
 
     fn next(&mut self) -> Option<usize> {
-        let y = next_state(self.line, self.next)?;
+        let y = self.first()?;
         self.next = y + 1;
         Some(y)
     }

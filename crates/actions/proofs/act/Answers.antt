@@ -28,12 +28,12 @@ acted x r i h k e y result q R =
 
 pub output-requires-clause-care_value : goal.output-requires-clause-care_value
 output-requires-clause-care_value c =
-    output_pattern c.args.relay.now.groups.now.net.layout.widths c.args.r.now c.args.i c.requires.used.1 (sym c.from.ensures ∙ c.in-Output.is)
+    output_pattern c.args.relay.now.groups.now.net.layout.widths c.args.r.now c.args.i c.requires.used (sym c.from.ensures ∙ c.in-Output.is)
 
 pub run_group-requires : goal.run_group-requires
 run_group-requires c =
     let a = c.args in
-    (c.requires.header_fits, omega (arith, group_number a.relay.now.groups.now.net.layout.widths a.r.now a.i c.requires.used.1 (sym c.from.ensures ∙ c.in-RunGroup.is)))
+    (c.requires.header_fits, omega (arith, group_number a.relay.now.groups.now.net.layout.widths a.r.now a.i c.requires.used (sym c.from.ensures ∙ c.in-RunGroup.is)))
 
 pub returns-in-Output : goal.returns-in-Output
 returns-in-Output c = acted c.args.relay.now c.args.r.now c.args.i c.args.header k_output (sym c.from.ensures ∙ c.in-Output.is) _ _ refl c.output.ensures

@@ -42,10 +42,8 @@ loop-i-init c =
 pub act-header-requires-clause-used : goal.act-header-requires-clause-used
 act-header-requires-clause-used c =
     let o = c.loop-i in
-    let r = c.args.r.now in (
-      c.requires.0,
-      subst⁻¹ (λ (y : Groups). UsedAction y.net.layout.widths r o.i) o.invariant.1.groups (used_action c.args.relay.now.groups.now.net.layout.widths r c.requires.1 o.i (omega arith)),
-    )
+    let r = c.args.r.now in
+    subst⁻¹ (λ (y : Groups). UsedAction y.net.layout.widths r o.i) o.invariant.1.groups (used_action c.args.relay.now.groups.now.net.layout.widths r c.requires o.i (omega arith))
 
 pub loop-i-preserved : goal.loop-i-preserved
 loop-i-preserved c =

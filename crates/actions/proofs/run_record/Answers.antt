@@ -14,15 +14,13 @@ pub run-requires : goal.run-requires
 run-requires c =
     let net = c.args.relay.now.groups.now.net in
     let i = c.args.i in
-    let h = record_in net.n net.layout net.store.now (net_stored net) i c.requires.1 in (
-      c.record.ensures.len,
-      ap (actions_good net.layout.widths) (c.record.ensures.is ∙ sym (record_at_lem net.n net.store.now i h))
-          ∙ actions_good_lem net.n net.layout net.store.now (net_stored net) i c.requires.0 c.requires.1,
-    )
+    let h = record_in net.n net.layout net.store.now (net_stored net) i c.requires.1 in
+    ap (actions_good net.layout.widths) (c.record.ensures ∙ sym (record_at_lem net.n net.store.now i h))
+    ∙ actions_good_lem net.n net.layout net.store.now (net_stored net) i c.requires.0 c.requires.1
 
 pub returns : goal.returns
 returns c =
     let net = c.args.relay.now.groups.now.net in
     let i = c.args.i in
     let h = record_in net.n net.layout net.store.now (net_stored net) i c.requires.1 in
-    rw (record_at_lem net.n net.store.now i h, ← c.record.ensures.is) c.run.ensures
+    rw (record_at_lem net.n net.store.now i h, ← c.record.ensures) c.run.ensures

@@ -18,7 +18,7 @@ loop-j-preserved c =
       length-set o.sets o.j c.of_record.result ∙ o.invariant.0,
       sets_more (records net.n net.store.now) net.layout.widths o.j o.sets o.invariant.1 c.of_record.result
           (omega (arith, o.invariant.0, st.laid.few_rules, c.loop-j-test.true))
-          (subst⁻¹ (λ (r : Rec). SetsOf net.layout.widths r c.of_record.result) (rule_record _ _ _ st o.j c.loop-j-test.true ∙ sym c.record.ensures.is) c.of_record.ensures),
+          (subst⁻¹ (λ (r : Rec). SetsOf net.layout.widths r c.of_record.result) (rule_record _ _ _ st o.j c.loop-j-test.true ∙ sym c.record.ensures) c.of_record.ensures),
     )
 
 pub returns : goal.returns

@@ -21,7 +21,7 @@ module _ (n : ℕ) (l : Layout) (s : List ℕ) (st : Stored n l s) where
   net = records n s
 
   -- the groups stand after the nodes, up to the end
-  groups_in : (l.nodes ≤ l.groups) × (l.groups ≤ n)
+  pub groups_in : (l.nodes ≤ l.groups) × (l.groups ≤ n)
   groups_in = (st.laid.within.0, omega (arith, st.laid.within, length_records n s))
 
   pub groups_at : of_kind 9 (records n s) ≡ drop l.groups (records n s)

@@ -2,6 +2,7 @@ use Rattle.std.proofs.Common.{◌≡◌, ◌+◌, ◌-◌, ◌*◌, ◌++◌, Li
 use Rattle.format.specs.Record.{store_bytes}
 use Rattle.commands.specs.Effect.{padded}
 use Rattle.commands.proofs.RecordBytes.{part_length, flat_drop, finished}
+use borrow.Rule.Slice.PartMut.{same_len_mid}
 use Rattle.commands.proofs.finish.Goals as goal
 
 pub returns : goal.returns
@@ -15,5 +16,5 @@ returns c =
     let copied = c.copy_from_slice.new.self in
     let e : copied ≡ take (n * 24 - a.j * 24) (drop (a.j * 24) store) = c.copy_from_slice.ensures.after in
     let z : c.fill.new.self ≡ replicate (store_bytes - end) 0 = search rules in
-    finished next copied c.fill.new.self a.at end _ _ c.requires.0 (omega (arith, l, ap length e)) (omega arith) z (search rules) (search rules)
+    finished next copied c.fill.new.self a.at end _ _ (search rules) (omega (arith, l, ap length e)) (omega arith) z (search rules) (same_len_mid _ _ _ _ c.fill.ensures.len ∙ same_len_mid _ _ _ _ c.copy_from_slice.ensures.len ∙ search rules)
     ∙ ap (λ (x : List ℕ). padded (take a.at next ++ x)) (e ∙ sym (flat_drop store n a.j (omega arith)))

@@ -1,7 +1,7 @@
 -- Fields of a record: read from a rule's body, bytes 1 to 20; by the record's kind; action by action; and zero bytes one at a time.
 use Rattle.std.specs.Prelude.{◌≡◌, refl, Bool, ◌&&◌, List, ◌∷◌, ◌⊎◌, ℕ, zero, suc, ◌+◌, ◌-◌, ◌*◌, ◌^◌, ◌≤◌, ◌<◌, eqb, ltb, length, get_or, take, drop}
 use Rattle.std.proofs.Math.Path.{sym}
-use Rattle.std.proofs.Common.{ap, ap₂, ◌∙◌, inl, inr, one-add, lit<, lit≤, length-drop, length-take-le, get_or-take, get_or-drop}
+use Rattle.std.proofs.Common.{ap, ap₂, ◌∙◌, inl, inr, one-add, lit<, lit≤, get_or-take, get_or-drop}
 use Rattle.std.proofs.Math.Bool.{true, false, and-false}
 use Rattle.std.proofs.lemmas.Bool.{false≢true}
 use native.Mathlib.Omega.{arith}
@@ -14,7 +14,7 @@ use Rattle.basics.specs.Bit.{bit_of}
 use Rattle.basics.specs.Laws.Bits.{bit_or_lem, bit-zero, bits_ext}
 use Rattle.basics.specs.Laws.Tests.{same_test, true_of, not_both, and_both, and_left, and_right, both, or_none}
 use Rattle.basics.specs.Lists.{all}
-use Rattle.format.specs.Record.{Rec, most_policies, at, kind, record_kind, command_kind, action_kind}
+use Rattle.format.specs.Record.{priority, Rec, most_policies, at, kind, record_kind, command_kind, action_kind}
 use Rattle.format.specs.declared.kinds.ActionKind.TheVariants.{Unknown as k_no_action}
 use Rattle.format.specs.Group.{bucket_value, bucket_care, bucket_kind, bucket_target, target_kind}
 use Rattle.format.specs.declared.kinds.TargetKind.TheVariants.{Unknown as k_no_target}
@@ -35,15 +35,16 @@ body_at r zero l h = absurd (omega arith)
 body_at r (suc k) l h =
     get_or-take 20 (drop 1 r) k 0 (omega arith) ∙ get_or-drop 1 r k 0 ∙ ap (λ (n : ℕ). get_or r n 0) (one-add k)
 
--- a body has 20 bytes
-pub body_length : (r : Rec) → length r ≡ 24 → length (take 20 (drop 1 r)) ≡ 20
-body_length r h = length-take-le 20 (drop 1 r) (simp length-drop (omega arith))
-
 -- a match read from the body is the record's
 pub match_body : (w : Widths) (r : Rec) → match_good w (0 ∷ take 20 (drop 1 r)) ≡ match_good w r
 unfolding match_good
 match_body w r =
     simp (body_at r 1 (lit< tt) (lit≤ tt), body_at r 4 (lit< tt) (lit≤ tt), body_at r 5 (lit< tt) (lit≤ tt), body_at r 6 (lit< tt) (lit≤ tt), body_at r 7 (lit< tt) (lit≤ tt))
+
+-- a priority read from the body is the record's
+pub priority_body : (r : Rec) → priority (0 ∷ take 20 (drop 1 r)) ≡ priority r
+unfolding priority
+priority_body r = simp (body_at r 2 (lit< tt) (lit≤ tt), body_at r 3 (lit< tt) (lit≤ tt))
 
 -- an action goes by its three bytes alone
 action_of : (w : Widths) (r : Rec) (count i : ℕ) → action_good w r count i ≡ action_bytes_good w (at r (9 + 3 * i)) (at r (10 + 3 * i)) (at r (11 + 3 * i)) count i

@@ -196,10 +196,10 @@ lie_apart_lem bytes pitch base p P S = record { narrow = P.small; first = S.with
 
 -- the plane at p was laid exchanged at base: a form that stood exchanged is the plane at base, and another is as before
 module _ (p pitch base : ℕ) (a m : List ℕ) (E : Made (λ x y. cell a p pitch y x) pitch base (pitch * 8) a m) where
-  turned_here : (f : Form) → p ≡ place f → f ≡ Turned (place f) → (x y : ℕ) → x < pitch * 8 → y < pitch * 8 → tests (Both base) m pitch x y ≡ tests f a pitch x y
+  pub turned_here : (f : Form) → p ≡ place f → f ≡ Turned (place f) → (x y : ℕ) → x < pitch * 8 → y < pitch * 8 → tests (Both base) m pitch x y ≡ tests f a pitch x y
   turned_here f q e x y hx hy = E.here x y hx hy ∙ ap (λ (n : ℕ). cell a n pitch y x) q ∙ sym (ap (λ (g : Form). tests g a pitch x y) e)
 
-  other_same : (g : Form) → Source a pitch base (place g) → (x y : ℕ) → x < pitch * 8 → y < pitch * 8 → tests g m pitch x y ≡ tests g a pitch x y
+  pub other_same : (g : Form) → Source a pitch base (place g) → (x y : ℕ) → x < pitch * 8 → y < pitch * 8 → tests g m pitch x y ≡ tests g a pitch x y
   other_same g S = tests_kept pitch a m g (λ n lo hi. ⊎_elim (λ q. E.under n (omega arith)) (λ q. E.over n (omega arith)) S.apart)
 
   pub first_straightened : (j : Joined) → Pairs j.first j.second Mixed → j.first ≡ Turned p → Sources a pitch base j

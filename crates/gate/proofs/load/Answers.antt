@@ -38,7 +38,7 @@ next_of-met-requires c = c.read_piece-piece.ensures.within
 pub keep-requires : goal.keep-requires
 keep-requires c =
     let read = c.read_piece-piece in
-    (network_fewer c.loop-n.n read.new.rec read.result (sym c.next_of-met.ensures ∙ c.in-Network.is), search rules, search rules)
+    network_fewer c.loop-n.n read.new.rec read.result (sym c.next_of-met.ensures ∙ c.in-Network.is)
 
 pub loop-n-preserved : goal.loop-n-preserved
 loop-n-preserved c =

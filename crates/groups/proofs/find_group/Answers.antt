@@ -11,12 +11,12 @@ loop-i-init c =
 pub returns-then-is_group : goal.returns-then-is_group
 returns-then-is_group c =
     let o = c.loop-i in
-    sought_here _ _ _ _ o.i c.loop-i-test.true o.invariant _ c.record.ensures.is _ c.is_group.ensures _ o.auto.i c.if-is_group.true
+    sought_here _ _ _ _ o.i c.loop-i-test.true o.invariant _ c.record.ensures _ c.is_group.ensures _ o.auto.i c.if-is_group.true
 
 pub loop-i-preserved : goal.loop-i-preserved
 loop-i-preserved c =
     let o = c.loop-i in
-    sought_next _ _ _ _ o.i c.loop-i-test.true o.invariant _ c.record.ensures.is _ c.is_group.ensures c.if-is_group.false
+    sought_next _ _ _ _ o.i c.loop-i-test.true o.invariant _ c.record.ensures _ c.is_group.ensures c.if-is_group.false
 
 pub returns : goal.returns
 returns c = sought_none _ _ _ _ c.loop-i.i (omega arith) c.loop-i.invariant

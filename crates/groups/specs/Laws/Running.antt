@@ -1,5 +1,5 @@
 -- The buckets of a group run one after the other, as they were read from its record.
-use Rattle.std.specs.Prelude.{◌≡◌, refl, true, List, [], ◌++◌, ℕ, ◌+◌, ◌-◌, ◌^◌, ◌<◌, ◌≤◌, get_or}
+use Rattle.std.specs.Prelude.{◌≡◌, refl, true, List, [], ◌++◌, ℕ, ◌+◌, ◌-◌, ◌^◌, ◌<◌, ◌≤◌, length, get_or}
 use Rattle.std.proofs.Common.{sym, ap, ap₂, subst, ◌∙◌, arith}
 use Rattle.std.proofs.Math.Path.{subst⁻¹}
 use Rattle.planes.specs.Plane.{bit}
@@ -11,7 +11,7 @@ use Rattle.format.specs.Fields.{buckets_good}
 use Rattle.widths.specs.Laws.Limits.{limits}
 use Rattle.patterns.specs.Laws.Matched.{below_64}
 use Rattle.format.specs.Laws.Patterns.{put_lt}
-use Rattle.format.specs.Laws.Records.{length_records, record_at_lem}
+use Rattle.format.specs.Laws.Records.{length_records, record_at_lem, record_length}
 use Rattle.widths.specs.declared.Widths.{Widths}
 use Rattle.format.specs.declared.Bucket.{Bucket}
 use Rattle.scan.specs.declared.network.Network.{Network}
@@ -37,6 +37,7 @@ pub record GroupRead (net : Net) (w : Widths) (sw g : ℕ) (r : Rec) : Type 0 wh
   pub is : group_record net sw g ≡ r
   pub number : at r 2 ≡ g
   pub good : buckets_good w r ≡ true
+  pub whole : length r ≡ 24
 
 -- the header that a bucket sends on
 pub header_lt : (w : Widths) (r : Rec) (j h header : ℕ) → header ≡ bucket_header w r j h → header < 2 ^ w.h
@@ -63,6 +64,7 @@ module _ (net : Network) where
         is = G.is ∙ q;
         number = ap (λ (r : Rec). at r 2) (sym q) ∙ G.number;
         good = ap (buckets_good net.layout.widths) (sym q) ∙ buckets_good_lem net.n net.layout net.store.now net_stored i G.low h;
+        whole = ap length e ∙ record_length net.store.now i (omega (arith, net.stored.room));
       }
 
   -- what bucket j of the group at place i makes of a header, as it was read from the table

@@ -1,6 +1,6 @@
 -- The bits of copies, and ports without the arrival port.
-use Rattle.std.proofs.Common.{eq-eqb, ne_eqb, subst, arith}
-use Rattle.std.specs.Prelude.{◌≡◌, Bool, true, not, List, [], ◌∷◌, ℕ, ◌*◌, ◌/◌, ◌^◌, ◌<◌}
+use Rattle.std.proofs.Common.{eq-eqb, ne_eqb, arith}
+use Rattle.std.specs.Prelude.{◌≡◌, Bool, true, not, List, [], ◌∷◌, ℕ, ◌+◌, ◌*◌, ◌/◌, ◌^◌, ◌<◌, length}
 use Rattle.std.proofs.Math.Path.{ap}
 use Rattle.std.proofs.Math.Bool.{cond}
 use Rattle.planes.specs.Lines.{BitSet}
@@ -11,18 +11,26 @@ use Rattle.format.specs.Laws.States.{state-lt, whole_bytes, few_states}
 use Rattle.widths.specs.declared.Widths.{Widths}
 use Rattle.planes.specs.Adds.{Added}
 use Rattle.onestep.specs.Departing.{except}
+use Rattle.groups.specs.Sent.{Sends}
 use Rattle.planes.specs.Laws.AddedBits.{added_one}
 
--- a copy that departs at port q with header h has its bit in a line of 128 bytes
-module _ (w : Widths) (limits : within_limits w ≡ true) (sw q h : ℕ) (hs : sw < 2 ^ w.w) (hq : q < 2 ^ w.p) (hh : h < 2 ^ w.h) where
+-- a copy that departs at port q has its bit in the line
+module _ (w : Widths) (line sw q h : ℕ) (a : List ℕ) (S : Sends w line sw h a) (hq : q < 2 ^ w.p) where
   has_bit : state w 1 sw q h < line_bytes w * 8
-  has_bit = omega (arith, state-lt w 1 sw q h (omega arith) hs hq hh, whole_bytes w limits)
+  has_bit =
+      let limits = S.ready.limits in
+      omega (arith, state-lt w 1 sw q h (omega arith) S.switch hq S.ready.header, whole_bytes w limits)
 
-  pub has_byte : state w 1 sw q h / 8 < 128
-  has_byte = omega (arith, has_bit, whole_bytes w limits, few_states w limits)
+  pub has_byte : line + state w 1 sw q h / 8 < length a
+  has_byte = omega (arith, has_bit, S.ready.room)
 
-  pub copy_added : (a b : List ℕ) → BitSet (state w 1 sw q h) a b → Added (state w 1 sw q h ∷ []) 0 (line_bytes w) a b
-  copy_added a b B = added_one 0 (line_bytes w) _ a b (subst (λ (m : ℕ). BitSet m a b) (omega arith) B) has_bit
+  pub copy_added : (b : List ℕ) → BitSet (line * 8 + state w 1 sw q h) a b → Added (state w 1 sw q h ∷ []) line (line_bytes w) a b
+  copy_added b B = added_one line (line_bytes w) _ a b B has_bit
+
+-- a line of its own has room for a copy of the frame
+pub own_line : (w : Widths) (sw h : ℕ) (line : List ℕ) → within_limits w ≡ true → length line ≡ 128 → h < 2 ^ w.h → sw < 2 ^ w.w → Sends w 0 sw h line
+own_line w sw h line limits e lh ls =
+    record { ready = record { limits = limits; room = omega (arith, e, whole_bytes w limits, few_states w limits); header = lh }; switch = ls }
 
 -- one port, and the arrival port
 module _ (p q : ℕ) where

@@ -8,9 +8,11 @@ use Rattle.basics.specs.Laws.Tests.{same_test, true_of, false_of, not_both}
 use Rattle.basics.specs.Laws.Bits.{bits_ext, bit_above, bit-zero}
 use Rattle.lines.specs.declared.Op.{Op}
 use Rattle.lines.specs.declared.Op.TheVariants.{Not, And, Or}
+use Rattle.lines.specs.declared.Quantifier.{Quantifier}
+use Rattle.lines.specs.declared.Quantifier.TheVariants.{All, Any}
 use Rattle.basics.specs.Below.{any_below, all_below}
 use Rattle.basics.specs.Laws.Below.{any_iff, all_iff}
-use Rattle.lines.specs.Shapes.{op_bool, op_byte, over, unit, unit_byte, Quantifies, bits_of}
+use Rattle.lines.specs.Shapes.{op_bool, op_byte, over, unit, unit_byte, Quantifies, op_of, bits_of}
 use Rattle.lines.specs.Laws.LineBits.{op_bit, full_bit}
 
 and_last : (p q : Bool) → ◌≡◌ {A = Bool} (elim q [ true ↦ p | false ↦ false ]) (p && q)
@@ -24,6 +26,10 @@ or_last true true = refl
 or_last true false = refl
 or_last false true = refl
 or_last false false = refl
+
+pub quantifies : (q : Quantifier) → Quantifies (op_of q)
+quantifies All = tt
+quantifies Any = tt
 
 unit_unit : (o : Op) → Quantifies o → op_bool o (unit o) (unit o) ≡ unit o
 unit_unit Not q = absurd q

@@ -14,8 +14,10 @@ use Rattle.format.specs.declared.kinds.Var.TheVariants.{X}
 use Rattle.walks.specs.Laws.Walks.{map_walk}
 use Rattle.lines.specs.declared.Op.{Op}
 use Rattle.lines.specs.declared.Op.TheVariants.{Not, And, Or}
+use Rattle.quantify.specs.declared.Ranging.{Ranging}
 use Rattle.truth.specs.Truth.{Model, value, with_x, with_y, Truth}
-use Rattle.lines.specs.Shapes.{op_bool, over, Quantifies, Plane, Source}
+use Rattle.lines.specs.Shapes.{op_bool, over, Quantifies, op_of, Plane, Source}
+use Rattle.lines.specs.Laws.Quantified.{quantifies}
 use Rattle.forms.specs.declared.Form.{Form}
 use Rattle.forms.specs.declared.Form.TheVariants.{Both}
 use Rattle.forms.specs.Forms.{place, Sources, joined, ranged, arranged, Stands, Reaches}
@@ -213,16 +215,16 @@ module _ (forms : List (Option Form)) (k pitch : ℕ) (ext work : List ℕ) (f :
       node_made (Join t a b) _ S
       (λ operand told x y hx hy. join_truth model t _ _ (operand a) (operand b) x y ((told a (inl refl)).at x y hx hy) ((told b (inr refl)).at x y hx hy))
 
-  pub range_node : (o : Op) (v : Var) (a : ℕ) → Quantifies o → Is (ranged o v (joined_at forms Or a a) work pitch) → made_of (Range o v a)
-  range_node o v a q S =
-      node_made (Range o v a) _ S
-      (λ operand told. range_truth model o v (joined (joined_at forms Or a a) work pitch) (operand a) q
+  pub range_node : (r : Ranging) (a : ℕ) → Is (ranged (op_of r.by) r.over (joined_at forms Or a a) work pitch) → made_of (Range r a)
+  range_node r a S =
+      node_made (Range r a) _ S
+      (λ operand told. range_truth model (op_of r.by) r.over (joined (joined_at forms Or a a) work pitch) (operand a) (quantifies r.by)
       (λ x y hx hy. self_says _ ((told a (inl refl)).at x y hx hy)))
 
-  pub over_node : (o : Op) (v : Var) (t : Op) (a b : ℕ) → Quantifies o → Is (ranged o v (joined_at forms t a b) work pitch) → made_of (Over o v t a b)
-  over_node o v t a b q S =
-      node_made (Over o v t a b) _ S
-      (λ operand told. range_truth model o v (joined (joined_at forms t a b) work pitch) (joins t (operand a) (operand b)) q
+  pub over_node : (r : Ranging) (t : Op) (a b : ℕ) → Is (ranged (op_of r.by) r.over (joined_at forms t a b) work pitch) → made_of (Over r t a b)
+  over_node r t a b S =
+      node_made (Over r t a b) _ S
+      (λ operand told. range_truth model (op_of r.by) r.over (joined (joined_at forms t a b) work pitch) (joins t (operand a) (operand b)) (quantifies r.by)
       (λ x y hx hy. join_truth model t _ _ (operand a) (operand b) x y ((told a (inl refl)).at x y hx hy) ((told b (inr refl)).at x y hx hy)))
 
   pub closure_node : (a : ℕ) (u v : Var) → Reaches u v (form_at forms a) f pitch (plane_at pitch k) work after → made_of (Tc a u v)

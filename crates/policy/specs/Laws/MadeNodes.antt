@@ -8,7 +8,6 @@ use Rattle.planes.specs.Laws.Lines.{plane_kept}
 use Rattle.format.specs.Record.{Rec, Net, at}
 use Rattle.format.specs.Policy.{Formula, node_kind, first_nodes, formula}
 use Rattle.format.specs.Laws.Records.{length_records, byte_of_lem}
-use Rattle.format.specs.declared.kinds.Var.{Var}
 use Rattle.noderows.specs.Laws.Formulas.{first_formula}
 use Rattle.walks.specs.Laws.Walks.{map_walk}
 use Rattle.lines.specs.declared.Op.{Op}
@@ -16,7 +15,8 @@ use Rattle.forms.specs.declared.Form.{Form}
 use Rattle.forms.specs.declared.Form.TheVariants.{Both}
 use Rattle.nodes.specs.declared.node.Node.{Node}
 use Rattle.nodes.specs.declared.node.Node.TheVariants.{Join, Range, Over}
-use Rattle.lines.specs.Shapes.{Quantifies, Outside, Plane}
+use Rattle.quantify.specs.declared.Ranging.{Ranging}
+use Rattle.lines.specs.Shapes.{op_of, Outside, Plane}
 use Rattle.forms.specs.Forms.{tests, place, Lies, Reached}
 use Rattle.forms.specs.Laws.Forms.{lies_place, form_plane, tests_kept}
 use Rattle.nodes.specs.Node.{plane_at, node_of, operands, Needs, joins, ranges, form_at, model_at, Shows, Makeable, NodeMade}
@@ -160,31 +160,31 @@ module _ (store : List ℕ) (start count : ℕ) (R : Standing store start count)
     own_planned = subst (Planned nodes k) node_own record_planned
 
   -- a SOME or ALL, k, over a node m
-  module _ (k : ℕ) (inside : k < count) (o : Op) (v : Var) (m : ℕ) (is : node_at store (start + k) ≡ Range o v m) where
-    pub upper : Planned nodes k (Range o v m)
+  module _ (k : ℕ) (inside : k < count) (r : Ranging) (m : ℕ) (is : node_at store (start + k) ≡ Range r m) where
+    pub upper : Planned nodes k (Range r m)
     upper = subst (Planned nodes k) is (own_planned k inside)
 
     pub below : m < k
     below = upper.earlier m (inl refl)
 
-    -- that is the AND or OR of p and q
-    module _ (t : Op) (p q : ℕ) (joins_is : node_at store (start + m) ≡ Join t p q) (Q : Quantifies t) where
+    -- that is an operation on p and q
+    module _ (t : Op) (p q : ℕ) (joins_is : node_at store (start + m) ≡ Join t p q) where
       lower : Planned nodes m (Join t p q)
       lower = subst (Planned nodes m) joins_is (own_planned m (omega (arith, below, inside)))
 
       same_below : (j : ℕ) → j < m → first_nodes nodes k j ≡ first_nodes nodes m j
       same_below j h = first_formula nodes k j (omega (arith, h, below)) ∙ sym (first_formula nodes m j h)
 
-      pub over_planned : Planned nodes k (Over o v t p q)
+      pub over_planned : Planned nodes k (Over r t p q)
       over_planned = record {
         means =
-            ap (ranges o v)
+            ap (ranges (op_of r.by) r.over)
             (ap₂ (joins t) (same_below p (lower.earlier p (inl refl))) (same_below q (lower.earlier q (inr refl)))
             ∙ lower.means
             ∙ sym (first_formula nodes k m below))
             ∙ upper.means;
         earlier = λ j h. omega (arith, lower.earlier j h, below);
-        sound = (upper.sound, Q);
+        sound = tt;
       }
 
 module _ (nodes : Net) (pitch : ℕ) (ext : List ℕ) where

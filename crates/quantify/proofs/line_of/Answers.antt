@@ -3,4 +3,4 @@ use Rattle.quantify.proofs.Gathered.{line_is}
 use Rattle.quantify.proofs.line_of.Goals as goal
 
 pub returns : goal.returns
-returns c = line_is _ _ _ c.requires.x_bound c.args.j _ c.requires.paired (rw (c.row_of-p.ensures, c.row_of-q.ensures) at c.join_of.ensures)
+returns c = line_is _ _ _ c.requires.x_bound c.args.j _ c.requires.paired (rw c.rows_of.ensures at c.join_of.ensures)

@@ -4,8 +4,8 @@ use Rattle.quantify.proofs.range.Goals as goal
 
 pub returns-in-Exchanged : goal.returns-in-Exchanged
 returns-in-Exchanged c =
-    rw c.turned-in-Exchanged.ensures
-    (exchanged_stands c.args.o c.args.v c.args.j _ _ _ _ _ (rw (c.turned.ensures, c.other.ensures) at c.range_lines-in-Exchanged.ensures))
+    rw c.turned-in-Exchanged-2.ensures
+    (exchanged_stands _ c.args.r.over c.args.j _ _ _ _ _ (rw (c.turned.ensures.by, c.turned.ensures.over, c.turned-in-Exchanged.ensures) at c.range_lines-in-Exchanged.ensures))
 
 pub returns-in-Mixed : goal.returns-in-Mixed
-returns-in-Mixed c = straightened_stands _ c.args.v c.args.j _ _ _ _ _ _ _ c.straighten-laid.ensures c.range_lines-in-Mixed.ensures
+returns-in-Mixed c = straightened_stands _ c.args.r.over c.args.j _ _ _ _ _ _ _ c.straighten-laid.ensures c.range_lines-in-Mixed.ensures

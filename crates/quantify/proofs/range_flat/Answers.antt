@@ -1,15 +1,17 @@
 -- `quantify::range_flat` meets its contract.
 use mathlib.Core.Path.{sym, ◌∙◌}
-use Rattle.quantify.proofs.Gathered.{flat_same, flat_other}
+use Rattle.lines.specs.Laws.Quantified.{quantifies}
+use Rattle.quantify.proofs.Gathered.{vars_same, flat_same, flat_other}
 use Rattle.quantify.proofs.range_flat.Goals as goal
-use Rattle.quantify.proofs.range_flat.Goals.{then-same, else-same}
+use Rattle.quantify.proofs.range_flat.Goals.{then-eq, else-eq}
 
 pub returns : goal.returns
 returns c =
     let s = c.args in
-    let Q = c.requires.quantifies in
+    let Q = quantifies s.r.by in
+    let e = sym (c.eq.ensures ∙ vars_same s.u s.r.over) in
     rw c.line.ensures
-    (elim c.if-same.branch [
-      | then-same w ↦ rw w.work-is (flat_same s.o Q s.j _ _ _ _ s.u s.v (sym c.same.ensures ∙ w.if-same.true) c.requires.flat (rw (c.start-a.ensures, c.start-b.ensures) at w.same_line.ensures))
-      | else-same w ↦ rw w.work-is (flat_other s.o Q s.j _ _ _ _ s.u s.v (sym c.same.ensures ∙ w.if-same.false) c.requires.flat (rw (c.start-a.ensures, c.start-b.ensures) at w.join_lines.ensures))
+    (elim c.if-eq.branch [
+      | then-eq w ↦ rw w.work-is (flat_same _ Q s.j _ _ _ _ s.u s.r.over (e ∙ w.if-eq.true) c.requires.flat (rw w.starts.ensures at w.same_line.ensures))
+      | else-eq w ↦ rw w.work-is (flat_other _ Q s.j _ _ _ _ s.u s.r.over (e ∙ w.if-eq.false) c.requires.flat (rw w.starts-else-eq.ensures at w.join_lines.ensures))
     ])

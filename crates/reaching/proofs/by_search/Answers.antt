@@ -1,6 +1,6 @@
--- `reaching::by_search` meets its contract.
+use Rattle.std.proofs.lemmas.Bool.{ne_eqb}
 use Rattle.sinks.specs.Laws.Turning.{met_no_line}
 use Rattle.reaching.proofs.by_search.Goals as goal
 
-pub returns-then-pitch-ne0 : goal.returns-then-pitch-ne0
-returns-then-pitch-ne0 c = met_no_line _ _ _
+pub returns-else-pitch-eq0 : goal.returns-else-pitch-eq0
+returns-else-pitch-eq0 c = rw (ne_eqb _ _ c.if-pitch-eq0.false) (met_no_line _ _ _)

@@ -6,19 +6,19 @@ use Rattle.reaching.proofs.wegbaro_close_into.Goals as goal
 
 pub close_into-requires : goal.close_into-requires
 close_into-requires c =
-    apart _ _ _ _ (sym c.lie_apart.ensures ∙ c.if-lie_apart.true)
+    apart _ _ _ _ (sym c.lie_apart-apart.ensures ∙ c.if-apart.true)
 
-pub returns-then-lie_apart : goal.returns-then-lie_apart
-returns-then-lie_apart c =
+pub returns-then-apart : goal.returns-then-apart
+returns-then-apart c =
     record {
-      answer_is = sym c.if-lie_apart.true ∙ c.lie_apart.ensures;
+      answer_is = c.lie_apart-apart.ensures;
       closed = λ t. c.close_into.ensures;
-      left = λ t. absurd (true≢false t);
+      left = λ t. absurd (true≢false (sym c.if-apart.true ∙ t));
     }
 
-pub returns : goal.returns
-returns c = record {
-  answer_is = sym c.if-lie_apart.false ∙ c.lie_apart.ensures;
-  closed = λ t. absurd (false≢true t);
+pub returns-else-apart : goal.returns-else-apart
+returns-else-apart c = record {
+  answer_is = c.lie_apart-apart.ensures;
+  closed = λ t. absurd (false≢true (sym c.if-apart.false ∙ t));
   left = λ t. refl;
 }

@@ -5,4 +5,4 @@ use Rattle.shapes.proofs.combine.Goals as goal
 pub returns : goal.returns
 returns c =
     let planes = c.in-Both-Both in
-    rw (planes.is-0, planes.is-1) (planes_joined c.args.j.op planes.p planes.q _ _ _ _ (rw c.size.ensures at c.join_planes.ensures))
+    rw (planes.is-0, planes.is-1) (planes_joined c.args.j.op _ _ _ _ _ _ (rw (c.size.ensures, c.starts.ensures, planes.is-0, planes.is-1) at c.join_planes.ensures))

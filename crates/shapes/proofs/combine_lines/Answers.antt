@@ -8,7 +8,7 @@ join_rows-requires-clause-ready c =
     let taken = c.loop-x-test.true in
     let M = c.loop-x.invariant in
     let J = c.requires.joinable in
-    rw c.row_of-p.ensures
+    rw c.rows_of-r.ensures
     (row_ready _ _ _ _ taken c.args.j.first (still_plane _ _ _ _ _ _ M taken c.requires.plane) J.upright.0 (still_readable _ _ _ _ _ _ M taken c.args.j.first J.first))
 
 pub join_rows-requires-clause-ready_2 : goal.join_rows-requires-clause-ready_2
@@ -16,9 +16,9 @@ join_rows-requires-clause-ready_2 c =
     let taken = c.loop-x-test.true in
     let M = c.loop-x.invariant in
     let J = c.requires.joinable in
-    rw c.row_of-q.ensures
+    rw c.rows_of-r.ensures
     (row_ready _ _ _ _ taken c.args.j.second (still_plane _ _ _ _ _ _ M taken c.requires.plane) J.upright.1 (still_readable _ _ _ _ _ _ M taken c.args.j.second J.second))
 
 pub loop-x-preserved : goal.loop-x-preserved
 loop-x-preserved c =
-    laid_more _ _ _ _ _ _ c.loop-x.invariant c.loop-x-test.true c.args.j _ _ _ c.requires.joinable c.row_of-p.ensures c.row_of-q.ensures c.join_rows.ensures (λ y. refl)
+    laid_more _ _ _ _ _ _ c.loop-x.invariant c.loop-x-test.true c.args.j _ _ _ c.requires.joinable refl refl (rw c.rows_of-r.ensures at c.join_rows.ensures) (λ y. refl)

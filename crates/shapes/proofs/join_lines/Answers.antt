@@ -3,4 +3,4 @@ use Rattle.forms.specs.Laws.LinesLaid.{spans_lined}
 use Rattle.shapes.proofs.join_lines.Goals as goal
 
 pub returns : goal.returns
-returns c = spans_lined c.args.o c.args.a c.args.b _ _ _ _ c.join_span.ensures
+returns c = spans_lined c.args.s.op c.args.s.first c.args.s.second _ _ _ _ c.join_span.ensures

@@ -1,6 +1,6 @@
 -- What the search from a state keeps.
 use Rattle.std.specs.Prelude.{◌≡◌, refl, Bool, true, false, List, ◌⊎◌, ℕ, ◌+◌, ◌*◌, ◌<◌, length, replicate}
-use Rattle.std.proofs.Common.{sym, subst, ◌∙◌, inl, inr, ⊎_elim, arith}
+use Rattle.std.proofs.Common.{sym, ap, subst, ◌∙◌, inl, inr, ⊎_elim, arith}
 use Rattle.std.proofs.lemmas.Bool.{false≢true}
 use Rattle.std.proofs.Math.Decide.{ℕ_discrete}
 use Rattle.planes.specs.Plane.{bit, cell, On, plane_size, Apart}
@@ -14,7 +14,7 @@ use Rattle.walks.specs.Laws.Walks.{start, join}
 use Rattle.std.specs.List.{between}
 use Rattle.words.specs.Words.{Lacks}
 use Rattle.words.specs.Laws.Seeking.{part_bit}
-use Rattle.sinks.specs.Turns.{Between, Stable, Idle, Through, Searched, Met, MetAll}
+use Rattle.sinks.specs.Turns.{Between, Stable, Idle, Blank, Noted, Through, Searched, Met, MetAll}
 
 -- the plane at from stays
 pub from_kept : (from to pitch : ℕ) (a l : List ℕ) → Apart from to pitch (length a) → Between from to pitch a l
@@ -121,17 +121,28 @@ met_same to pitch met l G = record { between = between_none to pitch l; through 
 pub idle_none : (to pitch n : ℕ) (l : List ℕ) → Idle to pitch (replicate n 0) l
 idle_none to pitch n l x y hx hy s t = not_both s (no_bit n x)
 
--- one whose line has no state is noted
-pub idle_more : (to pitch x : ℕ) (l idle idle' line : List ℕ) → Idle to pitch idle l → line ≡ between (to + x * pitch) (to + x * pitch + pitch) l → length line ≡ pitch
-    → Lacks line 0 (length line * 8) → BitSet x idle idle' → Idle to pitch idle' l
-idle_more to pitch x l idle idle' line I e f B S j y hj hy s t = go (ℕ_discrete j x)
-  where
-    here : bit line y ≡ cell l to pitch x y
-    here = rw e (part_bit l (to + x * pitch) (to + x * pitch + pitch) y (omega arith))
+-- a line without a state is blank where it stands
+pub blank_here : (l line : List ℕ) (at pitch : ℕ) → line ≡ between at (at + pitch) l → length line ≡ pitch → Lacks line 0 (length line * 8) → Blank l at pitch
+blank_here l line at pitch e f B y h =
+    sym (part_bit l at (at + pitch) y (omega arith)) ∙ ap (λ (k : List ℕ). bit k y) (sym e) ∙ B.none y (omega arith) (omega (arith, f))
 
-    go : Dec (j ≡ x) → ⊥
-    go (yes q) = not_both (here ∙ subst (λ (n : ℕ). On l to pitch n y) q t) (B.none y (omega arith) (omega (arith, f)))
-    go (no g) = I j y hj hy (sym (S.others j g) ∙ s) t
+-- idle states: one that is noted, those noted so far
+pub noted_none : (l : List ℕ) (at pitch x : ℕ) (idle : List ℕ) → Noted l at pitch x idle idle
+noted_none l at pitch x idle j s = inl s
+
+pub noted_one : (l : List ℕ) (at pitch x : ℕ) (idle idle' : List ℕ) → Blank l at pitch → BitSet x idle idle' → Noted l at pitch x idle idle'
+noted_one l at pitch x idle idle' blank S j s = go (ℕ_discrete j x)
+  where
+    go : Dec (j ≡ x) → (bit idle j ≡ true) ⊎ ((j ≡ x) × Blank l at pitch)
+    go (yes e) = inr (e, blank)
+    go (no g) = inl (sym (S.others j g) ∙ s)
+
+pub idle_more : (to pitch x : ℕ) (l idle idle' : List ℕ) → Idle to pitch idle l → Noted l (to + x * pitch) pitch x idle idle' → Idle to pitch idle' l
+idle_more to pitch x l idle idle' I N j y hj hy s t = go (N j s)
+  where
+    go : (bit idle j ≡ true) ⊎ ((j ≡ x) × Blank l (to + x * pitch) pitch) → ⊥
+    go (inl p) = I j y hj hy p t
+    go (inr (e, none)) = not_both (subst (λ (n : ℕ). On l to pitch n y) e t) (none y hy)
 
 -- no walk leads from an idle state
 no_walk : (to pitch x : ℕ) (idle l : List ℕ) → Idle to pitch idle l → bit idle x ≡ true → {y : ℕ} → Walk (pitch * 8) (On l to pitch) x y → ⊥

@@ -35,7 +35,7 @@ returns-then-lead-eq0 c =
     let e = ap (λ (n : Network). sent (records n.n n.store.now) n.layout.widths v (get_or (records n.n n.store.now) i [])) c.requires in
     rw (
       all_act rs w v c.if-relay-eq0.false,
-      one_acts rs w v (get_or rs i []) (c.lead-lead.ensures.miss c.if-lead-eq0.true ∙ ap (λ (r : Rec). r ∷ []) (miss_at net.n net.layout net.store.now S x.frame.switch (switch_lt net x c.requires) ∙ ap (λ (k : ℕ). get_or rs (net.layout.misses + k) []) (sym c.from.ensures))),
+      one_acts rs w v (get_or rs i []) (c.lead-lead.ensures.leads.miss c.if-lead-eq0.true ∙ ap (λ (r : Rec). r ∷ []) (miss_at net.n net.layout net.store.now S x.frame.switch (switch_lt net x c.requires) ∙ ap (λ (k : ℕ). get_or rs (net.layout.misses + k) []) (sym c.from.ensures))),
     )
     (subst (λ (l : List ℕ). Ran l x c.run_record.new.relay) e c.run_record.ensures)
 

@@ -9,13 +9,12 @@ loop-i-init c = let W = c.requires in (still_writable _ _ _ _ _ _ W, writing_sta
 pub nearer-requires : goal.nearer-requires
 nearer-requires c =
     let I = c.loop-i.invariant in
-    let W = I.0 in
-    (at_state _ _ _ _ _ _ W _ _ _ I.1, omega (arith, I.1.one, short _ _ _ _ _ _ W, W.plane.small))
+    at_state _ _ _ _ _ _ I.0 _ _ _ I.1
 
 pub unwrap-x-requires : goal.unwrap-x-requires
 unwrap-x-requires c =
     let I = c.loop-i.invariant in
-    some_nearer _ _ _ _ _ _ I.0 _ _ _ I.1 c.loop-i-test.true _ c.nearer.ensures
+    some_nearer _ _ _ _ _ _ I.0 _ _ _ I.1 (rw c.from-last.ensures at c.loop-i-test.true) _ (rw c.from-last.ensures at c.nearer.ensures)
 
 pub bounds-list-i : goal.bounds-list-i
 bounds-list-i c =
@@ -25,7 +24,7 @@ bounds-list-i c =
 pub loop-i-preserved : goal.loop-i-preserved
 loop-i-preserved c =
     let I = c.loop-i.invariant in
-    (I.0, writing_more _ _ _ _ _ _ I.0 _ _ _ _ I.1 c.loop-i-test.true (rw c.unwrap-x.ensures at c.nearer.ensures))
+    (I.0, writing_more _ _ _ _ _ _ I.0 _ _ _ _ I.1 (rw c.from-last.ensures at c.loop-i-test.true) (rw (c.unwrap-x.ensures, c.from-last.ensures) at c.nearer.ensures))
 
 pub bounds-list-last : goal.bounds-list-last
 bounds-list-last c =
@@ -36,7 +35,7 @@ pub returns : goal.returns
 returns c =
     let I = c.loop-i.invariant in
     let W = c.requires in
-    record {
+    rw c.from-last.ensures (record {
       counted = sym (count _ _ _ _ _ _ W);
-      written = with_first _ _ _ _ _ _ W _ _ (written_all _ _ _ _ _ _ I.0 _ _ _ I.1 c.loop-i-test.false);
-    }
+      written = with_first _ _ _ _ _ _ W _ _ (written_all _ _ _ _ _ _ I.0 _ _ _ I.1 (rw c.from-last.ensures at c.loop-i-test.false));
+    })

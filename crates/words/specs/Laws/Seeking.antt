@@ -95,15 +95,13 @@ module _ (line : List ℕ) (j v : ℕ) (W : Word (j * 8) line v) where
   whole_found t L h = word_found line (j * 64) v whole t (subst (λ (n : ℕ). Lowest n t) (sym unshifted) L) (omega arith)
 
 -- three words, and the states of the first that are in the second and not in the third
-module _ (line done among : List ℕ) (j u v w : ℕ) (U : Word (j * 8) line u) (A : Word (j * 8) among v) (W : Word (j * 8) done w) where
-  open_bit : (i : ℕ) → i < 64 → bit_of (bit_and (bit_and u v) ((2 ^ 64 - 1) - w)) i ≡ ((bit line (j * 64 + i) && bit among (j * 64 + i)) && not (bit done (j * 64 + i)))
+module _ (line done among : List ℕ) (j u v w : ℕ) (U : Word j line u) (A : Word j among v) (W : Word j done w) where
+  open_bit : (i : ℕ) → i < 64 → bit_of (bit_and (bit_and u v) ((2 ^ 64 - 1) - w)) i ≡ ((bit line (j * 8 + i) && bit among (j * 8 + i)) && not (bit done (j * 8 + i)))
   open_bit i h =
-      let e : j * 8 * 8 ≡ j * 64 = omega arith in
-      rw (← e)
-      (bit_and_lem (bit_and u v) ((2 ^ 64 - 1) - w) i
+      bit_and_lem (bit_and u v) ((2 ^ 64 - 1) - w) i
       ∙ ap₂ (λ (s t : Bool). s && t)
       (bit_and_lem u v i ∙ ap₂ (λ (s t : Bool). s && t) (U.bits i h) (A.bits i h))
-      (bit_not 64 w i W.small h ∙ ap not (W.bits i h)))
+      (bit_not 64 w i W.small h ∙ ap not (W.bits i h))
 
   done_too : (s t d : Bool) → ((s && t) && not d) ≡ false → s ≡ true → t ≡ true → d ≡ true
   done_too true true true e p q = refl
@@ -111,17 +109,17 @@ module _ (line done among : List ℕ) (j u v w : ℕ) (U : Word (j * 8) line u) 
   done_too true false d e p q = absurd (false≢true q)
   done_too false t d e p q = absurd (false≢true p)
 
-  pub spent_more : bit_and (bit_and u v) ((2 ^ 64 - 1) - w) ≡ 0 → Spent line done among (j * 64) → Spent line done among ((j + 1) * 64)
-  spent_more z S = record { done_too = λ i h. go i h (dec_lt i (j * 64)) }
+  pub spent_more : bit_and (bit_and u v) ((2 ^ 64 - 1) - w) ≡ 0 → Spent line done among (j * 8) → Spent line done among ((j + 8) * 8)
+  spent_more z S = record { done_too = λ i h. go i h (dec_lt i (j * 8)) }
     where
-      go : (i : ℕ) → i < (j + 1) * 64 → Dec (i < j * 64) → bit line i ≡ true → bit among i ≡ true → bit done i ≡ true
+      go : (i : ℕ) → i < (j + 8) * 8 → Dec (i < j * 8) → bit line i ≡ true → bit among i ≡ true → bit done i ≡ true
       go i h (yes l) = S.done_too i l
       go i h (no g) =
-          let e : j * 64 + (i - j * 64) ≡ i = omega arith in
+          let e : j * 8 + (i - j * 8) ≡ i = omega arith in
           subst (λ (n : ℕ). bit line n ≡ true → bit among n ≡ true → bit done n ≡ true) e
-          (done_too _ _ _ (sym (open_bit (i - j * 64) (omega arith)) ∙ ap (λ (n : ℕ). bit_of n (i - j * 64)) z ∙ bit-zero (i - j * 64)))
+          (done_too _ _ _ (sym (open_bit (i - j * 8) (omega arith)) ∙ ap (λ (n : ℕ). bit_of n (i - j * 8)) z ∙ bit-zero (i - j * 8)))
 
-  pub open_found : (pitch t : ℕ) → j * 8 + 8 ≤ pitch → Lowest (bit_and (bit_and u v) ((2 ^ 64 - 1) - w)) t → StateOf line pitch (j * 64 + t)
+  pub open_found : (pitch t : ℕ) → j + 8 ≤ pitch → Lowest (bit_and (bit_and u v) ((2 ^ 64 - 1) - w)) t → StateOf line pitch (j * 8 + t)
   open_found pitch t h L = record {
     within = omega (arith, L.small);
     set = and_left _ _ (and_left _ _ (sym (open_bit t L.small) ∙ L.set));

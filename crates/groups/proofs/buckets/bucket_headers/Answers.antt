@@ -33,7 +33,7 @@ loop-x-preserved c =
     let h : o.x < 3072 = omega (arith, few net) in (
       length-set o.headers o.x v ∙ o.invariant.0,
       headers_more rs net.layout o.x o.headers o.invariant.1 v (omega (arith, o.invariant.0))
-          (c.header_set.ensures ∙ ap (λ (r : Rec). bucket_header net.layout.widths r (o.x / 64 % 3) (o.x % 64)) (c.record-r.ensures.is ∙ sym (record_at_lem net.n net.store.now i (omega (arith, few net))))),
+          (c.header_set.ensures ∙ ap (λ (r : Rec). bucket_header net.layout.widths r (o.x / 64 % 3) (o.x % 64)) (c.record-r.ensures ∙ sym (record_at_lem net.n net.store.now i (omega (arith, few net))))),
     )
 
 pub returns : goal.returns

@@ -9,5 +9,5 @@ record-link-requires c = link_in c.args.net.now c.args.i c.requires.0 c.requires
 pub returns : goal.returns
 returns c =
     let net = c.args.net.now in
-    let e = ap link_of (c.record-link.ensures.is ∙ link_read net c.args.i c.requires.0 c.requires.1) in
+    let e = ap link_of (c.record-link.ensures ∙ link_read net c.args.i c.requires.0 c.requires.1) in
     record { is = e; points = subst⁻¹ (AreEnds net.layout.widths) e (link_ends net c.args.i c.requires.0 c.requires.1) }

@@ -52,12 +52,11 @@ returns-in-Join c = rw c.in-Join.is (join_node _ _ _ _ _ _ _ _ _ _ (rw (c.site_o
 pub returns-in-Range : goal.returns-in-Range
 returns-in-Range c =
     rw c.in-Range.is
-    (range_node _ _ _ _ _ _ _ _ _ _ (rw c.in-Range.is at c.requires.sound) (rw (c.site_of-to.ensures, c.joined_at-in-Range.ensures) at c.range.ensures))
+    (range_node _ _ _ _ _ _ _ _ _ (rw (c.site_of-to.ensures, c.joined_at-in-Range.ensures) at c.range.ensures))
 
 pub returns-in-Over : goal.returns-in-Over
 returns-in-Over c =
-    let Q = rw c.in-Over.is at c.requires.sound in
-    rw c.in-Over.is (over_node _ _ _ _ _ _ _ _ _ _ _ _ Q.0 (rw (c.site_of-to.ensures, c.joined_at-in-Over.ensures) at c.range-in-Over.ensures))
+    rw c.in-Over.is (over_node _ _ _ _ _ _ _ _ _ _ _ (rw (c.site_of-to.ensures, c.joined_at-in-Over.ensures) at c.range-in-Over.ensures))
 
 pub returns-in-Tc : goal.returns-in-Tc
 returns-in-Tc c = rw c.in-Tc.is (closure_node _ _ _ _ _ _ _ _ _ _ (rw (c.site_of-to.ensures, c.form_at.ensures) at c.reach.ensures))

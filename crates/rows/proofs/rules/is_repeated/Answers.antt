@@ -6,10 +6,10 @@ pub returns-then-get_bit : goal.returns-then-get_bit
 returns-then-get_bit c =
     let p = c.requires in
     let key = c.key_bit-k.ensures.0 in
-    (c.is_present.ensures, keys_rule _ _ _ p.2 _ (λ m h. h) (rw (← key) (sym c.get_bit.ensures ∙ c.if-get_bit.true)))
+    (c.is_present.ensures, keys_rule _ _ _ p.1 _ (λ m h. h) (rw (← key) (sym c.get_bit.ensures ∙ c.if-get_bit.true)))
 
 pub returns : goal.returns
 returns c =
     let p = c.requires in
     let key = c.key_bit-k.ensures.0 in
-    (new_rule _ _ _ p.2 (rw (← key) (sym c.get_bit.ensures ∙ c.if-get_bit.false)), keys_set _ _ _ p.2 _ _ key c.set_bit.ensures)
+    (new_rule _ _ _ p.1 (rw (← key) (sym c.get_bit.ensures ∙ c.if-get_bit.false)), keys_set _ _ _ p.1 _ _ key c.set_bit.ensures)

@@ -11,8 +11,8 @@ close_into-requires c =
     let P = c.requires in
     record { narrow = P.small; first = omega (arith, P.within); second = P.within; apart = inl (omega arith) }
 
-pub returns-then-wants_closure : goal.returns-then-wants_closure
-returns-then-wants_closure c = steps_closed _ _ _ c.close_into.ensures
+pub returns-then-wanted : goal.returns-then-wanted
+returns-then-wanted c = rw c.if-wanted.true (steps_closed _ _ _ c.close_into.ensures)
 
-pub returns : goal.returns
-returns c = record { len = refl; reached = λ t. absurd (false≢true t); rest = λ m o. refl }
+pub returns-else-wanted : goal.returns-else-wanted
+returns-else-wanted c = rw c.if-wanted.false (record { len = refl; reached = λ t. absurd (false≢true t); rest = λ m o. refl })

@@ -10,11 +10,11 @@ rank_for-requires c =
     let net = c.args.self.now.net in
     let w = net.layout.widths in
     let l = limits w net.stored.laid.limits in
-    let F = c.requires.frame_fits in
-    (below_64 w.p c.args.frame.port (omega (arith, l)) F.port, below_64 w.h c.args.frame.header (omega (arith, l)) F.header)
+    let F = c.requires.frame_within in
+    (below_64 w.p c.args.frame.port (omega (arith, l)) F.0, below_64 w.h c.args.frame.header (omega (arith, l)) F.1)
 
 pub returns : goal.returns
 returns c =
     let a = c.args in
-    let F = c.requires.frame_fits in
-    c.rank_for.ensures ∙ sym (rank_by_sets _ _ _ (a.self.now.matched a.j c.requires.j_bound) a.frame.switch a.frame.port a.frame.header F.port F.header)
+    let F = c.requires.frame_within in
+    c.rank_for.ensures ∙ sym (rank_by_sets _ _ _ (a.self.now.matched a.j c.requires.j_bound) a.frame.switch a.frame.port a.frame.header F.0 F.1)

@@ -62,14 +62,14 @@ pub run_group-loop-j-init : goal.run_group-loop-j-init
 run_group-loop-j-init t c = buckets_start c.args.self.now c.args.g c.args.header c.record-r.result.now
 
 pub run_group-bucket_at-b-requires : goal.run_group-bucket_at-b-requires
-run_group-bucket_at-b-requires t c = (c.record-r.ensures.len, omega (arith, few c.args.self.now.groups.now.net _ _ _ _ c.in-Some.ensures c.record-r.ensures.is))
+run_group-bucket_at-b-requires t c = omega (arith, few c.args.self.now.groups.now.net _ _ _ _ c.in-Some.ensures c.record-r.ensures)
 
 pub run_group-header_by-requires : goal.run_group-header_by-requires
 run_group-header_by-requires t c =
     let net = c.args.self.now.groups.now.net in
     let G = c.in-Some.ensures in (
       omega (arith, G.low, G.high, net.stored.laid.few_groups),
-      omega (arith, few net _ _ _ _ G c.record-r.ensures.is),
+      omega (arith, few net _ _ _ _ G c.record-r.ensures),
       few_headers net c.args.header c.requires.0,
     )
 
@@ -80,9 +80,9 @@ run_group-run_bucket-requires t c =
     let x = a.self.now in
     let net = x.groups.now.net in
     let G = c.in-Some.ensures in
-    let R = group_read net x.frame.switch a.g _ _ G c.record-r.ensures.is in
+    let R = group_read net x.frame.switch a.g _ _ G c.record-r.ensures in
     -- the header that the bucket sets
-    let e = header_read net x.groups.now.headers.now x.groups.now.worked_out c.in-Some.i o.j a.header _ _ G.low (group_in net x.frame.switch a.g _ G) c.record-r.ensures.is
+    let e = header_read net x.groups.now.headers.now x.groups.now.worked_out c.in-Some.i o.j a.header _ _ G.low (group_in net x.frame.switch a.g _ G) c.record-r.ensures
     (omega (arith, few_buckets _ _ R.good)) (few_headers net a.header c.requires.0) c.header_by.ensures in (
       omega arith,
       (
@@ -103,8 +103,8 @@ run_group-loop-j-preserved t c =
     let net = x.groups.now.net in
     let G = c.in-Some.ensures in
     -- the header that the bucket sets
-    let e = header_read net x.groups.now.headers.now x.groups.now.worked_out c.in-Some.i o.j a.header _ _ G.low (group_in net x.frame.switch a.g _ G) c.record-r.ensures.is
-    (omega (arith, few net _ _ _ _ G c.record-r.ensures.is)) (few_headers net a.header c.requires.0) c.header_by.ensures in
+    let e = header_read net x.groups.now.headers.now x.groups.now.worked_out c.in-Some.i o.j a.header _ _ G.low (group_in net x.frame.switch a.g _ G) c.record-r.ensures
+    (omega (arith, few net _ _ _ _ G c.record-r.ensures)) (few_headers net a.header c.requires.0) c.header_by.ensures in
     buckets_next x a.g a.header _ o.j _ _ o.self _ c.bucket_at-b.ensures e o.invariant c.run_bucket.ensures
 
 pub run_group-set_bit-requires : goal.run_group-set_bit-requires
@@ -119,7 +119,7 @@ run_group-invariant_of-self t c =
     let x = a.self.now in
     let net = x.groups.now.net in
     let y = o.self in
-    let R = group_read net x.frame.switch a.g _ _ c.in-Some.ensures c.record-r.ensures.is in
+    let R = group_read net x.frame.switch a.g _ _ c.in-Some.ensures c.record-r.ensures in
     record {
       line_len = y.line_len;
       marks_len = c.set_bit.ensures.len ∙ y.marks_len;
@@ -135,6 +135,6 @@ run_group-returns t c =
     let a = c.args in
     let o = c.loop-j in
     let x = a.self.now in
-    let G = group_read x.groups.now.net x.frame.switch a.g _ _ c.in-Some.ensures c.record-r.ensures.is in
+    let G = group_read x.groups.now.net x.frame.switch a.g _ _ c.in-Some.ensures c.record-r.ensures in
     let R = group_ran x a.g a.header _ o.j o.self G.is (omega arith) o.invariant in
     record { groups = R.groups; frame = R.frame; copies = R.copies }

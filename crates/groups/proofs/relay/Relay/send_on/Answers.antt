@@ -1,11 +1,12 @@
-use Rattle.onestep.specs.Departing.{departing}
-use Rattle.groups.specs.Laws.Running.{ran_none}
-use Rattle.groups.specs.Laws.SentCopies.{except_same, except_other}
+use mathlib.Core.Path.{refl}
+use Rattle.groups.specs.Laws.SentCopies.{own_line}
 use Rattle.groups.proofs.relay.Relay.send_on.Goals as goal
 
-pub returns-then-q-self : goal.returns-then-q-self
-returns-then-q-self c = rw (except_other c.args.self.now.frame.port c.args.q c.if-q-self.true) c.send.ensures
+pub send_on-requires : goal.send_on-requires
+send_on-requires c =
+    let x = c.args.self.now in
+    let net = x.groups.now.net in
+    (own_line net.layout.widths x.frame.switch c.args.header x.line net.stored.laid.limits x.line_len c.requires.0 x.fits.switch, c.requires.1)
 
-pub returns-else-q-self : goal.returns-else-q-self
-unfolding departing
-returns-else-q-self c = rw (except_same c.args.self.now.frame.port c.args.q c.if-q-self.false) (ran_none c.args.self.now)
+pub returns : goal.returns
+returns c = record { groups = refl; frame = refl; copies = c.send_on.ensures }

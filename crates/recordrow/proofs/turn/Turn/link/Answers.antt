@@ -17,7 +17,7 @@ pub is_misplaced-requires : goal.is_misplaced-requires
 is_misplaced-requires c =
     let l = limits _ (c.args.self.now.known.limits (c.misplaced.ensures.later c.if-misplaced.false)) in
     let good = sym (rw c.record-r.ensures.is at c.link_good.ensures) ∙ c.if-not-link_good.false in
-    rw c.record-r.ensures.is (rw c.record-r.ensures.is at c.record-r.ensures.len, c.requires.0, ends_named _ l _ c.requires.0 good, l.high_p)
+    rw c.record-r.ensures.is (c.requires.0, ends_named _ l _ c.requires.0 good, l.high_p)
 
 pub returns-then-is_misplaced : goal.returns-then-is_misplaced
 returns-then-is_misplaced c =
@@ -34,7 +34,7 @@ pub note_ends-requires : goal.note_ends-requires
 note_ends-requires c =
     let l = limits _ (c.args.self.now.known.limits (c.misplaced.ensures.later c.if-misplaced.false)) in
     let good = sym (rw c.record-r.ensures.is at c.link_good.ensures) ∙ c.if-not-link_good.false in
-    rw c.record-r.ensures.is (rw c.record-r.ensures.is at c.record-r.ensures.len, c.requires.0, ends_named _ l _ c.requires.0 good)
+    rw c.record-r.ensures.is (c.requires.0, ends_named _ l _ c.requires.0 good)
 
 pub overflow_add-result : goal.overflow_add-result
 overflow_add-result c =

@@ -31,7 +31,7 @@ pub actions_there-requires : goal.actions_there-requires
 actions_there-requires c =
     let l = limits _ (c.args.self.now.known.limits (c.misplaced.ensures.later c.if-misplaced.false)) in
     let good = sym (rw c.record-r.ensures.is at c.miss_good.ensures) ∙ c.if-not-miss_good.false in
-    rw c.record-r.ensures.is (rw c.record-r.ensures.is at c.record-r.ensures.len, miss_named _ l _ c.requires good)
+    rw c.record-r.ensures.is (miss_named _ l _ c.requires good)
 
 pub returns-then-not-actions_there : goal.returns-then-not-actions_there
 returns-then-not-actions_there c =

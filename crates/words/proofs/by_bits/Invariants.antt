@@ -1,6 +1,0 @@
--- No state from k on is passed.
-use Rattle.words.specs.Words.{Lacks}
-use Rattle.words.proofs.by_bits.Given as goal
-
-abbrev pub invariant-loop-i : goal.invariant-loop-i
-invariant-loop-i l = Lacks l.line l.k l.i
