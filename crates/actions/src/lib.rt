@@ -8,15 +8,19 @@ ghost use Rattle.format.specs.Fields.{actions_good};
 ghost use Rattle.format.specs.Pattern.{pattern_good};
 ghost use Rattle.patterns.specs.Matched.{MatchedSet};
 ghost use Rattle.groups.specs.Relayed.{Ran, HeaderFits, PortFits, departs};
-ghost use Rattle.onestep.specs.Actions.{reached};
+ghost use Rattle.groups.specs.Sent.{Ready, GroupsRan};
+ghost use Rattle.onestep.specs.Actions.{reached, sent};
+ghost use Rattle.onestep.specs.ByBytes.{arrival};
 ghost use Rattle.onestep.specs.Flooding.{flooded, UsedAction};
 ghost use Rattle.actions.specs.Acted.{Acted, record_sends};
 
 use format::kinds::ActionKind;
+use groups::buckets::Groups;
 use groups::relay::Relay;
 use patterns::{in_set, matched, put};
+use planes::{load_line, put_line};
 use records::fields::is_ordinary;
-use states::values;
+use states::{Frame, values};
 
 // Sends a copy with this header to port q, if OUTPUT with stars, whose pattern matches these ports, reaches it.
 #[tactic(auto, using(widths::specs::Laws::Limits::limits))]
@@ -103,4 +107,32 @@ pub fn run_record(relay: &mut Relay, i: usize)
 {
     let groups = relay.groups;
     run(relay, groups.net.record(i));
+}
+
+// The same for a line of any buffer, and marks that may be longer: both are loaded into a relay, and put back.
+#[tactic(auto, using(widths::specs::Laws::Limits::limits))]
+pub fn run_record_in(
+    work: &mut [u8],
+    line: usize,
+    groups: &Groups,
+    frame: Frame,
+    i: usize,
+    marks: &mut [u8],
+)
+    requires ready { Ready (records groups.now.net.n groups.now.net.store.now) groups.now.net.layout.widths line frame.switch frame.port frame.header work.old marks.old × (frame.port < 2 ^ groups.now.net.layout.widths.p) }
+    requires misses_le_i { (groups.now.net.layout.misses ≤ i) × (i < groups.now.net.layout.nodes) }
+    ensures { GroupsRan (records groups.now.net.n groups.now.net.store.now) groups.now.net.layout.widths line frame.switch frame.port (sent (records groups.now.net.n groups.now.net.store.now) groups.now.net.layout.widths (arrival frame.switch frame.port frame.header) (get_or (records groups.now.net.n groups.now.net.store.now) i [])) work.old marks.old work.new marks.new }
+{
+    let bytes = groups.net.layout.widths.states() / 8;
+    let own_line = load_line(work, line, bytes);
+    let own_marks = load_line(marks, 0, 128);
+    let mut relay = Relay {
+        groups,
+        frame,
+        line: own_line,
+        marks: own_marks,
+    };
+    run_record(&mut relay, i);
+    put_line(work, line, &relay.line, bytes);
+    put_line(marks, 0, &relay.marks, 128);
 }

@@ -8,7 +8,7 @@ ghost use Rattle.format.specs.Version.{version_of, modify_as, acts_as, is_add};
 ghost use Rattle.refusals.specs.Rows.{row12, row13, row16_command};
 ghost use Rattle.format.specs.Laws.NamedGroups.{ActionsNamed};
 ghost use Rattle.refusals.specs.Refusal.{command_row};
-ghost use Rattle.admission.specs.Admission.{admission_refusal};
+ghost use Rattle.admission.specs.Admission.{Known, admission_refusal};
 
 use format::Version;
 use format::kinds::CommandKind;
@@ -19,6 +19,33 @@ use rows::groups::{actions_there, groups_there};
 use rows::rules::is_present;
 use scan::network::Network;
 use widths::Widths;
+
+// What is known of n records of a store before a command is looked at: their widths, their version and how many rules they have.
+// Nothing else of them need be in order.
+#[derive(Clone, Copy)]
+pub struct Table<'a> {
+    pub store: &'a [u8],
+    pub n: usize,
+    pub widths: Widths,
+    pub version: Version,
+    pub rules: usize,
+    pub ghost known: { Known widths version store.now n rules },
+}
+
+impl<'a> Table<'a> {
+    // That of a network.
+    pub fn of(net: &Network<'a>) -> Self
+        ensures { (result.store.now ≡ net.now.store.now) × (result.n ≡ net.now.n) }
+    {
+        Table {
+            store: net.store,
+            n: net.n,
+            widths: net.layout.widths,
+            version: version_of(net),
+            rules: rules_of(net),
+        }
+    }
+}
 
 // Row 12 of 24 bytes: kind not 6 to 8, or a field fault.
 #[tactic(auto, using(crate::proofs::CommandRows::by_fields))]
@@ -31,11 +58,11 @@ fn is_faulty(w: Widths, given: &[u8; 24]) -> bool
 
 // Row 16: it names a group that no record of its switch has.
 #[tactic(auto, unfolding(refusals::specs::Rows::row16_command))]
-fn names_absent(net: &Network, given: &[u8; 24]) -> bool
+fn names_absent(table: &Table, given: &[u8; 24]) -> bool
     requires { ActionsNamed given.now }
-    ensures { result ≡ row16_command (records net.now.n net.now.store.now) given.now }
+    ensures { result ≡ row16_command (records table.now.n table.now.store.now) given.now }
 {
-    !actions_there(&groups_there(net.store, net.n), given)
+    !actions_there(&groups_there(table.store, table.n), given)
 }
 
 // In this version a modify of a new rule acts as an add.
@@ -75,30 +102,30 @@ fn rules_of(net: &Network) -> usize
 
 // Row 13: add of a new rule with 256 present, or what acts as one.
 #[tactic(auto, using(crate::proofs::CommandRows::no_add, crate::proofs::CommandRows::not_full, crate::proofs::CommandRows::when_full))]
-fn is_full(net: &Network, given: &[u8; 24]) -> bool
-    ensures { result ≡ row13 (records net.now.n net.now.store.now) given.now }
+fn is_full(table: &Table, given: &[u8; 24]) -> bool
+    ensures { result ≡ row13 (records table.now.n table.now.store.now) given.now }
 {
-    adds_new(version_of(net), given[0])
-        && MOST_RULES <= rules_of(net)
-        && !is_present(net.store, net.n, given)
+    adds_new(table.version, given[0])
+        && MOST_RULES <= table.rules
+        && !is_present(table.store, table.n, given)
 }
 
 // The first of rows 12, 16 and 13 that refuses a command, its place being 0; or the command, whose bytes are 24 then.
 #[tactic(auto, using(crate::proofs::CommandRows::wrong_length, crate::proofs::CommandRows::refused_12, crate::proofs::CommandRows::refused_16, crate::proofs::CommandRows::refused_13, crate::proofs::CommandRows::passed_all))]
-pub fn command_row<'a>(net: &Network, given: &'a [u8]) -> Result<&'a [u8; 24], Row>
-    ensures row { admission_refusal result ≡ command_row (records net.now.n net.now.store.now) given.now }
+pub fn command_row<'a>(table: &Table, given: &'a [u8]) -> Result<&'a [u8; 24], Row>
+    ensures row { admission_refusal result ≡ command_row (records table.now.n table.now.store.now) given.now }
     ensures passed { IfOk result (λ c. c.now ≡ given.now) }
 {
     let Ok(given) = <&[u8; 24]>::try_from(given) else {
         return Err(Row::Command);
     };
-    if is_faulty(net.layout.widths, given) {
+    if is_faulty(table.widths, given) {
         return Err(Row::Command);
     }
-    if names_absent(net, given) {
+    if names_absent(table, given) {
         return Err(Row::Group);
     }
-    if is_full(net, given) {
+    if is_full(table, given) {
         return Err(Row::Full);
     }
     Ok(given)

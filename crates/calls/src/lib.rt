@@ -12,6 +12,7 @@ ghost use Rattle.book.specs.Check.{CheckPromised};
 ghost use Rattle.book.specs.Command.{Promised, call};
 ghost use Rattle.calls.specs.Judged.{JudgedAs};
 
+use admission::Table;
 use book::Commanded;
 use commands::stored::Stored;
 use judgement::Violation;
@@ -78,8 +79,9 @@ pub fn command(
     ensures { Promised (call store.old n work.old given.now (command_answer_of result) store.new work.new) }
 {
     let installed = scan::check_rows(store, n, work.len())?;
+    let table = Table::of(&installed);
     // A match, as in scan: where the refusal is stands beside its row.
-    let given = match admission::command_row(&installed, given) {
+    let given = match admission::command_row(&table, given) {
         Ok(given) => given,
         Err(row) => return Err(Refused { row, place: 0 }),
     };

@@ -2,19 +2,19 @@
 use borrow.Author.Tests.{eq-eqb, ne_eqb, eqb-true}
 use mathlib.Core.Path.{◌≡◌, sym, ap, subst⁻¹, ◌∙◌}
 use mathlib.Core.Bool.{Bool, true, false, cond, ◌&&◌}
-use mathlib.Core.List.{List, [], ◌∷◌}
+use mathlib.Core.List.{List, [], ◌∷◌, ◌++◌}
 use mathlib.Core.Logic.{◌⊎◌, inl, inr}
-use Prim.Native.Nat.{ℕ, ◌+◌, ◌^◌, ◌<◌, ◌≤◌}
+use Prim.Native.Nat.{ℕ, ◌+◌, ◌/◌, ◌^◌, ◌<◌, ◌≤◌}
 use native.Mathlib.Decide.{ℕ_discrete, dec_lt}
 use native.Mathlib.Omega.{arith}
 use lib.Dec.{eqb}
-use lib.ListN.{length, get_or, replicate}
+use lib.ListN.{length, get_or, replicate, get_or-append, length-replicate}
 use Rattle.basics.specs.Bit.{bit_of}
 use Rattle.basics.specs.Laws.Tests.{same_test}
 use Rattle.basics.specs.Lists.{keep, any}
 use Rattle.format.specs.Record.{Rec, Net, priority, of_kind, widths_of}
 use Rattle.format.specs.State.{state}
-use Rattle.widths.specs.Widths.{within_limits}
+use Rattle.widths.specs.Widths.{states, within_limits}
 use Rattle.basics.specs.Laws.Every.{every_at, at_every, keep_same, any_fails, any_kept, any_more}
 use Rattle.format.specs.Laws.Parts.{part, part_more, keep_part}
 use Rattle.widths.specs.declared.Widths.{Widths}
@@ -25,8 +25,8 @@ use Rattle.choice.specs.declared.RuleSet.{RuleSet}
 use Rattle.choice.specs.RuleSets.{SetsOf}
 use Rattle.onestep.specs.Laws.Chosen.{NoneOutranks, chosen_exactly, chosen_miss}
 use Rattle.std.proofs.lemmas.List.{get_or-replicate}
-use Rattle.choice.specs.Laws.Arriving.{arriving-lt}
-use Rattle.choice.specs.Leads.{most_arriving, no_lead, lead_at, raised, Painted, Leads, AllLead}
+use Rattle.choice.specs.Laws.Arriving.{arriving_half, arriving-lt}
+use Rattle.choice.specs.Leads.{most_arriving, no_lead, lead_at, NoneLead, raised, Painted, Leads, AllLead}
 use Rattle.choice.proofs.PaintedLeads.{takes_lead, joins_lead, stays_behind}
 use Rattle.choice.proofs.Ranks.{rank_true, rank_false, ranked, unranked}
 use Rattle.choice.proofs.MatchedRules.{match_by_sets}
@@ -186,15 +186,28 @@ module _ (net : Net) (a : Arrival) (x : Lead) (L : Led (widths_of net) a (of_kin
 led_all : (net : Net) (w : Widths) → w ≡ widths_of net → (a : Arrival) (x : Lead) → Led w a (of_kind 4 net) (length (of_kind 4 net)) x → Leads net w a x
 led_all net w widths a x = subst⁻¹ (λ (v : Widths). Led v a (of_kind 4 net) (length (of_kind 4 net)) x → Leads net v a x) widths (led_own net a x)
 
+-- no rule leads where the entries of the arriving states are new, whatever stands behind them
+module _ (w : Widths) (k : ℕ) (rest : List Lead) (half : states w / 2 ≤ k) where
+  pub none_lead : NoneLead w (replicate k no_lead ++ rest)
+  none_lead sw p h hs hp hh =
+      let s : ℕ = state w 0 sw p h in
+      let low : s < k = omega (arith, arriving_half w sw p h hs hp hh) in
+      ap (λ (x : Lead). x.rank)
+      (get_or-append (replicate k no_lead) rest no_lead s (omega (arith, length-replicate k no_lead)) ∙ get_or-replicate k s no_lead no_lead low)
+
 -- the table has who leads each arrival, by the rules before number j
 abbrev pub LedBy : Net → Widths → ℕ → List Lead → Type 0
 LedBy net w j leads = (sw p h : ℕ) → sw < 2 ^ w.w → p < 2 ^ w.p → h < 2 ^ w.h → Led w (arrival sw p h) (of_kind 4 net) j (lead_at leads (state w 0 sw p h))
 
 module _ (net : Net) (w : Widths) where
-  pub led_by_none : within_limits w ≡ true → LedBy net w 0 (replicate most_arriving no_lead)
-  led_by_none limits sw p h hs hp hh =
-      led_none w (arrival sw p h) (of_kind 4 net) _
-      (ap (λ (x : Lead). x.rank) (get_or-replicate most_arriving (state w 0 sw p h) no_lead no_lead (arriving-lt w limits sw p h hs hp hh)))
+  pub led_by_none : (t : List Lead) → NoneLead w t → LedBy net w 0 t
+  led_by_none t E sw p h hs hp hh = led_none w (arrival sw p h) (of_kind 4 net) _ (E sw p h hs hp hh)
+
+  -- so of a new table
+  pub led_by_new : within_limits w ≡ true → LedBy net w 0 (replicate most_arriving no_lead)
+  led_by_new limits =
+      led_by_none (replicate most_arriving no_lead)
+      (λ sw p h hs hp hh. ap (λ (x : Lead). x.rank) (get_or-replicate most_arriving (state w 0 sw p h) no_lead no_lead (arriving-lt w limits sw p h hs hp hh)))
 
   -- rule j is painted over the arrivals that it matches
   pub led_by_more : (j : ℕ) (rule : RuleSet) (t t' : List Lead) → LedBy net w j t → SetsOf w (get_or (of_kind 4 net) j []) rule

@@ -21,6 +21,10 @@ no_lead = record { rank = 0; first = 0; last = 0 }
 abbrev pub lead_at : List Lead → ℕ → Lead
 lead_at leads s = get_or leads s no_lead
 
+-- no rule leads an arrival within the widths
+abbrev pub NoneLead : Widths → List Lead → Type 0
+NoneLead w leads = (sw p h : ℕ) → sw < 2 ^ w.w → p < 2 ^ w.p → h < 2 ^ w.h → (lead_at leads (state w 0 sw p h)).rank ≡ 0
+
 -- who leads after rule j of rank r, where it was x before: a higher rank takes the lead, and an equal one is the last that has it
 unfoldable pub raised : ℕ → ℕ → Lead → Lead
 raised r j x =

@@ -4,12 +4,13 @@ ghost use Rattle.std.specs.Prelude.{◌≡◌, true, ◌&&◌, ◌^◌, ◌<◌,
 ghost use Rattle.basics.specs.Bit.{bit_of};
 ghost use Rattle.format.specs.Record.{records};
 ghost use Rattle.widths.specs.Widths.{within_limits};
-ghost use Rattle.choice.specs.RuleSets.{RuleSets};
-ghost use Rattle.choice.specs.Leads.{raised, Painted, AllLead};
+ghost use Rattle.choice.specs.RuleSets.{PatternSets};
+ghost use Rattle.choice.specs.Leads.{NoneLead, raised, Painted, AllLead};
 
 use crate::RuleSet;
 use patterns::in_set;
 use records::MOST_RULES;
+use records::fields::body;
 use scan::network::Network;
 use states::{Frame, values};
 use widths::Widths;
@@ -83,15 +84,26 @@ fn raise_rule(leads: &mut [Lead; MOST_ARRIVING], w: Widths, rule: &RuleSet, j: u
     }
 }
 
-// Finds for each arrival, by the number of its state, which rules lead.
+// No rule leads an arrival yet. Of the states those that arrive are the first half, and the table has no other in use.
+#[tactic(auto, using(widths::specs::Laws::Limits::limits, format::specs::Laws::States::few_states))]
+fn clear(leads: &mut [Lead; MOST_ARRIVING], w: Widths)
+    requires { within_limits w ≡ true }
+    ensures { NoneLead w leads.new }
+{
+    leads[..w.states() / 2].fill(Lead::NONE);
+}
+
+// Finds for each arrival, by the number of its state, which rules lead. Of the sets only ports and headers need be what a rule's
+// patterns match: its switch and its rank are read from its record.
 pub fn find_leads(net: &Network, sets: &[RuleSet; MOST_RULES], leads: &mut [Lead; MOST_ARRIVING])
-    requires { RuleSets (records net.now.n net.now.store.now) net.now.layout.widths sets.now }
+    requires { PatternSets (records net.now.n net.now.store.now) net.now.layout.widths sets.now }
     ensures { AllLead (records net.now.n net.now.store.now) net.now.layout.widths leads.new }
 {
     let l = net.layout;
-    leads.fill(Lead::NONE);
+    clear(leads, l.widths);
     for j in 0..l.nodes - l.rules {
+        let rule = sets[j].ranked(body(net.record(l.rules + j)));
         // A `usize` has no `From` into a `u8`; the rules are at most 256.
-        raise_rule(leads, l.widths, &sets[j], j as u8);
+        raise_rule(leads, l.widths, &rule, j as u8);
     }
 }

@@ -5,8 +5,8 @@ ghost use Rattle.std.specs.Prelude.{◌≡◌, suc, true, ◌&&◌, cond, ◌<�
 ghost use Rattle.basics.specs.Bit.{bit_of};
 ghost use Rattle.format.specs.Record.{priority, records};
 ghost use Rattle.widths.specs.Widths.{within_limits};
-ghost use Rattle.onestep.specs.ByBytes.{of_body};
-ghost use Rattle.choice.specs.RuleSets.{SetsOf, RuleSets};
+ghost use Rattle.onestep.specs.ByBytes.{arrival, FrameWithin, of_body, rank_of};
+ghost use Rattle.choice.specs.RuleSets.{SetsOf, PatternsOf, RuleSets};
 
 pub mod leads;
 pub mod rules;
@@ -59,6 +59,17 @@ impl RuleSet {
         }
     }
 
+    // With the switch and the rank of the rule of that body, where ports and headers are what its patterns match already.
+    fn ranked(self, body: &[u8; 20]) -> Self
+        ensures { (w : Widths) → PatternsOf w (of_body body.now) self → SetsOf w (of_body body.now) result }
+    {
+        RuleSet {
+            switch: body[0],
+            rank: priority_rank(body),
+            ..self
+        }
+    }
+
     // The rule matches a frame that arrives.
     fn matches(self, frame: Frame) -> bool
         requires { (frame.port < 64) × (frame.header < 64) }
@@ -76,6 +87,16 @@ impl RuleSet {
     {
         if self.matches(frame) { self.rank } else { 0 }
     }
+}
+
+// The rank of the rule of that body for a frame that arrives: 0 where it does not match, else one above its priority. Of the rule
+// only ports and headers need be what its patterns match. `Rules::rank` answers it by a rule's number.
+pub fn rank(w: Widths, body: &[u8; 20], rule: RuleSet, frame: Frame) -> u32
+    requires patterns { PatternsOf w (of_body body.now) rule }
+    requires frame_within { FrameWithin w frame.port frame.header }
+    ensures { result ≡ rank_of w (arrival frame.switch frame.port frame.header) (of_body body.now) }
+{
+    rule.ranked(body).rank_for(frame)
 }
 
 // Works out what each rule says, by its number among the rules.

@@ -56,7 +56,7 @@ fn finish(next: &mut [u8; STORE_BYTES], at: usize, before: Stored, j: usize)
     let b = j * 24;
     let e = before.n * 24;
     let end = at + (e - b);
-    next[at..end].copy_from_slice(&before.store[b..e]);
+    planes::copy(&mut next[at..end], &before.store[b..e]);
     next[end..].fill(0);
 }
 
@@ -73,7 +73,7 @@ fn splice(
     ensures { Built (spliced (net_of before.entry) i j rule.now) result next.new }
 {
     let a = i * 24;
-    next[..a].copy_from_slice(&before.store[..a]);
+    planes::copy(&mut next[..a], &before.store[..a]);
     next[a..a + 24].copy_from_slice(rule);
     finish(next, a + 24, before, j);
     i + 1 + (before.n - j)
@@ -87,7 +87,7 @@ fn join(next: &mut [u8; STORE_BYTES], before: Stored, i: usize, j: usize) -> usi
     ensures { Built (joined (net_of before.entry) i j) result next.new }
 {
     let a = i * 24;
-    next[..a].copy_from_slice(&before.store[..a]);
+    planes::copy(&mut next[..a], &before.store[..a]);
     finish(next, a, before, j);
     i + (before.n - j)
 }
@@ -186,5 +186,5 @@ pub fn write_back(store: &mut [u8], next: &[u8; STORE_BYTES])
     requires { store_bytes ≤ length store.old }
     ensures { store.new ≡ next.now ++ drop store_bytes store.old }
 {
-    store[..STORE_BYTES].copy_from_slice(next);
+    planes::copy(&mut store[..STORE_BYTES], next);
 }

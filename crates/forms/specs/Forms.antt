@@ -14,7 +14,7 @@ use Rattle.forms.specs.declared.Form.{Form}
 use Rattle.forms.specs.declared.Form.TheVariants.{OfX, OfY, Both, Turned}
 use Rattle.forms.specs.declared.Joined.{Joined}
 use Rattle.forms.specs.declared.Way.{Way}
-use Rattle.forms.specs.declared.Way.TheVariants.{Over, Straight, Exchanged, Mixed}
+use Rattle.forms.specs.declared.Way.TheVariants.{Over, Straight, Exchanged, FirstTurned, SecondTurned}
 
 -- the test of a form with X = x, Y = y: a bit of a line over X, of a line over Y, of a plane, of a plane with X and Y exchanged
 abbrev pub tests : Form → List ℕ → ℕ → ℕ → ℕ → Bool
@@ -47,9 +47,16 @@ abbrev pub other : Var → Var
 other X = Y
 other Y = X
 
--- the form of a node whose own plane starts at own lies there, in the first plane, or in the second
+-- a form starts where the plane at own does, the first plane, or the second
+abbrev pub Placed : ℕ → ℕ → Form → Type 0
+Placed pitch own f = (place f ≡ own) ⊎ ((place f ≡ 0) ⊎ (place f ≡ plane_size pitch))
+
+-- the form of a node whose own plane starts at own lies there; only a plane may lie in the first plane, or in the second
 abbrev pub Lies : ℕ → ℕ → Form → Type 0
-Lies pitch own f = (place f ≡ own) ⊎ ((place f ≡ 0) ⊎ (place f ≡ plane_size pitch))
+Lies pitch own (OfX at) = at ≡ own
+Lies pitch own (OfY at) = at ≡ own
+Lies pitch own (Both at) = Placed pitch own (Both at)
+Lies pitch own (Turned at) = Placed pitch own (Turned at)
 
 -- a form does not stand exchanged, so that its lines are bytes of the buffer, or equal tests
 abbrev pub Upright : Form → Type 0
@@ -74,7 +81,12 @@ abbrev pub Pairs : Form → Form → Way → Type 0
 Pairs a b (Over v) = (a ≡ line_form v (place a)) × (b ≡ line_form v (place b))
 Pairs a b Straight = Upright a × Upright b
 Pairs a b Exchanged = Upright (turned a) × Upright (turned b)
-Pairs a b Mixed = ((a ≡ Turned (place a)) × Upright b) ⊎ ((b ≡ Turned (place b)) × Upright a)
+Pairs a b FirstTurned = (a ≡ Turned (place a)) × Upright b
+Pairs a b SecondTurned = (b ≡ Turned (place b)) × Upright a
+
+-- one of two forms, the first or the second, is exchanged so
+abbrev pub Mixed : Form → Form → Type 0
+Mixed a b = Pairs a b FirstTurned ⊎ Pairs a b SecondTurned
 
 -- a form is read while the plane at base is laid line by line: it shares no byte with it, or is the plane itself
 abbrev pub Readable : List ℕ → ℕ → ℕ → Form → Type 0
@@ -118,6 +130,15 @@ pub record Stands (g : ℕ → ℕ → Bool) (f : Form) (pitch base : ℕ) (befo
   pub len : length after ≡ length before
   pub lies : Lies pitch base f
   pub here : (x y : ℕ) → x < pitch * 8 → y < pitch * 8 → tests f after pitch x y ≡ g x y
+  pub rest : (m : ℕ) → Outside pitch base m → get_or after m 0 ≡ get_or before m 0
+
+-- a form has the tests of f with the variables (u, v) for (X, Y), and lies as the form of a node does if f does; every byte outside
+-- of the plane at base is as before
+pub record Arranges (u v : Var) (f g : Form) (pitch base : ℕ) (before after : List ℕ) : Type 0 where
+  pub len : length after ≡ length before
+  pub placed : Placed pitch base g
+  pub lies : Lies pitch base f → Lies pitch base g
+  pub here : (x y : ℕ) → x < pitch * 8 → y < pitch * 8 → tests g after pitch x y ≡ arranged u v f before pitch x y
   pub rest : (m : ℕ) → Outside pitch base m → get_or after m 0 ≡ get_or before m 0
 
 -- two forms have the tests of those of j, and can be read line by line; every byte outside of the plane at base is as before

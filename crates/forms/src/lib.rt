@@ -73,8 +73,8 @@ impl Form {
             (Form::OfX(_), Form::OfY(_)) => Way::Straight,
             (Form::OfY(_), Form::OfX(_)) => Way::Straight,
             (Form::OfY(_), Form::OfY(_)) => Way::Over(Var::Y),
-            (Form::Both(_), Form::Turned(_)) => Way::Mixed,
-            (Form::Turned(_), Form::Both(_)) => Way::Mixed,
+            (Form::Both(_), Form::Turned(_)) => Way::SecondTurned,
+            (Form::Turned(_), Form::Both(_)) => Way::FirstTurned,
             (Form::Turned(_), _) => Way::Exchanged,
             (_, Form::Turned(_)) => Way::Exchanged,
             (Form::Both(_), _) => Way::Straight,
@@ -83,14 +83,15 @@ impl Form {
     }
 }
 
-// How two forms are taken together: as lines over a variable, as planes, as planes with X and Y exchanged, as planes of which
-// one is to be exchanged before.
+// How two forms are taken together: as lines over a variable, as planes, as planes with X and Y exchanged, as planes of which the
+// first, or the second, is to be exchanged before.
 #[derive(Clone, Copy)]
 pub enum Way {
     Over(Var),
     Straight,
     Exchanged,
-    Mixed,
+    FirstTurned,
+    SecondTurned,
 }
 
 // An operation on the tests of two forms.

@@ -18,7 +18,10 @@ use scan::network::Network;
 
 pub mod buckets;
 pub mod copies;
+pub mod lent;
 pub mod relay;
+
+pub use lent::run_group;
 
 // The record of a group is that of number g of a switch.
 fn is_group(r: &[u8; 24], sw: u8, g: u8) -> bool

@@ -13,8 +13,9 @@ use Rattle.lines.specs.declared.Row.{Row}
 use Rattle.lines.specs.declared.Row.TheVariants.{Full, From}
 use Rattle.lines.specs.declared.Join.{Join}
 use Rattle.lines.specs.declared.Join.TheVariants.{Same, Two}
-use Rattle.lines.specs.Shapes.{op_bool, op_byte, full_byte, row_byte, pair, RowWithin, Even, Joins}
+use Rattle.lines.specs.Shapes.{op_bool, op_byte, full_byte, Quantifies, row_byte, pair, RowWithin, Even, Joins}
 use Rattle.lines.specs.Laws.LineBits.{full_bit, op_bit}
+use Rattle.lines.specs.Laws.Quantified.{comm}
 
 -- an operation on equal tests, by byte
 op_full : (t : Op) (p q : Bool) → op_byte t (full_byte p) (full_byte q) ≡ full_byte (op_bool t p q)
@@ -111,3 +112,10 @@ module _ (t : Op) where
       (λ x n. own_first t E.0 x n)
       (l ∙ ap (λ (w : ℕ). op_byte t 0 w) E.1 ∙ op_full t false E.0)
       (h ∙ ap (λ (w : ℕ). op_byte t 255 w) E.1 ∙ op_full t true E.0)
+
+-- where the operation quantifies, the rows may stand the other way round
+pub joins_swap : (t : Op) → Quantifies t → (p q : Row) (e : Join) → Joins t p q e → Joins t q p e
+joins_swap t h p q e J = record {
+  within = λ n len x y. J.within n len y x;
+  is = λ bytes j i l. J.is bytes j i l ∙ comm t h (bit_of (row_byte p bytes j) i) (bit_of (row_byte q bytes j) i);
+}

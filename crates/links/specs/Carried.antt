@@ -1,15 +1,20 @@
 -- What links carry, and where they end.
-use Rattle.std.specs.Prelude.{◌≡◌, Bool, true, cond, not, ◌&&◌, List, [], ◌∷◌, ℕ, ◌+◌, ◌*◌, ◌/◌, ◌%◌, ◌^◌, ◌<◌, eqb}
-use Rattle.planes.specs.Plane.{bit}
+use Rattle.std.specs.Prelude.{◌≡◌, Bool, true, cond, not, ◌&&◌, List, [], ◌∷◌, ℕ, ◌+◌, ◌*◌, ◌/◌, ◌%◌, ◌^◌, ◌<◌, ◌≤◌, eqb, length}
+use Rattle.planes.specs.Plane.{bit, plane_size}
 use Rattle.basics.specs.Lists.{member}
 use Rattle.format.specs.Record.{Rec, Net, at, linked}
 use Rattle.format.specs.Fields.{point_good}
 use Rattle.format.specs.State.{header_of, port_of, switch_of, direction_of}
-use Rattle.widths.specs.Widths.{states}
+use Rattle.widths.specs.Widths.{states, within_limits, line_bytes}
 use Rattle.widths.specs.declared.Widths.{Widths}
 use Rattle.onestep.specs.Relayed.{arriving}
 use Rattle.links.specs.declared.Link.{Link}
 use Rattle.links.specs.declared.Points.{Points}
+
+-- a plane starts at byte base
+pub record PlaneRoom (w : Widths) (base : ℕ) (work : List ℕ) : Type 0 where
+  pub limits : within_limits w ≡ true
+  pub room : base + plane_size (line_bytes w) ≤ length work
 
 -- where the point (sw, p) is the point (a, b), the point (c, d)
 unfoldable pub one_way : ℕ → ℕ → ℕ → ℕ → ℕ → ℕ → List (ℕ × ℕ)

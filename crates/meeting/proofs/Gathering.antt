@@ -18,6 +18,8 @@ use Rattle.sinks.specs.Turns.{Taken, Idle, Through, Searched}
 use Rattle.words.specs.Laws.Seeking.{part_bit}
 use Rattle.std.specs.List.{between}
 use mathlib.Core.Bool.{false≢true}
+use Rattle.std.specs.Prelude.{None}
+use Rattle.words.specs.Words.{Open}
 
 -- line k is taken in
 module _ (bytes : List ℕ) (to pitch k : ℕ) (taken : List ℕ) (is : taken ≡ between (to + k * pitch) (to + k * pitch + pitch) bytes) (width : length taken ≡ pitch) where
@@ -98,5 +100,12 @@ module _ (bytes : List ℕ) (to pitch k : ℕ) (met line₀ line done line' done
 
 -- nothing is left, or nothing more may be taken in
 module _ (bytes : List ℕ) (to pitch : ℕ) (line₀ line done : List ℕ) (I : Searching bytes to pitch line₀ line done) where
+  pub searched_all : (ended : Bool) → Open line done line pitch None → Searched bytes to pitch line₀ ended line
+  searched_all ended O = record {
+    keeps = I.keeps;
+    only = I.only;
+    closed = λ l z y hz hy s t. I.has z y hz hy (O.done_too z hz s s) t;
+  }
+
   pub searched_part : Searched bytes to pitch line₀ false line
   searched_part = record { keeps = I.keeps; only = I.only; closed = λ l. absurd (false≢true l) }

@@ -6,7 +6,7 @@ ghost use Rattle.planes.specs.Plane.{bit, plane_size};
 ghost use Rattle.sinks.specs.Turns.{Taken, Idle, Through, Searched, Met, MetAll};
 ghost use Rattle.words.specs.Words.{Open};
 
-use sinks::{Plane, StateList};
+use sinks::Plane;
 
 // What is known of a plane when the search from a line begins: the states that lead nowhere, those that are met, whose lines have
 // the lines of their states, and the one met last.
@@ -133,13 +133,7 @@ fn meet(
 
 // The lines of the plane at to in this order, with 16 lines for each to take in; whether all are met, and nothing stands beside the
 // yes.
-pub fn meet_all(
-    work: &mut [u8],
-    to: usize,
-    pitch: usize,
-    order: &StateList,
-    idle: &[u8; 128],
-) -> bool
+pub fn meet_all(work: &mut [u8], to: usize, pitch: usize, order: &[u16], idle: &[u8; 128]) -> bool
     requires pitch_in_bounds { (to + plane_size pitch ≤ length work.old) × (pitch ≤ 128) × (pitch % 8 ≡ 0) }
     requires idle { Idle to pitch idle.now work.old }
     ensures { MetAll to pitch work.old result work.new }
@@ -150,7 +144,7 @@ pub fn meet_all(
         last: 0,
         left: pitch * 128,
     };
-    for entry in order.entries() {
+    for entry in order {
         let x = usize::from(*entry);
         // Out of a loop that also goes on with what is met.
         let Some(left) = meet(work, to, pitch, x, &mut progress) else {

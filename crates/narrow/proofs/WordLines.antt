@@ -1,17 +1,19 @@
 -- The bytes of a line and the bits of a word.
 use mathlib.Core.Path.{◌≡◌, refl, sym, ap, ◌∙◌}
-use mathlib.Core.List.{List}
+use mathlib.Core.Bool.{Bool, cond}
+use mathlib.Core.List.{List, [], ◌∷◌}
 use Prim.Native.Nat.{ℕ, zero, suc, ◌+◌, ◌*◌, ◌/◌, ◌%◌, ◌^◌, ◌≤◌, ◌<◌}
-use native.Mathlib.Decide.{dec_lt}
 use native.Mathlib.Omega.{arith}
 use borrow.Author.Count.{below_more}
+use borrow.Author.Tests.{lt-ltb}
+use lib.Dec.{ltb}
 use lib.ListN.{length, get_or, set, length-set}
 use lib.Seq.{get_or-set_same, get_or-set_other}
 use Rattle.std.specs.Int.{w32, from_le_bytes, to_le_bytes}
 use Rattle.std.proofs.lemmas.Nat.{le_bytes_4}
 use Rattle.basics.specs.Bit.{bit_of}
 use Rattle.planes.specs.Plane.{cell}
-use Rattle.planes.specs.Lines.{Laid, Loaded, Made}
+use Rattle.planes.specs.Lines.{Laid, Made}
 use Rattle.basics.specs.Laws.Bits.{bit_shift, bit_low_byte}
 use Rattle.planes.specs.Laws.Lines.{line_bit}
 use Rattle.planes.specs.Laws.Planes.{made_more}
@@ -41,13 +43,33 @@ joined_bit v y bytes len small is h =
     sym (word_bit v y)
     ∙ ap (λ (b : ℕ). bit_of b (y % 8)) (sym (word_byte v (y / 8) (omega arith)) ∙ ap (λ (l : List ℕ). get_or l (y / 8) 0) (le_bytes_4 bytes v len small is))
 
--- the bytes of a line that was copied are bytes
-pub loaded_small : (at pitch : ℕ) (p line : List ℕ) → Loaded at pitch p line → ((i : ℕ) → get_or p i 0 < 256) → (i : ℕ) → get_or line i 0 < 256
-loaded_small at pitch p line L small i = go (dec_lt i pitch)
-  where
-    go : Dec (i < pitch) → get_or line i 0 < 256
-    go (yes h) = omega (arith, L.same i h, small (at + i))
-    go (no g) = omega (arith, L.rest i (omega (arith, g)))
+-- four bytes, of which the first of a line are those of a buffer
+module _ (p : List ℕ) (at pitch a b c d : ℕ) where
+  abbrev four : List ℕ
+  four = a ∷ b ∷ c ∷ d ∷ []
+
+  abbrev here : ℕ → ℕ
+  here j = cond (ltb j pitch) (get_or p (at + j) 0) 0
+
+  pub four_same : a ≡ here 0 → b ≡ here 1 → c ≡ here 2 → d ≡ here 3 → pitch ≤ 4 → (j : ℕ) → j < pitch → get_or four j 0 ≡ get_or p (at + j) 0
+  four_same ea eb ec ed l j h = of j h (λ i e. ap (λ (t : Bool). cond t (get_or p (at + i) 0) 0) (lt-ltb i pitch e))
+    where
+      of : (j : ℕ) → j < pitch → ((i : ℕ) → i < pitch → here i ≡ get_or p (at + i) 0) → get_or four j 0 ≡ get_or p (at + j) 0
+      of zero h e = ea ∙ e 0 h
+      of (suc zero) h e = eb ∙ e 1 h
+      of (suc (suc zero)) h e = ec ∙ e 2 h
+      of (suc (suc (suc zero))) h e = ed ∙ e 3 h
+      of (suc (suc (suc (suc j)))) h e = absurd (beyond h)
+        where
+          beyond : suc (suc (suc (suc j))) < pitch → ⊥
+          beyond h = omega (arith, l)
+
+  pub four_small : a < 256 → b < 256 → c < 256 → d < 256 → (i : ℕ) → get_or four i 0 < 256
+  four_small ha hb hc hd zero = ha
+  four_small ha hb hc hd (suc zero) = hb
+  four_small ha hb hc hd (suc (suc zero)) = hc
+  four_small ha hb hc hd (suc (suc (suc zero))) = hd
+  four_small ha hb hc hd (suc (suc (suc (suc i)))) = omega arith
 
 -- one more line is laid
 pub lay_more : (words : List ℕ) (pitch to x : ℕ) (a l m : List ℕ) → Made (test words) pitch to x a l

@@ -16,7 +16,7 @@ use Rattle.forms.specs.declared.Form.{Form}
 use Rattle.forms.specs.declared.Form.TheVariants.{Both}
 use Rattle.forms.specs.declared.Joined.{Joined}
 use Rattle.forms.specs.declared.Site.{Site}
-use Rattle.forms.specs.Forms.{tests, Lies, Reached}
+use Rattle.forms.specs.Forms.{tests, Placed, Lies, Reached}
 use Rattle.nodes.specs.declared.node.Node.{Node}
 use Rattle.nodes.specs.declared.node.Node.TheVariants.{Bit, R, E, Join, Range, Over, Tc, Absent}
 
@@ -128,19 +128,19 @@ model_at pitch ext work = record { count = pitch * 8; Steps = On work 0 pitch; E
 pub record Shows (m : Model) (pitch : ℕ) (form : Form) (work : List ℕ) (f : Formula) : Type 0 where
   pub at : (x y : ℕ) → x < pitch * 8 → y < pitch * 8 → tests form work pitch x y ≡ true ↔ Truth m f x y
 
--- there is room for the plane of node k, its operands are earlier nodes, whose forms lie in their own planes or in the first two,
+-- there is room for the plane of node k, its operands are earlier nodes, whose forms are in their own planes or in the first two,
 -- it is sound, and the second plane is the closure of the first if that is said
 pub record Makeable (n : Node) (forms : List (Option Form)) (k pitch : ℕ) (closed : Bool) (work : List ℕ) : Type 0 where
   pub few : k < most_nodes
   pub small : pitch ≤ 128
   pub within : plane_at pitch k + plane_size pitch ≤ length work
   pub earlier : (j : ℕ) → Needs n j → j < k
-  pub lies : (j : ℕ) → Needs n j → Lies pitch (plane_at pitch j) (form_at forms j)
+  pub lies : (j : ℕ) → Needs n j → Placed pitch (plane_at pitch j) (form_at forms j)
   pub sound : Sound n
   pub reached : closed ≡ true → Reached pitch work
 
 -- the form that is answered of node k is the truth of what it says, where the forms of its operands are the truth of theirs; it
--- lies in its own plane, or in one of the first two; every byte outside of the node's plane is as before
+-- lies in its own plane, or is one of the first two; every byte outside of the node's plane is as before
 pub record NodeMade (forms : List (Option Form)) (n : Node) (k pitch : ℕ) (ext before : List ℕ) (f : Form) (after : List ℕ) : Type 0 where
   pub len : length after ≡ length before
   pub lies : Lies pitch (plane_at pitch k) f

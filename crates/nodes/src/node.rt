@@ -1,5 +1,7 @@
 // The tests of a policy's node, made of those of its operands.
 ghost use Rattle.std.specs.Prelude.{◌≡◌, ◌≤◌, ◌<◌};
+ghost use Rattle.lines.specs.Shapes.{op_of, Plane};
+ghost use Rattle.forms.specs.Forms.{ranged, Sources, Stands};
 ghost use Rattle.nodes.specs.Node.{node_of, operands, form_at, joined_at, site_of, Makeable, NodeMade};
 
 use format::kinds::{NodeKind, Var};
@@ -70,16 +72,14 @@ pub struct Ground<'a> {
 }
 
 // The form of node j, if it is made; else that of the steps.
-fn form_at(forms: &[Option<Form>; 32], j: usize) -> Form
-    requires { j < 32 }
+fn form_at(forms: &[Option<Form>], j: usize) -> Form
     ensures { result ≡ form_at forms.now j }
 {
-    forms[j].unwrap_or(Form::Both(0))
+    forms.get(j).copied().flatten().unwrap_or(Form::Both(0))
 }
 
 // An operation on the forms of two nodes.
-fn joined_at(forms: &[Option<Form>; 32], t: Op, a: usize, b: usize) -> Joined
-    requires { (a < 32) × (b < 32) }
+fn joined_at(forms: &[Option<Form>], t: Op, a: usize, b: usize) -> Joined
     ensures { result ≡ joined_at forms.now t a b }
 {
     Joined {
@@ -100,9 +100,29 @@ fn site_of(k: usize, pitch: usize) -> Site
     }
 }
 
+// A SOME or ALL of an operation on two nodes, of their forms; answers its form. The one call for both kinds of node, so that the
+// compiler puts `range` in here, and no form is stored in parts and read back as a whole.
+fn range_at(
+    work: &mut [u8],
+    forms: &[Option<Form>],
+    r: Ranging,
+    t: Op,
+    a: usize,
+    b: usize,
+    to: Site,
+) -> Form
+    requires plane { Plane work.old to.pitch to.base }
+    requires sources { Sources work.old to.pitch to.base (joined_at forms.now t a b) }
+    ensures { Stands (ranged (op_of r.by) r.over (joined_at forms.now t a b) work.old to.pitch) result to.pitch to.base work.old work.new }
+{
+    quantify::range(work, r, joined_at(forms, t, a, b), to)
+}
+
 // Makes node k, in its own plane or by reference to the first two, of the forms of its operands; answers its form. The node is
-// matched once, and each step takes other arguments: a closure for each would be no plainer.
-pub fn make(work: &mut [u8], ground: Ground, forms: &[Option<Form>; 32], n: Node, k: usize) -> Form
+// matched once, and each step takes other arguments: a closure for each would be no plainer. Out of line: policy::eval goes 32 deep
+// and would have this frame in each of its own.
+#[inline(never)]
+pub fn make(work: &mut [u8], ground: Ground, forms: &[Option<Form>], n: Node, k: usize) -> Form
     requires { Makeable n forms.now k ground.pitch ground.closed work.old }
     ensures { NodeMade forms.now n k ground.entry.pitch ground.entry.external.now work.old result work.new }
 {
@@ -112,8 +132,8 @@ pub fn make(work: &mut [u8], ground: Ground, forms: &[Option<Form>; 32], n: Node
         Node::R(u, v) => pairs::arrange(work, Form::Both(0), (u, v), to),
         Node::E(v) => shapes::keep(work, ground.external, v, to),
         Node::Join(t, a, b) => shapes::apply(work, joined_at(forms, t, a, b), to),
-        Node::Range(r, a) => quantify::range(work, r, joined_at(forms, Op::Or, a, a), to),
-        Node::Over(r, t, a, b) => quantify::range(work, r, joined_at(forms, t, a, b), to),
+        Node::Range(r, a) => range_at(work, forms, r, Op::Or, a, a, to),
+        Node::Over(r, t, a, b) => range_at(work, forms, r, t, a, b, to),
         Node::Tc(a, u, v) => pairs::reach(work, ground.closed, form_at(forms, a), (u, v), to),
         Node::Absent => {
             let none = [0u8; 128];

@@ -6,7 +6,7 @@ ghost use Rattle.planes.specs.Plane.{bit, cell, plane_size};
 ghost use Rattle.truth.specs.Truth.{value};
 ghost use Rattle.lines.specs.Shapes.{Line, Plane, Source};
 ghost use Rattle.forms.specs.declared.Form.TheVariants.{Both};
-ghost use Rattle.forms.specs.Forms.{tests, place, line_form, Lies, Stands, arranged, Reached, Closes, Reaches};
+ghost use Rattle.forms.specs.Forms.{tests, place, line_form, Placed, Stands, arranged, Arranges, Reached, Closes, Reaches};
 
 use format::kinds::Var;
 use forms::{Form, Site};
@@ -50,8 +50,8 @@ fn same(work: &mut [u8], f: Form, v: Var, to: Site) -> Form
 pub fn arrange(work: &mut [u8], f: Form, vars: (Var, Var), to: Site) -> Form
     requires plane { Plane work.old to.pitch to.base }
     requires behind { plane_size to.pitch + plane_size to.pitch ≤ to.base }
-    requires lies { Lies to.pitch to.base f }
-    ensures { Stands (arranged vars.0 vars.1 f work.old to.pitch) result to.pitch to.base work.old work.new }
+    requires lies { Placed to.pitch to.base f }
+    ensures { Arranges vars.0 vars.1 f result to.pitch to.base work.old work.new }
 {
     match vars {
         (Var::X, Var::X) => same(work, f, Var::X, to),

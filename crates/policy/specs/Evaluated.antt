@@ -4,7 +4,7 @@ use Rattle.format.specs.Record.{Rec, Net, at, records, most_nodes}
 use Rattle.format.specs.Policy.{node_kind, first_nodes, Formula, formula}
 use Rattle.truth.specs.Truth.{Model, Truth}
 use Rattle.forms.specs.declared.Form.{Form}
-use Rattle.forms.specs.Forms.{Lies, Reached}
+use Rattle.forms.specs.Forms.{Placed, Lies, Reached}
 use Rattle.nodes.specs.Node.{plane_at, Operand, node_of, Needs, Sound, says, model_at, Shows, NodeMade}
 use Rattle.nodes.specs.declared.node.Node.{Node}
 
@@ -41,11 +41,15 @@ pub record Planned (nodes : Net) (k : ℕ) (n : Node) : Type 0 where
 abbrev pub IsMade : List (Option Form) → ℕ → Type 0
 IsMade forms j = (f : Form) × (get_or forms j None ≡ Some f)
 
--- the form of each node that is made lies in its own plane or in the first two, and is the truth of its formula, in the model
+-- the form of each node that is made is in its own plane or in the first two, and is the truth of its formula, in the model
 -- that a buffer gives
 abbrev pub Held : Net → ℕ → List ℕ → List ℕ → List (Option Form) → List ℕ → Type 0
 Held nodes pitch ext model forms work =
-    (j : ℕ) → j < length nodes → (f : Form) → get_or forms j None ≡ Some f → Lies pitch (plane_at pitch j) f × Shows (model_at pitch ext model) pitch f work (formula nodes j)
+    (j : ℕ) → j < length nodes → (f : Form) → get_or forms j None ≡ Some f → Placed pitch (plane_at pitch j) f × Shows (model_at pitch ext model) pitch f work (formula nodes j)
+
+-- each form that is kept lies as that of its node does
+abbrev pub AllLie : ℕ → List (Option Form) → Type 0
+AllLie pitch forms = (j : ℕ) → (f : Form) → get_or forms j None ≡ Some f → Lies pitch (plane_at pitch j) f
 
 -- a policy of sound nodes stands in a store, a work buffer has room for their planes, and its second plane is the closure of the
 -- first if that is said
@@ -63,11 +67,13 @@ pub record Asked (store : List ℕ) (start count : ℕ) (ext : List ℕ) (closed
   pub inside : k < count
   pub held : Held (nodes_at store start count) pitch ext work forms work
 
--- what is made stays made, and all of it is held; the first two planes and every byte behind the nodes' planes are as before
+-- what is made stays made, and all of it is held, and lies as the forms of nodes do where what was made before does; the first two
+-- planes and every byte behind the nodes' planes are as before
 pub record Worked (nodes : Net) (pitch : ℕ) (ext : List ℕ) (forms : List (Option Form)) (before : List ℕ) (forms' : List (Option Form)) (after : List ℕ) : Type 0 where
   pub len : length after ≡ length before
   pub kept : (j : ℕ) → IsMade forms j → IsMade forms' j
   pub held : Held nodes pitch ext before forms' after
+  pub lies : AllLie pitch forms → AllLie pitch forms'
   pub planes : (m : ℕ) → m < plane_at pitch 0 → get_or after m 0 ≡ get_or before m 0
   pub behind : (m : ℕ) → plane_at pitch (length nodes) ≤ m → get_or after m 0 ≡ get_or before m 0
 

@@ -133,7 +133,7 @@ exchanged_stands o v j f pitch base l m S =
 pub straightened_stands : (o : Op) (v : Var) (j r : Joined) (f : Form) (pitch base : ℕ) (a l m : List ℕ) → Straightened j r pitch base a l → Stands (ranged o v r l pitch) f pitch base l m
     → Stands (ranged o v j a pitch) f pitch base a m
 straightened_stands o v j r f pitch base a l m E S =
-    then_stands j r _ _ f pitch base a l m E
+    then_stands _ _ f pitch base a l m E.len E.rest
     (λ x y hx hy. over_same o (pitch * 8) _ _ (λ z hz. straightened_joined j r pitch base a l E (with_x v z x) (with_y v z y) (with_x-lt v hz hx) (with_y-lt v hz hy)))
     S
 

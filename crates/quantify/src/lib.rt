@@ -136,7 +136,7 @@ pub fn range(work: &mut [u8], r: Ranging, j: Joined, to: Site) -> Form
         Way::Over(u) => range_flat(work, r, j, u, to),
         Way::Straight => range_lines(work, r, j, to),
         Way::Exchanged => range_lines(work, r.turned(), j.turned(), to).turned(),
-        Way::Mixed => {
+        Way::FirstTurned | Way::SecondTurned => {
             let laid = shapes::straighten(work, j, to);
             range_lines(work, r, laid, to)
         }

@@ -28,7 +28,7 @@ fn search(work: &mut [u8], to: usize, pitch: usize) -> bool
     let plane = Plane { work, to, pitch };
     let idle = sinks::idle_states(&plane);
     let order = sinks::search_order(&plane, &idle);
-    meeting::meet_all(work, to, pitch, &order, &idle)
+    meeting::meet_all(work, to, pitch, order.entries(), &idle)
 }
 
 // The same for lines of any width: a no where they are not of whole words.

@@ -3,7 +3,8 @@
 
 pub mod turn;
 
-ghost use Rattle.std.specs.Prelude.{◌≡◌, ◌+◌, ◌^◌, ◌≤◌, ◌<◌, [], ◌∷◌, ◌++◌, false, ltb, OnOk};
+ghost use Rattle.std.specs.Prelude.{◌≡◌, ℕ, ◌+◌, ◌^◌, ◌≤◌, ◌<◌, [], ◌∷◌, ◌++◌, false, ltb, OnOk};
+ghost use Rattle.planes.specs.Plane.{bit};
 ghost use Rattle.format.specs.Record.{most_groups, kind, records};
 ghost use Rattle.refusals.specs.Rows.{row3, row16};
 ghost use Rattle.rows.specs.Noted.{KeysNoted, PointsNoted};
@@ -52,9 +53,10 @@ pub struct Notes {
 }
 
 impl Notes {
-    // Those of no record.
+    // Those of no record, with no key noted: one noted in vain would cost a search.
     pub fn new() -> Notes
-        ensures { NotedOf [] result }
+        ensures noted { NotedOf [] result }
+        ensures blank { (k : ℕ) → bit result.keys k ≡ false }
     {
         Notes {
             keys: [0; 512],

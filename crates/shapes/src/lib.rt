@@ -7,8 +7,7 @@ ghost use Rattle.planes.specs.Plane.{bit};
 ghost use Rattle.planes.specs.Lines.{Laid, Made};
 ghost use Rattle.truth.specs.Truth.{value};
 ghost use Rattle.lines.specs.Shapes.{pair_byte, pair_bool, Lined, Plane, Source, Span};
-ghost use Rattle.forms.specs.declared.Way.TheVariants.{Mixed};
-ghost use Rattle.forms.specs.Forms.{place, row_of, rows_of, Pairs, Joinable, Sources, joined, Straightened, Stands};
+ghost use Rattle.forms.specs.Forms.{place, row_of, rows_of, Mixed, Joinable, Sources, joined, Straightened, Stands};
 
 use format::kinds::Var;
 use forms::{Form, Joined, Site, Way};
@@ -106,7 +105,7 @@ pub fn join_lines(work: &mut [u8], s: Pair, to: Site)
 pub fn straighten(work: &mut [u8], j: Joined, to: Site) -> Joined
     requires plane { Plane work.old to.pitch to.base }
     requires sources { Sources work.old to.pitch to.base j }
-    requires mixed { Pairs j.first j.second Mixed }
+    requires mixed { Mixed j.first j.second }
     ensures { Straightened j result to.pitch to.base work.old work.new }
 {
     let laid = Form::Both(to.base);
@@ -146,7 +145,7 @@ pub fn apply(work: &mut [u8], j: Joined, to: Site) -> Form
             combine(work, j.turned(), to);
             Form::Turned(to.base)
         }
-        Way::Mixed => {
+        Way::FirstTurned | Way::SecondTurned => {
             let laid = straighten(work, j, to);
             combine(work, laid, to);
             Form::Both(to.base)

@@ -4,3 +4,4 @@ pub mod Piecewise
 pub mod Reading
 pub mod Store
 pub mod Turns
+pub mod WrittenLines

@@ -6,4 +6,5 @@ pub mod Output
 pub mod Piecewise
 pub mod Reading
 pub mod Text
+pub mod Written
 pub mod Laws

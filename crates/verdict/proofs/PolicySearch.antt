@@ -147,5 +147,11 @@ module _ (end : ℕ) (l : Layout) (bytes : ℕ) (store ext : List ℕ) (closed :
           let e : start ≡ l.groups = omega (arith, P.up_to) in
           absurd (omega (arith, P.count ∙ ap (λ (i : ℕ). policy_count (take i net)) e ∙ counted_end end l store C))
 
+  pub passed_behind : (start p : ℕ) (b : List ℕ) → Passed store l.nodes l.groups end bytes start p work b → l.groups ≤ start → Holds net
+  passed_behind start p b P h q k =
+      let e : start ≡ l.groups = omega (arith, P.up_to) in
+      let n : p ≡ policy_count net = P.count ∙ ap (λ (i : ℕ). policy_count (take i net)) e ∙ counted_end end l store C in
+      P.unbroken q (omega (arith, n))
+
   pub passed_all : (start p : ℕ) (b : List ℕ) → Passed store l.nodes l.groups end bytes start p work b → p ≡ policy_count net → Holds net
   passed_all start p b P e q k = P.unbroken q (omega (arith, e))

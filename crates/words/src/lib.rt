@@ -1,4 +1,5 @@
-// The states of a line: the bits of its bytes that are set, found eight bytes at a time.
+// The states of a line: the bits of its bytes that are set, found eight bytes at a time where the line is of whole words, or else
+// bit by bit.
 #![tactic(auto)]
 
 ghost use Rattle.std.specs.Prelude.{◌≡◌, ◌+◌, ◌-◌, ◌*◌, ◌%◌, ◌≤◌, ◌<◌, length};

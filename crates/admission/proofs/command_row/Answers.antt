@@ -8,9 +8,9 @@ use Rattle.admission.proofs.command_row.Goals as goal
 
 pub names_absent-requires : goal.names_absent-requires
 names_absent-requires c =
-    let net = c.args.net.now in
-    let laid = net.stored.laid in
-    let now = records net.n net.store.now in
+    let table = c.args.table.now in
+    let known = table.known in
+    let now = records table.n table.store.now in
     let given = c.in-Ok.given.now in
-    let faultless : row12 now given ≡ false = sym (c.is_faulty.ensures now laid.widths) ∙ c.if-is_faulty.false in
-    command_named now given (subst Limits laid.widths (limits _ laid.limits)) faultless
+    let faultless : row12 now given ≡ false = sym (c.is_faulty.ensures now known.widths) ∙ c.if-is_faulty.false in
+    command_named now given (subst Limits known.widths (limits _ known.limits)) faultless

@@ -12,10 +12,12 @@ returns-in_err-net c =
 pub judge-requires : goal.judge-requires
 judge-requires c =
     let net = c.in_ok-net.net in
-    let read = c.in_ok-net.ensures in
-    let passed = rw (← read.1, ← read.2) at (checks c.args.store.now c.args.n _ read.0) in
+    let told = c.in_ok-net.ensures in
+    let passed = rw (← told.1, ← told.2) at (checks c.args.store.now c.args.n _ told.0) in
     record { clean = record { room = net.stored.room; laid = net.stored.laid; passes = passed.file }; room = passed.enough }
 
+-- What was judged is the network that was read: its store and its number of
+-- records are those that the call was lent.
 pub returns : goal.returns
 returns c =
     let a = c.args in

@@ -13,14 +13,16 @@ pub returns-in-Err : goal.returns-in-Err
 returns-in-Err c =
     let a = c.args in
     let read = c.in_ok-installed.ensures in
-    let row = rw (read.1, read.2) at c.in-Err.ensures.row in
+    let table = c.of-table.ensures in
+    let row = rw (table.0, table.1, read.1, read.2) at c.in-Err.ensures.row in
     command_refused a.store.now a.n a.work.now a.given.now _ _ (refused_late a.store.now a.n _ a.given.now _ read.0 row)
 
 pub judged_in-requires : goal.judged_in-requires
 judged_in-requires c =
     let a = c.args in
     let read = c.in_ok-installed.ensures in
-    let row = rw (read.1, read.2) at c.in-Ok.ensures.row in
+    let table = c.of-table.ensures in
+    let row = rw (table.0, table.1, read.1, read.2) at c.in-Ok.ensures.row in
     rw (read.1, read.2, c.in-Ok.ensures.passed) (no_row a.store.now a.n _ a.given.now read.0 row)
 
 pub write_back-requires : goal.write_back-requires

@@ -1,10 +1,10 @@
 -- The links, the misses, the rules and the groups of a store, by their places.
-use Rattle.std.specs.Prelude.{◌≡◌, true, ◌&&◌, List, [], ℕ, ◌+◌, ◌-◌, ◌^◌, ◌<◌, ◌≤◌, length, get_or, drop}
+use Rattle.std.specs.Prelude.{◌≡◌, true, ◌&&◌, List, [], ℕ, ◌+◌, ◌-◌, ◌*◌, ◌^◌, ◌<◌, ◌≤◌, length, get_or, drop}
 use Rattle.std.proofs.Common.{sym, ap, subst, ◌∙◌, arith, length-drop, take_all, length-take-le}
 use Rattle.std.proofs.Math.Path.{subst⁻¹}
 use Rattle.std.proofs.Math.Decide.{dec_lt}
 use Rattle.basics.specs.Laws.Tests.{and_left, both}
-use Rattle.format.specs.Record.{Rec, Net, at, records, of_kind}
+use Rattle.format.specs.Record.{Rec, Net, at, most_rules, records, of_kind}
 use Rattle.format.specs.Fields.{zeros, point_good, match_good, actions_good, buckets_good, fields_good}
 use Rattle.format.specs.Laws.Fields.{link_fields, rule_fields, miss_actions, rule_actions, group_parts}
 use Rattle.widths.specs.Laws.Limits.{limits}
@@ -33,9 +33,16 @@ module _ (n : ℕ) (l : Layout) (s : List ℕ) (st : Stored n l s) where
   pub in_net : l.nodes ≤ length (records n s)
   in_net = omega (arith, in_store_lem, length_records n s)
 
-  -- a record before the nodes is one of the n
+  -- a record before the nodes is one of the n, and the store has the whole of it
   pub record_in : (i : ℕ) → i < l.nodes → i < n
   record_in i h = omega (arith, in_store_lem)
+
+  pub record_room : (i : ℕ) → i < l.nodes → i * 24 + 24 ≤ length s
+  record_room i h = omega (arith, record_in i h, st.room)
+
+  -- a rule's number among the rules
+  pub rule_number : (i : ℕ) → i < l.nodes → i - l.rules < most_rules
+  rule_number i h = omega (arith, st.laid.few_rules)
 
   -- the fields of a link, the actions of a record that may act, and the buckets of a group
   pub link_good : (i : ℕ) → 1 ≤ i → i < l.misses

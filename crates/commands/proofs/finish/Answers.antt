@@ -13,8 +13,8 @@ returns c =
     let n = a.before.n in
     let end = a.at + (n * 24 - a.j * 24) in
     let l = part_length store n a.j (omega arith) a.before.within in
-    let copied = c.copy_from_slice.new.self in
-    let e : copied ≡ take (n * 24 - a.j * 24) (drop (a.j * 24) store) = c.copy_from_slice.ensures.after in
+    let copied = c.copy.new.to in
+    let e : copied ≡ take (n * 24 - a.j * 24) (drop (a.j * 24) store) = c.copy.ensures.after in
     let z : c.fill.new.self ≡ replicate (store_bytes - end) 0 = search rules in
-    finished next copied c.fill.new.self a.at end _ _ (search rules) (omega (arith, l, ap length e)) (omega arith) z (search rules) (same_len_mid _ _ _ _ c.fill.ensures.len ∙ same_len_mid _ _ _ _ c.copy_from_slice.ensures.len ∙ search rules)
+    finished next copied c.fill.new.self a.at end _ _ (search rules) (omega (arith, l, ap length e)) (omega arith) z (search rules) (same_len_mid _ _ _ _ c.fill.ensures.len ∙ same_len_mid _ _ _ _ c.copy.ensures.len ∙ search rules)
     ∙ ap (λ (x : List ℕ). padded (take a.at next ++ x)) (e ∙ sym (flat_drop store n a.j (omega arith)))

@@ -8,8 +8,8 @@ returns c =
     let a = c.args in
     let store = a.before.store.now in
     let n = a.before.n in
-    let copied = c.copy_from_slice.new.self in
-    let e : copied ≡ take (a.i * 24) store = c.copy_from_slice.ensures.after in
+    let copied = c.copy.new.to in
+    let e : copied ≡ take (a.i * 24) store = c.copy.ensures.after in
     let l : length copied ≡ a.i * 24 = ap length e ∙ length-take-le (a.i * 24) store (omega (arith, a.before.within)) in
     let front = take-put_mid 0 _ a.next.now copied (a.i * 24) (omega (arith, l)) (omega arith) ∙ e in
     record {

@@ -1,7 +1,7 @@
 -- Fields of a record: read from a rule's body, bytes 1 to 20; by the record's kind; action by action; and zero bytes one at a time.
 use Rattle.std.specs.Prelude.{◌≡◌, refl, Bool, ◌&&◌, List, ◌∷◌, ◌⊎◌, ℕ, zero, suc, ◌+◌, ◌-◌, ◌*◌, ◌^◌, ◌≤◌, ◌<◌, eqb, ltb, length, get_or, take, drop}
 use Rattle.std.proofs.Math.Path.{sym}
-use Rattle.std.proofs.Common.{ap, ap₂, ◌∙◌, inl, inr, one-add, lit<, lit≤, get_or-take, get_or-drop}
+use Rattle.std.proofs.Common.{ap, ap₂, ◌∙◌, inl, inr, one-add, lit<, lit≤, length-drop, length-take-le, get_or-take, get_or-drop}
 use Rattle.std.proofs.Math.Bool.{true, false, and-false}
 use Rattle.std.proofs.lemmas.Bool.{false≢true}
 use native.Mathlib.Omega.{arith}
@@ -34,6 +34,10 @@ pub body_at : (r : Rec) (n : ℕ) → 0 < n → n ≤ 20 → at (0 ∷ take 20 (
 body_at r zero l h = absurd (omega arith)
 body_at r (suc k) l h =
     get_or-take 20 (drop 1 r) k 0 (omega arith) ∙ get_or-drop 1 r k 0 ∙ ap (λ (n : ℕ). get_or r n 0) (one-add k)
+
+-- a body has 20 bytes
+pub body_length : (r : Rec) → length r ≡ 24 → length (take 20 (drop 1 r)) ≡ 20
+body_length r h = length-take-le 20 (drop 1 r) (simp length-drop (omega arith))
 
 -- a match read from the body is the record's
 pub match_body : (w : Widths) (r : Rec) → match_good w (0 ∷ take 20 (drop 1 r)) ≡ match_good w r

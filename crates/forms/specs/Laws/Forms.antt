@@ -1,5 +1,5 @@
 -- Laws of forms: with X and Y exchanged, where their bytes stayed, where they lie; forms that were kept, made and closed.
-use Rattle.std.specs.Prelude.{◌≡◌, refl, Bool, List, ℕ, ◌+◌, ◌*◌, ◌/◌, ◌%◌, ◌≤◌, ◌<◌, length, get_or}
+use Rattle.std.specs.Prelude.{◌≡◌, refl, Bool, List, ◌⊎◌, ℕ, ◌+◌, ◌*◌, ◌/◌, ◌%◌, ◌≤◌, ◌<◌, length, get_or}
 use Rattle.std.proofs.Common.{sym, ap, ap₂, subst, ◌∙◌, inl, inr, ⊎_elim, arith}
 use Rattle.planes.specs.Lines.{Laid, Made, Put}
 use Rattle.basics.specs.Bit.{bit_of}
@@ -15,11 +15,12 @@ use Rattle.walks.specs.Laws.Walks.{map_walk, walk_back}
 use Rattle.forms.specs.declared.Form.{Form}
 use Rattle.forms.specs.declared.Form.TheVariants.{OfX, OfY, Both, Turned}
 use Rattle.forms.specs.declared.Joined.{Joined}
-use Rattle.forms.specs.declared.Way.TheVariants.{Mixed}
+use Rattle.forms.specs.declared.Way.{Way}
+use Rattle.forms.specs.declared.Way.TheVariants.{FirstTurned, SecondTurned}
 use Rattle.lines.specs.declared.Op.{Op}
 use Rattle.truth.specs.Truth.{value}
 use Rattle.lines.specs.Shapes.{op_bool, Outside, Lined, Plane, Source}
-use Rattle.forms.specs.Forms.{tests, place, turned, line_form, Lies, Upright, Pairs, Sources, Joinable, joined, turned_joined, arranged, Stands, Straightened, Reached, Reaches, Closes}
+use Rattle.forms.specs.Forms.{tests, place, turned, line_form, Placed, Lies, Upright, Pairs, Mixed, Sources, Joinable, joined, turned_joined, arranged, Stands, Arranges, Straightened, Reached, Reaches, Closes}
 use Rattle.truth.specs.Laws.Tables.{value-lt}
 use Rattle.forms.specs.Laws.PlaneShapes.{line_small, source_in}
 
@@ -37,7 +38,13 @@ turned_place (Both at) = refl
 turned_place (Turned at) = refl
 
 -- a form lies in the node's own plane, in the first plane or in the second, and so it does exchanged
-pub lies_place : (P : ℕ → Type 0) (pitch own : ℕ) (f : Form) → Lies pitch own f → P own → P 0 → P (plane_size pitch) → P (place f)
+pub lies_placed : (f : Form) (pitch own : ℕ) → Lies pitch own f → Placed pitch own f
+lies_placed (OfX at) pitch own L = inl L
+lies_placed (OfY at) pitch own L = inl L
+lies_placed (Both at) pitch own L = L
+lies_placed (Turned at) pitch own L = L
+
+pub lies_place : (P : ℕ → Type 0) (pitch own : ℕ) (f : Form) → Placed pitch own f → P own → P 0 → P (plane_size pitch) → P (place f)
 lies_place P pitch own f L o z s = ⊎_elim (λ e. subst P (sym e) o) (λ q. ⊎_elim (λ e. subst P (sym e) z) (λ e. subst P (sym e) s) q) L
 
 pub turned_lies : (f : Form) (pitch own : ℕ) → Lies pitch own f → Lies pitch own (turned f)
@@ -45,6 +52,12 @@ turned_lies (OfX at) pitch own L = L
 turned_lies (OfY at) pitch own L = L
 turned_lies (Both at) pitch own L = L
 turned_lies (Turned at) pitch own L = L
+
+pub turned_placed : (f : Form) (pitch own : ℕ) → Placed pitch own f → Placed pitch own (turned f)
+turned_placed (OfX at) pitch own L = L
+turned_placed (OfY at) pitch own L = L
+turned_placed (Both at) pitch own L = L
+turned_placed (Turned at) pitch own L = L
 
 -- a form whose bytes stayed
 module _ (pitch : ℕ) (a b : List ℕ) where
@@ -83,8 +96,8 @@ stands_turned f r pitch base a b S = record {
 
 -- a line that was laid, whole and as bytes f, and one that was stored
 pub lined_stands : (v : Var) (g : ℕ → Bool) (pitch base : ℕ) (a b : List ℕ) → Lined g (pitch * 8) pitch base a b → Stands (λ x y. g (value v x y)) (line_form v base) pitch base a b
-lined_stands X g pitch base a b L = record { len = L.len; lies = inl refl; here = λ x y hx hy. L.here x hx; rest = L.rest }
-lined_stands Y g pitch base a b L = record { len = L.len; lies = inl refl; here = λ x y hx hy. L.here y hy; rest = L.rest }
+lined_stands X g pitch base a b L = record { len = L.len; lies = refl; here = λ x y hx hy. L.here x hx; rest = L.rest }
+lined_stands Y g pitch base a b L = record { len = L.len; lies = refl; here = λ x y hx hy. L.here y hy; rest = L.rest }
 
 pub laid_lined : (f : ℕ → ℕ) (g : ℕ → Bool) (pitch base : ℕ) (a b : List ℕ) → Laid f base pitch a b → ((z : ℕ) → z < pitch * 8 → bit_of (f (z / 8)) (z % 8) ≡ g z)
     → Lined g (pitch * 8) pitch base a b
@@ -160,12 +173,26 @@ turned_closed f g pitch base a b C = record {
 }
 
 -- a form with the variables (X, Y) and (Y, X), where no byte changed
-module _ (f : Form) (pitch base : ℕ) (a : List ℕ) (L : Lies pitch base f) where
-  pub arranged_straight : Stands (arranged X Y f a pitch) f pitch base a a
-  arranged_straight = record { len = refl; lies = L; here = λ x y hx hy. refl; rest = λ m o. refl }
+module _ (f : Form) (pitch base : ℕ) (a : List ℕ) (L : Placed pitch base f) where
+  pub arranged_straight : Arranges X Y f f pitch base a a
+  arranged_straight = record { len = refl; placed = L; lies = λ l. l; here = λ x y hx hy. refl; rest = λ m o. refl }
 
-  pub arranged_turned : Stands (arranged Y X f a pitch) (turned f) pitch base a a
-  arranged_turned = stands_turned (arranged X Y f a pitch) f pitch base a a arranged_straight
+  pub arranged_turned : Arranges Y X f (turned f) pitch base a a
+  arranged_turned = record {
+    len = refl;
+    placed = turned_placed f pitch base L;
+    lies = λ l. turned_lies f pitch base l;
+    here = λ x y hx hy. turned_tests f a pitch x y;
+    rest = λ m o. refl;
+  }
+
+-- a form that has the tests of another with the variables (u, v), and one that lies as the form of a node does
+pub stands_arranged : (u v : Var) (f g : Form) (pitch base : ℕ) (a b : List ℕ) → Stands (arranged u v f a pitch) g pitch base a b → Arranges u v f g pitch base a b
+stands_arranged u v f g pitch base a b S =
+    record { len = S.len; placed = lies_placed g pitch base S.lies; lies = λ l. S.lies; here = S.here; rest = S.rest }
+
+pub arranged_stands : (u v : Var) (f g : Form) (pitch base : ℕ) (a b : List ℕ) → Lies pitch base f → Arranges u v f g pitch base a b → Stands (arranged u v f a pitch) g pitch base a b
+arranged_stands u v f g pitch base a b L A = record { len = A.len; lies = A.lies L; here = A.here; rest = A.rest }
 
 -- closed, then arranged
 pub closed_arranged : (u v : Var) (f c g : Form) (pitch base : ℕ) (a m b : List ℕ) → Closes f c pitch base a m → Stands (arranged u v c m pitch) g pitch base m b
@@ -181,7 +208,7 @@ closed_arranged u v f c g pitch base a m b C S = record {
 }
 
 -- the plane of a form of a node
-pub form_plane : (bytes : List ℕ) (pitch base : ℕ) (f : Form) → Lies pitch base f → Plane bytes pitch base → plane_size pitch + plane_size pitch ≤ base → Plane bytes pitch (place f)
+pub form_plane : (bytes : List ℕ) (pitch base : ℕ) (f : Form) → Placed pitch base f → Plane bytes pitch base → plane_size pitch + plane_size pitch ≤ base → Plane bytes pitch (place f)
 form_plane bytes pitch base f L P h =
     lies_place (Plane bytes pitch) pitch base f L P
     (record { small = P.small; within = omega (arith, P.within) })
@@ -194,6 +221,21 @@ source_plane bytes pitch base p h S = record { small = h; within = S.within }
 pub lie_apart_lem : (bytes : List ℕ) (pitch base p : ℕ) → Plane bytes pitch base → Source bytes pitch base p → Apart p base pitch (length bytes)
 lie_apart_lem bytes pitch base p P S = record { narrow = P.small; first = S.within; second = P.within; apart = S.apart }
 
+-- what is made of a buffer of which the plane at base was laid is made of the one before
+pub then_stands : (h g : ℕ → ℕ → Bool) (f : Form) (pitch base : ℕ) (a m b : List ℕ) → length m ≡ length a → ((n : ℕ) → Outside pitch base n → get_or m n 0 ≡ get_or a n 0)
+    → ((x y : ℕ) → x < pitch * 8 → y < pitch * 8 → h x y ≡ g x y) → Stands h f pitch base m b → Stands g f pitch base a b
+then_stands h g f pitch base a m b l r e S = record {
+  len = S.len ∙ l;
+  lies = S.lies;
+  here = λ x y hx hy. S.here x y hx hy ∙ e x y hx hy;
+  rest = λ n o. S.rest n o ∙ r n o;
+}
+
+-- two forms are taken together with one of them exchanged
+pub turned_mixed : (a b : Form) (w : Way) → (w ≡ FirstTurned) ⊎ (w ≡ SecondTurned) → Pairs a b w → Mixed a b
+turned_mixed a b w (inl e) P = inl (subst (Pairs a b) e P)
+turned_mixed a b w (inr e) P = inr (subst (Pairs a b) e P)
+
 -- the plane at p was laid exchanged at base: a form that stood exchanged is the plane at base, and another is as before
 module _ (p pitch base : ℕ) (a m : List ℕ) (E : Made (λ x y. cell a p pitch y x) pitch base (pitch * 8) a m) where
   pub turned_here : (f : Form) → p ≡ place f → f ≡ Turned (place f) → (x y : ℕ) → x < pitch * 8 → y < pitch * 8 → tests (Both base) m pitch x y ≡ tests f a pitch x y
@@ -202,7 +244,12 @@ module _ (p pitch base : ℕ) (a m : List ℕ) (E : Made (λ x y. cell a p pitch
   pub other_same : (g : Form) → Source a pitch base (place g) → (x y : ℕ) → x < pitch * 8 → y < pitch * 8 → tests g m pitch x y ≡ tests g a pitch x y
   other_same g S = tests_kept pitch a m g (λ n lo hi. ⊎_elim (λ q. E.under n (omega arith)) (λ q. E.over n (omega arith)) S.apart)
 
-  pub first_straightened : (j : Joined) → Pairs j.first j.second Mixed → j.first ≡ Turned p → Sources a pitch base j
+  pub then_made : (h g : ℕ → ℕ → Bool) (b : List ℕ) → ((x y : ℕ) → x < pitch * 8 → y < pitch * 8 → h x y ≡ g x y) → Made h pitch base (pitch * 8) m b
+      → Stands g (Both base) pitch base a b
+  then_made h g b e M =
+      then_stands h g (Both base) pitch base a m b E.len (beside_plane (λ x y. cell a p pitch y x) pitch base a m E) e (made_straight h pitch base m b M)
+
+  pub first_straightened : (j : Joined) → Mixed j.first j.second → j.first ≡ Turned p → Sources a pitch base j
       → Straightened j (record { op = j.op; first = Both base; second = j.second }) pitch base a m
   first_straightened j M e S =
       let U = ⊎_elim (λ t. t.1) (λ t. absurd (subst Upright e t.1)) M in
@@ -215,7 +262,7 @@ module _ (p pitch base : ℕ) (a m : List ℕ) (E : Made (λ x y. cell a p pitch
         rest = beside_plane (λ x y. cell a p pitch y x) pitch base a m E;
       }
 
-  pub second_straightened : (j : Joined) → Pairs j.first j.second Mixed → ((q : ℕ) → j.first ≡ Turned q → ⊥) → p ≡ place j.second → Sources a pitch base j
+  pub second_straightened : (j : Joined) → Mixed j.first j.second → ((q : ℕ) → j.first ≡ Turned q → ⊥) → p ≡ place j.second → Sources a pitch base j
       → Straightened j (record { op = j.op; first = j.first; second = Both base }) pitch base a m
   second_straightened j M n q S =
       let T : (j.second ≡ Turned (place j.second)) × Upright j.first = ⊎_elim (λ t. absurd (n _ t.0)) (λ t. t) M in
@@ -227,16 +274,6 @@ module _ (p pitch base : ℕ) (a m : List ℕ) (E : Made (λ x y. cell a p pitch
         joinable = record { first = inl (source_in a m pitch base (place j.first) E.len S.first); second = inr refl; upright = (T.1, tt) };
         rest = beside_plane (λ x y. cell a p pitch y x) pitch base a m E;
       }
-
--- what is made of two forms that were straightened is made of the two before
-pub then_stands : (j r : Joined) (h g : ℕ → ℕ → Bool) (f : Form) (pitch base : ℕ) (a m b : List ℕ) → Straightened j r pitch base a m
-    → ((x y : ℕ) → x < pitch * 8 → y < pitch * 8 → h x y ≡ g x y) → Stands h f pitch base m b → Stands g f pitch base a b
-then_stands j r h g f pitch base a m b E e S = record {
-  len = S.len ∙ E.len;
-  lies = S.lies;
-  here = λ x y hx hy. S.here x y hx hy ∙ e x y hx hy;
-  rest = λ n o. S.rest n o ∙ E.rest n o;
-}
 
 -- the operation on two forms that were straightened is that on the two before
 pub straightened_joined : (j r : Joined) (pitch base : ℕ) (a m : List ℕ) → Straightened j r pitch base a m → (x y : ℕ) → x < pitch * 8 → y < pitch * 8

@@ -1,5 +1,5 @@
 -- The buckets of a group run one after the other, as they were read from its record.
-use Rattle.std.specs.Prelude.{◌≡◌, refl, true, List, [], ◌++◌, ℕ, ◌+◌, ◌-◌, ◌^◌, ◌<◌, ◌≤◌, length, get_or}
+use Rattle.std.specs.Prelude.{◌≡◌, refl, true, List, [], ◌++◌, ℕ, ◌+◌, ◌-◌, ◌*◌, ◌^◌, ◌<◌, ◌≤◌, length, get_or, take, drop}
 use Rattle.std.proofs.Common.{sym, ap, ap₂, subst, ◌∙◌, arith}
 use Rattle.std.proofs.Math.Path.{subst⁻¹}
 use Rattle.planes.specs.Plane.{bit}
@@ -11,7 +11,7 @@ use Rattle.format.specs.Fields.{buckets_good}
 use Rattle.widths.specs.Laws.Limits.{limits}
 use Rattle.patterns.specs.Laws.Matched.{below_64}
 use Rattle.format.specs.Laws.Patterns.{put_lt}
-use Rattle.format.specs.Laws.Records.{length_records, record_at_lem, record_length}
+use Rattle.format.specs.Laws.Records.{length_records, record_at_lem, part_is, record_length}
 use Rattle.widths.specs.declared.Widths.{Widths}
 use Rattle.format.specs.declared.Bucket.{Bucket}
 use Rattle.scan.specs.declared.network.Network.{Network}
@@ -31,6 +31,10 @@ use Rattle.groups.specs.Sent.{sends_at}
 use Rattle.groups.specs.Relayed.{Ran, group_sends, target_sends}
 use Rattle.groups.specs.Laws.GroupCopies.{no_buckets, more_buckets, all_buckets, no_group}
 use Rattle.groups.specs.Laws.Marking.{added_marked}
+
+-- record i of a store is the part that is read for it
+pub record_read : (n : ℕ) (s : List ℕ) (i : ℕ) → i < n → get_or (records n s) i [] ≡ take (i * 24 + 24 - i * 24) (drop (i * 24) s)
+record_read n s i h = record_at_lem n s i h ∙ sym (part_is s i)
 
 -- the record of group g, as it was read from a store
 pub record GroupRead (net : Net) (w : Widths) (sw g : ℕ) (r : Rec) : Type 0 where

@@ -1,14 +1,29 @@
--- A plane that is filled, and to which pairs are added.
-use Rattle.std.specs.Prelude.{◌≡◌, Bool, true, ◌||◌, List, ℕ, ◌+◌, ◌*◌, ◌<◌}
+-- A plane that is filled line by line, and to which pairs are added.
+use Rattle.std.specs.Prelude.{◌≡◌, Bool, true, ◌||◌, List, ℕ, ◌+◌, ◌*◌, ◌<◌, length}
 use Rattle.std.proofs.Common.{sym, ap, ap₂, ◌∙◌, arith}
+use Rattle.std.proofs.Math.Bool.{or-false}
 use Rattle.planes.specs.Plane.{bit, plane_size}
-use Rattle.planes.specs.Lines.{Made}
+use Rattle.planes.specs.Lines.{Cleared, Made}
 use Rattle.planes.specs.Laws.Places.{line_before}
+use Rattle.planes.specs.Laws.Lines.{cleared_bit}
+use Rattle.planes.specs.Laws.Planes.{made_more}
+use Rattle.basics.specs.Lists.{member}
 use Rattle.widths.specs.Widths.{states, within_limits, line_bytes}
 use Rattle.format.specs.Laws.States.{whole_bytes}
 use Rattle.widths.specs.declared.Widths.{Widths}
-use Rattle.planes.specs.Adds.{Adds}
-use Rattle.links.specs.Carried.{pair}
+use Rattle.planes.specs.Adds.{Adds, Added}
+use Rattle.links.specs.Carried.{PlaneRoom, pair}
+
+-- one more line, which was cleared
+pub line_more : (f : ℕ → List ℕ) (base w s : ℕ) (a b c d : List ℕ) → Made (λ x t. member t (f x)) w base s a b → Cleared (base + s * w) w b c → Added (f s) (base + s * w) w c d
+    → Made (λ x t. member t (f x)) w base (s + 1) a d
+line_more f base w s a b c d M C A =
+    made_more (λ x t. member t (f x)) w base s a b d M (A.len ∙ C.len) (λ n h. A.under n h ∙ C.under n h) (λ n h. A.over n h ∙ C.over n h)
+    (λ t h. A.bits t h ∙ ap (λ (x : Bool). member t (f s) || x) (cleared_bit (base + s * w) w b c C t h) ∙ or-false (member t (f s)))
+
+-- a plane has room in a buffer that is as long
+pub room_on : (w : Widths) (base : ℕ) (a b : List ℕ) → length b ≡ length a → PlaneRoom w base a → PlaneRoom w base b
+room_on w base a b e R = record { limits = R.limits; room = omega (arith, R.room) }
 
 -- pairs that are added to the plane
 module _ (w : Widths) (limits : within_limits w ≡ true) (base : ℕ) where

@@ -1,14 +1,23 @@
 -- Laws of what is known of the policies, as one record more comes.
-use Rattle.std.specs.Prelude.{◌≡◌, refl, Bool, cond, [], ◌∷◌, ◌++◌, ℕ, ◌+◌, ◌-◌, ◌^◌, max, length}
-use Rattle.std.proofs.Common.{sym, ap, ap₂, subst, ◌∙◌, inr, arith, length-append}
+use Rattle.std.specs.Prelude.{◌≡◌, refl, Bool, true, false, cond, ◌||◌, [], ◌∷◌, ◌++◌, ℕ, suc, ◌+◌, ◌-◌, ◌^◌, max, eqb, length}
+use Rattle.std.proofs.Common.{sym, ap, ap₂, subst, ◌∙◌, inl, inr, arith, length-append, ne_eqb, eqb-true}
+use Rattle.std.proofs.lemmas.Bool.{false≢true}
 use Rattle.std.specs.Int.Bits.{bit_or}
 use Rattle.format.specs.Record.{Rec, Net, at, kind}
 use Rattle.format.specs.Policy.{nodes_of, policy_count}
 use Rattle.refusals.specs.Rows.{free_at}
-use Rattle.noderows.specs.Policies.{Marks, PoliciesOf, Entered}
+use Rattle.noderows.specs.Policies.{Marks, PoliciesOf, follows, Entered}
 use Rattle.noderows.specs.declared.Policies.{Policies}
 use Rattle.noderows.specs.Laws.Formulas.{free_at_lem, marks_none, marks_more}
 use Rattle.format.specs.Laws.Policies.{count_other, count_follows, nodes_in, nodes_other_kind, nodes_beyond, longest_other, longest_follows}
+
+or_left : (a b : Bool) → (a || b) ≡ true → b ≡ false → a ≡ true
+or_left true b e f = refl
+or_left false b e f = absurd (false≢true (sym f ∙ e))
+
+-- a policy that follows is the last one, unless it is one more
+pub follows_last : (p count : ℕ) → follows p count ≡ true → (p ≡ count → ⊥) → suc p ≡ count
+follows_last p count e h = eqb-true (suc p) count (or_left (eqb (suc p) count) (eqb p count) e (ne_eqb p count h))
 
 module _ (before : Net) (s : Policies) (known : PoliciesOf before s) where
   pub enter_new : (p : ℕ) → p ≡ s.count → Entered before p (record { count = s.count + 1; nodes = 0; free = 0; longest = s.longest })
@@ -20,6 +29,17 @@ module _ (before : Net) (s : Policies) (known : PoliciesOf before s) where
         count = omega arith;
         nodes = sym (ap length z);
         marks = subst (λ (l : Net). Marks l 0) (sym z) marks_none;
+        longest = known.longest;
+      }
+
+  pub enter_last : (p : ℕ) → suc p ≡ s.count → Entered before p s
+  enter_last p e =
+      let q : s.count - 1 ≡ p = omega arith in
+      record {
+        follow = inl (e ∙ known.count);
+        count = sym e;
+        nodes = subst (λ (k : ℕ). s.nodes ≡ length (nodes_of k before)) q known.nodes;
+        marks = subst (λ (k : ℕ). Marks (nodes_of k before) s.free) q known.marks;
         longest = known.longest;
       }
 

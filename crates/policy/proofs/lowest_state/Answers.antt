@@ -14,6 +14,8 @@ first_passing : (n : ℕ) (g : ℕ → Bool) (r : Option ℕ)
 first_passing n g (Some x) m = (m.1, m.2, λ z h. m.3 z (omega arith) h)
 first_passing n g None m = λ z h. m z (omega arith) h
 
+-- The numbers are gone over from 0 on: those before the one that is found
+-- were tested too, and did not pass.
 pub returns : goal.returns
 returns c =
     let s = c.args in

@@ -17,11 +17,11 @@ use Rattle.nodes.specs.declared.node.Node.{Node}
 use Rattle.nodes.specs.declared.node.Node.TheVariants.{Join, Range, Over}
 use Rattle.quantify.specs.declared.Ranging.{Ranging}
 use Rattle.lines.specs.Shapes.{op_of, Outside, Plane}
-use Rattle.forms.specs.Forms.{tests, place, Lies, Reached}
-use Rattle.forms.specs.Laws.Forms.{lies_place, form_plane, tests_kept}
+use Rattle.forms.specs.Forms.{tests, place, Placed, Lies, Reached}
+use Rattle.forms.specs.Laws.Forms.{lies_placed, lies_place, form_plane, tests_kept}
 use Rattle.nodes.specs.Node.{plane_at, node_of, operands, Needs, joins, ranges, form_at, model_at, Shows, Makeable, NodeMade}
 use Rattle.nodes.specs.Laws.NodePlanes.{plane_before, plane_after, of_says, of_operand, of_sound, needs_only, needs_none}
-use Rattle.policy.specs.Evaluated.{nodes_at, node_at, Standing, Planned, IsMade, PolicyReady, Asked, Worked, Given, NodeSettled, LowestPassing, LowestTrue, Tested}
+use Rattle.policy.specs.Evaluated.{nodes_at, node_at, Standing, Planned, IsMade, AllLie, PolicyReady, Asked, Worked, Given, NodeSettled, LowestPassing, LowestTrue, Tested}
 use Rattle.judgement.specs.Laws.Same.{SameModel, same_truth}
 
 -- two buffers with the same first two planes give the same model, and the second plane is the closure of the first in both
@@ -82,20 +82,25 @@ lowest_true pitch f ext model work g S (Some x) t =
     (h, (S.at x 0 h (omega arith)).0 t.1, λ z l u. t.2 z l ((S.at z 0 (omega (arith, l, h)) (omega (arith, h))).1 u))
 lowest_true pitch f ext model work g S None t = λ z h u. t z h ((S.at z 0 h (omega (arith, h))).1 u)
 
--- the form of the last node is held, and lies within the buffer
+-- a form of the last node lies within the buffer
+pub last_plane : (store : List ℕ) (start count pitch : ℕ) (closed : Bool) (work after : List ℕ) (f : Form) → length after ≡ length work → PolicyReady store start count pitch closed work → 0 < count
+    → Placed pitch (plane_at pitch (count - 1)) f → Plane after pitch (place f)
+last_plane store start count pitch closed work after f e R h L =
+    let l : count - 1 < count = omega arith in
+    form_plane after pitch (plane_at pitch (count - 1)) f L
+    (record { small = R.small; within = omega (arith, R.room, e, plane_before pitch (count - 1) count l) })
+    (plane_after pitch (count - 1))
+
+-- the one that is kept is held
 module _ (store : List ℕ) (start count pitch : ℕ) (ext : List ℕ) (closed : Bool) (work : List ℕ) (m0 m1 : List (Option Form)) (after : List ℕ) (R : PolicyReady store start count pitch closed work) (h : 0 < count)
     (G : Given (nodes_at store start count) pitch ext (count - 1) m0 work m1 after) (f : Form) (e : get_or m1 (count - 1) None ≡ Some f) where
-  last_held : Lies pitch (plane_at pitch (count - 1)) f × Shows (model_at pitch ext work) pitch f after (formula (nodes_at store start count) (count - 1))
+  last_held : Placed pitch (plane_at pitch (count - 1)) f × Shows (model_at pitch ext work) pitch f after (formula (nodes_at store start count) (count - 1))
   last_held =
       let many = length_records count (drop (start * 24) store) in
       G.worked.held (count - 1) (omega (arith, many)) f e
 
-  pub last_plane : Plane after pitch (place f)
-  last_plane =
-      let l : count - 1 < count = omega arith in
-      form_plane after pitch (plane_at pitch (count - 1)) f last_held.0
-      (record { small = R.small; within = omega (arith, R.room, G.worked.len, plane_before pitch (count - 1) count l) })
-      (plane_after pitch (count - 1))
+  pub kept_plane : Plane after pitch (place f)
+  kept_plane = last_plane store start count pitch closed work after f G.worked.len R h last_held.0
 
   pub last_tested : (r : Option ℕ) → LowestPassing (pitch * 8) (λ x. tests f after pitch x 0) r → Tested (nodes_at store start count) pitch ext work r after
   last_tested r L =
@@ -193,6 +198,7 @@ module _ (nodes : Net) (pitch : ℕ) (ext : List ℕ) where
     len = U.len ∙ W.len;
     kept = λ j h. U.kept j (W.kept j h);
     held = λ j h f t. let H = U.held j h f t in (H.0, shows_in pitch ext b a (λ m l. sym (W.planes m l)) _ _ _ H.1);
+    lies = λ l. U.lies (W.lies l);
     planes = λ m h. U.planes m h ∙ W.planes m h;
     behind = λ m h. U.behind m h ∙ W.behind m h;
   }
@@ -208,7 +214,7 @@ module _ (store : List ℕ) (start count : ℕ) (ext : List ℕ) (closed : Bool)
   standing = record { stored = A.ready.stored; sound = A.ready.sound; few = A.ready.few }
 
   pub worked_none : Worked all_nodes pitch ext m0 work m0 work
-  worked_none = record { len = refl; kept = λ j h. h; held = A.held; planes = λ m h. refl; behind = λ m h. refl }
+  worked_none = record { len = refl; kept = λ j h. h; held = A.held; lies = λ l. l; planes = λ m h. refl; behind = λ m h. refl }
 
   -- an operand is asked for
   pub ask : (m1 : List (Option Form)) (j : ℕ) (b : List ℕ) → Worked all_nodes pitch ext m0 work m1 b → j < k → Asked store start count ext closed b pitch j m1
@@ -240,17 +246,14 @@ module _ (store : List ℕ) (start count : ℕ) (ext : List ℕ) (closed : Bool)
     made = λ j o. ⊎_elim (λ q. subst (IsMade m2) (sym q) (H.worked.kept p.0 G.made)) (λ q. subst (IsMade m2) (sym q) H.made) (needs_only n p e j o);
   }
 
-  -- node k is made of earlier nodes, which are made
-  module _ (n : Node) (P : Planned all_nodes k n) (m1 : List (Option Form)) (b : List ℕ) (U : OperandsMade n m1 b) where
-    W : Worked all_nodes pitch ext m0 work m1 b
-    W = U.worked
+  -- node k is made of earlier nodes; what is read of one that is not made is the form of the steps
+  module _ (n : Node) (P : Planned all_nodes k n) (m1 : List (Option Form)) (b : List ℕ) (W : Worked all_nodes pitch ext m0 work m1 b) where
+    kept_placed : (j : ℕ) → j < length all_nodes → (q : Option Form) → get_or m1 j None ≡ q → Placed pitch (plane_at pitch j) (unwrap_or q (Both 0))
+    kept_placed j h (Some f) e = (W.held j h f e).0
+    kept_placed j h None e = inr (inl refl)
 
-    operand_held : (j : ℕ) → Needs n j → Lies pitch (plane_at pitch j) (form_at m1 j) × Shows (model_at pitch ext work) pitch (form_at m1 j) b (formula all_nodes j)
-    operand_held j o =
-        let m = U.made j o in
-        let e = ap (λ (q : Option Form). unwrap_or q (Both 0)) m.1 in
-        let H = W.held j (omega (arith, P.earlier j o, A.inside, all_many)) m.0 m.1 in
-        (subst (Lies pitch (plane_at pitch j)) (sym e) H.0, subst (λ (f : Form). Shows (model_at pitch ext work) pitch f b (formula all_nodes j)) (sym e) H.1)
+    operand_placed : (j : ℕ) → Needs n j → Placed pitch (plane_at pitch j) (form_at m1 j)
+    operand_placed j o = kept_placed j (omega (arith, P.earlier j o, A.inside, all_many)) (get_or m1 j None) refl
 
     pub makeable : Makeable n m1 k pitch closed b
     makeable = record {
@@ -258,10 +261,22 @@ module _ (store : List ℕ) (start count : ℕ) (ext : List ℕ) (closed : Bool)
       small = A.ready.small;
       within = omega (arith, plane_before pitch k count A.inside, A.ready.room, W.len);
       earlier = P.earlier;
-      lies = λ j o. (operand_held j o).0;
+      lies = operand_placed;
       sound = P.sound;
       reached = λ t. still_reached pitch ext work b W.planes (A.ready.reached t);
     }
+
+  -- which are made
+  module _ (n : Node) (P : Planned all_nodes k n) (m1 : List (Option Form)) (b : List ℕ) (U : OperandsMade n m1 b) where
+    W : Worked all_nodes pitch ext m0 work m1 b
+    W = U.worked
+
+    operand_held : (j : ℕ) → Needs n j → Placed pitch (plane_at pitch j) (form_at m1 j) × Shows (model_at pitch ext work) pitch (form_at m1 j) b (formula all_nodes j)
+    operand_held j o =
+        let m = U.made j o in
+        let e = ap (λ (q : Option Form). unwrap_or q (Both 0)) m.1 in
+        let H = W.held j (omega (arith, P.earlier j o, A.inside, all_many)) m.0 m.1 in
+        (subst (Placed pitch (plane_at pitch j)) (sym e) H.0, subst (λ (f : Form). Shows (model_at pitch ext work) pitch f b (formula all_nodes j)) (sym e) H.1)
 
     module _ (m2 : List (Option Form)) (c : List ℕ) (S : NodeSettled m1 n k pitch ext b m2 c) where
       operand_shows : (j : ℕ) → Needs n j → Shows (model_at pitch ext b) pitch (form_at m1 j) b (first_nodes all_nodes k j)
@@ -285,21 +300,27 @@ module _ (store : List ℕ) (start count : ℕ) (ext : List ℕ) (closed : Bool)
       before_own : (p : ℕ) → p ≤ plane_size pitch → (i : ℕ) → p ≤ i → i < p + plane_size pitch → get_or c i 0 ≡ get_or b i 0
       before_own p h i lo hi = S.made.rest i (inl (omega (arith, plane_after pitch k)))
 
-      other_form : (j : ℕ) → (j ≡ k → ⊥) → (f : Form) → Lies pitch (plane_at pitch j) f → (i : ℕ) → place f ≤ i → i < place f + plane_size pitch → get_or c i 0 ≡ get_or b i 0
+      other_form : (j : ℕ) → (j ≡ k → ⊥) → (f : Form) → Placed pitch (plane_at pitch j) f → (i : ℕ) → place f ≤ i → i < place f + plane_size pitch → get_or c i 0 ≡ get_or b i 0
       other_form j ne f L =
           lies_place (λ p. (i : ℕ) → p ≤ i → i < p + plane_size pitch → get_or c i 0 ≡ get_or b i 0) pitch (plane_at pitch j) f L
           (beside_own j ne) (before_own 0 (omega arith)) (before_own (plane_size pitch) (omega arith))
 
       abbrev HeldAt : ℕ → Form → Type 0
-      HeldAt j f = Lies pitch (plane_at pitch j) f × Shows (model_at pitch ext work) pitch f c (formula all_nodes j)
+      HeldAt j f = Placed pitch (plane_at pitch j) f × Shows (model_at pitch ext work) pitch f c (formula all_nodes j)
+
+      same_form : (j : ℕ) → (f : Form) → get_or m2 j None ≡ Some f → j ≡ k → S.form ≡ f
+      same_form j f t e = ap (λ (q : Option Form). unwrap_or q f) (sym S.kept ∙ ap (λ (i : ℕ). get_or m2 i None) (sym e) ∙ t)
 
       held_at : (j : ℕ) → j < length all_nodes → (f : Form) → get_or m2 j None ≡ Some f → Dec (j ≡ k) → HeldAt j f
       held_at j h f t (yes e) =
-          let same = ap (λ (q : Option Form). unwrap_or q f) (sym S.kept ∙ ap (λ (i : ℕ). get_or m2 i None) (sym e) ∙ t) in
-          subst (λ (i : ℕ). HeldAt i f) (sym e) (subst (HeldAt k) same (S.made.lies, own_shows))
+          subst (λ (i : ℕ). HeldAt i f) (sym e) (subst (HeldAt k) (same_form j f t e) (lies_placed S.form pitch (plane_at pitch k) S.made.lies, own_shows))
       held_at j h f t (no e) =
           let H = W.held j h f (sym (S.others j e) ∙ t) in
           (H.0, shows_kept _ pitch f b c _ (other_form j e f H.0) H.1)
+
+      lies_at : AllLie pitch m1 → (j : ℕ) → (f : Form) → get_or m2 j None ≡ Some f → Dec (j ≡ k) → Lies pitch (plane_at pitch j) f
+      lies_at l j f t (yes e) = subst (λ (i : ℕ). Lies pitch (plane_at pitch i) f) (sym e) (subst (Lies pitch (plane_at pitch k)) (same_form j f t e) S.made.lies)
+      lies_at l j f t (no e) = l j f (sym (S.others j e) ∙ t)
 
       still_made : (j : ℕ) → IsMade m1 j → Dec (j ≡ k) → IsMade m2 j
       still_made j h (yes e) = (S.form, ap (λ (i : ℕ). get_or m2 i None) e ∙ S.kept)
@@ -311,6 +332,7 @@ module _ (store : List ℕ) (start count : ℕ) (ext : List ℕ) (closed : Bool)
           len = S.made.len ∙ W.len;
           kept = λ j h. still_made j (W.kept j h) (ℕ_discrete j k);
           held = λ j h f t. held_at j h f t (ℕ_discrete j k);
+          lies = λ l j f t. lies_at (W.lies l) j f t (ℕ_discrete j k);
           planes = λ m h. S.made.rest m (inl (omega (arith, plane_after pitch k))) ∙ W.planes m h;
           behind = λ m h.
               let l : plane_at pitch count ≤ m = subst (λ (i : ℕ). plane_at pitch i ≤ m) all_many h in

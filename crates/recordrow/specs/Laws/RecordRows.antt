@@ -105,6 +105,10 @@ module _ (before : Net) (r : Rec) (after : Net) where
   unfolding record_row row3
   kind_above h n = rw (le-ltb (kind r) 1 (omega arith), lt-ltb 5 (kind r) h, ne_eqb (kind r) 9 n)
 
+-- the kinds 2 to 5 come after the widths, and are no group
+pub later : (r : Rec) → 2 ≤ kind r → kind r ≤ 5 → Later r
+later r low high = (low, λ g. absurd (omega arith))
+
 -- the kinds below 6 are no group
 no_group : (r : Rec) → kind r ≤ 5 → kind r ≡ 9 → ⊥
 no_group r high e = omega arith

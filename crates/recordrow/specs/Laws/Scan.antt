@@ -1,6 +1,6 @@
 -- Laws of what the scan knows, as one record more comes.
-use Rattle.std.specs.Prelude.{◌≡◌, refl, true, cond, List, [], ◌∷◌, ◌++◌, ℕ, ◌+◌, ◌^◌, ◌<◌, ◌≤◌, ltb, length, replicate}
-use Rattle.std.proofs.Common.{sym, ap, ◌∙◌, ⊎_elim, arith, length-append, eq-eqb, ne_eqb, eqb-true}
+use Rattle.std.specs.Prelude.{◌≡◌, refl, true, cond, Result, Ok, Err, OnOk, List, [], ◌∷◌, ◌++◌, ℕ, ◌+◌, ◌^◌, ◌<◌, ◌≤◌, ltb, length, replicate}
+use Rattle.std.proofs.Common.{sym, ap, subst, ◌∙◌, ⊎_elim, arith, length-append, eq-eqb, ne_eqb, eqb-true}
 use Rattle.std.proofs.Math.Dec.{eqb}
 use Rattle.std.proofs.lemmas.Bool.{eqb-false}
 use Rattle.basics.specs.Lists.{keep}
@@ -8,6 +8,7 @@ use Rattle.format.specs.Record.{Rec, Net, kind, records, of_kind, widths_of}
 use Rattle.widths.specs.Widths.{within_limits}
 use Rattle.format.specs.Policy.{nodes_of, policy_count, longest_of, longest}
 use Rattle.refusals.specs.Rows.{misses_incomplete, last_group}
+use Rattle.refusals.specs.declared.Row.{Row}
 use Rattle.noderows.specs.Policies.{PoliciesOf}
 use Rattle.rows.specs.Groups.{GroupsOf}
 use Rattle.rows.specs.Laws.Noted.{keys_none, keys_other, points_none, points_other}
@@ -151,6 +152,18 @@ seen_none = record {
   policies = record { count = refl; nodes = refl; marks = marks_none; longest = refl };
   groups = record { count = refl; switch = refl; number = refl };
 }
+
+-- what holds where a turn goes on: where more does, once it has gone on, and where it holds however it goes
+pub onward_from : {P Q : Type 0} (t : Result Seen Row) → (P → Q) → OnOk t P → OnOk t Q
+onward_from (Err k) f h = tt
+onward_from (Ok s) f h = f h
+
+pub onward_next : {P : Type 0} (t : Result Seen Row) (s : Seen) → t ≡ Ok s → OnOk t P → P
+onward_next {P} t s e h = subst (λ (u : Result Seen Row). OnOk u P) e h
+
+pub onward_all : {P : Type 0} (t : Result Seen Row) → P → OnOk t P
+onward_all (Err k) h = tt
+onward_all (Ok s) h = h
 
 -- nothing is noted of no record; one that is neither a link nor a rule leaves what is noted
 pub noted_none : NotedOf [] (record { keys = replicate 512 0; points = replicate 32 0 })

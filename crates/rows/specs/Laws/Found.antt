@@ -1,5 +1,5 @@
 -- Laws of a search over the records of a store: nothing found so far, and the first that is found.
-use Rattle.std.specs.Prelude.{◌≡◌, Bool, true, false, cond, Option, Some, None, ℕ, suc, ◌+◌, ◌<◌, length}
+use Rattle.std.specs.Prelude.{◌≡◌, Bool, true, false, cond, Option, Some, None, ℕ, suc, ◌+◌, ◌-◌, ◌*◌, ◌<◌, length, take, drop}
 use Rattle.std.proofs.Math.Path.{refl, ap}
 use Rattle.std.proofs.Common.{sym, ◌∙◌, arith}
 use Rattle.std.proofs.Math.Bool.{or-true}
@@ -10,7 +10,7 @@ use Rattle.format.specs.Record.{Rec, Net, records, same_rule, present}
 use Rattle.format.specs.Search.{record_at, records_after, first_at}
 use Rattle.rows.specs.Found.{found_rule}
 use Rattle.basics.specs.Laws.Lists.{any_append, any_snoc}
-use Rattle.format.specs.Laws.Records.{length_records, records_split, records_left, records_more}
+use Rattle.format.specs.Laws.Records.{length_records, records_split, records_left, records_more, part_is}
 
 -- the first that passes stands after those of which none does
 pub first_after : (f : Rec → Bool) (xs ys : Net) → any f xs ≡ false → first_at f (xs ++ ys) ≡ length xs + first_at f ys
@@ -52,6 +52,20 @@ module _ (f : Rec → Bool) (s : List ℕ) where
   unfolding first_at
   first_none n e =
       ap (first_at f) (sym (append-nil (records n s))) ∙ first_after f (records n s) [] e ∙ omega (arith, length_records n s)
+
+-- the same, where a test t of record i, a part of the store, comes after those of which none passed
+module _ (f : Rec → Bool) (s : List ℕ) (i : ℕ) (t : Bool) (none : any f (records i s) ≡ false) (e : t ≡ f (take (i * 24 + 24 - i * 24) (drop (i * 24) s))) where
+  tested : (b : Bool) → t ≡ b → f (record_at s i) ≡ b
+  tested b q = ap f (sym (part_is s i)) ∙ sym e ∙ q
+
+  pub none_after : t ≡ false → any f (records (i + 1) s) ≡ false
+  none_after q = none_more f s i none (tested false q)
+
+  pub some_here : (n : ℕ) → i < n → t ≡ true → any f (records n s) ≡ true
+  some_here n h q = some_found f s n i h (tested true q)
+
+  pub first_here : (n : ℕ) → i < n → t ≡ true → first_at f (records n s) ≡ i
+  first_here n h q = first_found f s n i h none (tested true q)
 
 pub found_at : (c : Rec) (net : Net) (i : ℕ) → any (same_rule c) net ≡ true → first_at (same_rule c) net ≡ i → Some i ≡ found_rule c net
 unfolding found_rule present

@@ -23,7 +23,7 @@ bounded store n s h l known = record {
 
 pub loop-i-init : goal.loop-i-init
 unfolding records
-loop-i-init c = (c.start-seen.ensures, file_start c.args.store.now c.args.n, c.new-notes.ensures)
+loop-i-init c = (c.start-seen.ensures, file_start c.args.store.now c.args.n, c.new-notes.ensures.noted)
 
 pub invariant_of-turn : goal.invariant_of-turn
 invariant_of-turn c = record { groups = c.groups_there-there.ensures; known = c.loop-i.invariant.0 }

@@ -1,5 +1,5 @@
 -- What the search from a state keeps.
-use Rattle.std.specs.Prelude.{◌≡◌, refl, Bool, true, false, List, ◌⊎◌, ℕ, ◌+◌, ◌*◌, ◌<◌, length, replicate}
+use Rattle.std.specs.Prelude.{◌≡◌, refl, Bool, true, false, List, ◌⊎◌, ℕ, ◌+◌, ◌*◌, ◌<◌, ◌≤◌, length, replicate}
 use Rattle.std.proofs.Common.{sym, ap, subst, ◌∙◌, inl, inr, ⊎_elim, arith}
 use Rattle.std.proofs.lemmas.Bool.{false≢true}
 use Rattle.std.proofs.Math.Decide.{ℕ_discrete}
@@ -15,6 +15,10 @@ use Rattle.std.specs.List.{between}
 use Rattle.words.specs.Words.{Lacks}
 use Rattle.words.specs.Laws.Seeking.{part_bit}
 use Rattle.sinks.specs.Turns.{Between, Stable, Idle, Blank, Noted, Through, Searched, Met, MetAll}
+
+-- a line is within the bytes
+pub line_fits : (base pitch x len : ℕ) → base + plane_size pitch ≤ len → x < pitch * 8 → base + x * pitch + pitch ≤ len
+line_fits base pitch x len h hx = omega (arith, line_before x (pitch * 8) pitch hx)
 
 -- the plane at from stays
 pub from_kept : (from to pitch : ℕ) (a l : List ℕ) → Apart from to pitch (length a) → Between from to pitch a l

@@ -1,7 +1,7 @@
 -- The step plane and the row of external states give the network's model; what is left of the work buffer.
-use Rattle.std.specs.Prelude.{◌≡◌, Bool, true, false, Option, List, ◌++◌, ℕ, ◌+◌, ◌-◌, ◌*◌, ◌/◌, ◌^◌, ◌≤◌, ◌<◌, length, get_or, drop, replicate}
+use Rattle.std.specs.Prelude.{◌≡◌, refl, Bool, true, false, Option, List, ◌++◌, ℕ, ◌+◌, ◌-◌, ◌*◌, ◌/◌, ◌^◌, ◌≤◌, ◌<◌, length, get_or, drop, replicate}
 use Rattle.std.proofs.Math.Path.{sym, ap₂}
-use Rattle.std.proofs.Common.{ap, subst, ◌∙◌, inl, inr, ⊎_elim, mul_assoc, mul-le-mul_right, arith, length-append, length-drop, pow-add, ext_get_or, get_or-append-add, get_or-drop}
+use Rattle.std.proofs.Common.{ap, subst, ◌∙◌, inl, inr, ⊎_elim, mul_assoc, mul-one, mul-le-mul_left, mul-le-mul_right, arith, length-append, length-drop, pow-add, pow_mono, ext_get_or, get_or-append-add, get_or-drop}
 use Rattle.std.proofs.lemmas.Bool.{false≢true}
 use Rattle.std.proofs.Math.Decide.{dec_lt}
 use Rattle.std.proofs.lemmas.List.{length-replicate, get_or-replicate}
@@ -17,6 +17,7 @@ use Rattle.format.specs.Policy.{longest}
 use Rattle.refusals.specs.Rows.{work_needed}
 use Rattle.widths.specs.declared.Widths.{Widths}
 use Rattle.scan.specs.declared.Layout.{Layout}
+use Rattle.widths.specs.Laws.Limits.{limits}
 use Rattle.format.specs.Laws.States.{whole_bytes, few_states}
 use Rattle.onestep.specs.Step.{Step, external}
 use Rattle.steps.specs.Filled.{Filled}
@@ -154,6 +155,14 @@ module _ (end : ℕ) (l : Layout) (store : List ℕ) where
       pub left : d ≡ replicate k 0 ++ drop k a
       left = ext_get_or 0 d (replicate k 0 ++ drop k a) size (λ i hi. at_byte i (dec_lt i k))
 
+a_byte : (w : Widths) → within_limits w ≡ true → 1 ≤ plane_bytes w
+unfolding plane_bytes
+a_byte w e =
+    let l = limits w e in
+    let h : 3 ≤ 2 * width w = omega arith in
+    let p : 8 ≤ 2 ^ (2 * width w) = pow_mono h in
+    omega arith
+
 module _ (end : ℕ) (l : Layout) (store work : List ℕ) (J : Judgeable end l store work) where
   abbrev network : Net
   network = records end store
@@ -167,6 +176,11 @@ module _ (end : ℕ) (l : Layout) (store work : List ℕ) (J : Judgeable end l s
 
   pub enough : (pb : ℕ) → pb ≡ plane_bytes l.widths → (l.longest + 2) * pb ≤ length work
   enough pb e = omega (arith, ap (λ (n : ℕ). (l.longest + 2) * n) e, amount, J.room)
+
+  pub most_fits : l.longest + 2 ≤ length work
+  most_fits =
+      let h = mul-le-mul_left (l.longest + 2) (a_byte l.widths J.clean.laid.limits) in
+      omega (arith, mul-one (l.longest + 2), enough (plane_bytes l.widths) refl)
 
   pub step_room : plane_size (line_bytes l.widths) ≤ length work
   step_room =

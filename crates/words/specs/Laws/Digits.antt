@@ -1,15 +1,16 @@
 -- The bits of a number that is made of bytes, and its lowest bit.
-use Rattle.std.specs.Prelude.{◌≡◌, refl, true, List, [], ◌∷◌, ℕ, zero, suc, ◌+◌, ◌-◌, ◌*◌, ◌/◌, ◌%◌, ◌^◌, ◌<◌, ◌≤◌, eqb}
-use Rattle.std.proofs.Common.{sym, ap₂, ◌∙◌, not-suc-le-zero, add-zero}
+use Rattle.std.specs.Prelude.{◌≡◌, refl, true, false, List, [], ◌∷◌, ℕ, zero, suc, ◌+◌, ◌-◌, ◌*◌, ◌/◌, ◌%◌, ◌^◌, ◌<◌, ◌≤◌, eqb}
+use Rattle.std.proofs.Common.{sym, ap₂, ◌∙◌, not-suc-le-zero, le_of_suc-le-suc, pow-suc, add-zero}
 use Rattle.std.proofs.Math.Path.{ap}
 use Rattle.std.proofs.Math.Decide.{dec_lt}
 use native.Mathlib.Omega.{arith}
 use Rattle.std.specs.Int.{w64, from_le_bytes, trailing_zeros}
+use Rattle.std.specs.Int.Count.{count_trailing_zeros, under}
 use Rattle.std.proofs.lemmas.Nat.Bits.{bit_at-trailing_zeros}
 use Rattle.std.proofs.Math.ListN.{get_or}
 use Rattle.basics.specs.Bit.{bit_of}
 use Rattle.planes.specs.Plane.{bit}
-use Rattle.basics.specs.Laws.Bits.{bit_block, bit_high}
+use Rattle.basics.specs.Laws.Bits.{bit_low, bit_half, bit_block, bit_high}
 use Rattle.planes.specs.Laws.Places.{bit_at, in_line}
 use Rattle.words.specs.Words.{Word, Lowest}
 
@@ -73,6 +74,56 @@ module _ (bytes : List ℕ) (a : ℕ) (small : (j : ℕ) → get_or bytes j 0 < 
         ∙ digits_bit 8 here i (λ j. small (a + j)) (omega arith)
         ∙ sym (bit_at bytes a i);
   }
+
+-- the same of eight numbers that are these bytes
+module _ (bytes : List ℕ) (a b0 b1 b2 b3 b4 b5 b6 b7 : ℕ) (small : (j : ℕ) → get_or bytes j 0 < 256)
+    (h0 : b0 ≡ get_or bytes a 0) (h1 : b1 ≡ get_or bytes (a + 1) 0) (h2 : b2 ≡ get_or bytes (a + 2) 0) (h3 : b3 ≡ get_or bytes (a + 3) 0)
+    (h4 : b4 ≡ get_or bytes (a + 4) 0) (h5 : b5 ≡ get_or bytes (a + 5) 0) (h6 : b6 ≡ get_or bytes (a + 6) 0) (h7 : b7 ≡ get_or bytes (a + 7) 0) where
+  sum_is_digits : b0 + 256 * (b1 + 256 * (b2 + 256 * (b3 + 256 * (b4 + 256 * (b5 + 256 * (b6 + 256 * b7)))))) ≡ digits (λ j. get_or bytes (a + j) 0) 8
+  unfolding digits
+  sum_is_digits =
+      let h : get_or bytes (a + 0) 0 ≡ get_or bytes a 0 = ap (λ (n : ℕ). get_or bytes n 0) (add-zero a) in
+      omega arith
+
+  pub sum_is_word : Word a bytes (b0 + 256 * (b1 + 256 * (b2 + 256 * (b3 + 256 * (b4 + 256 * (b5 + 256 * (b6 + 256 * b7)))))))
+  sum_is_word = record {
+    small = omega (arith, small a, small (a + 1), small (a + 2), small (a + 3), small (a + 4), small (a + 5), small (a + 6), small (a + 7));
+    bits = λ i h.
+        ap (λ (m : ℕ). bit_of m i) sum_is_digits
+        ∙ digits_bit 8 (λ j. get_or bytes (a + j) 0) i (λ j. small (a + j)) (omega arith)
+        ∙ sym (bit_at bytes a i);
+  }
+
+-- the lowest bit of a number of k bits
+record Low (k v t : ℕ) : Type 0 where
+  below : t < k
+  set : bit_of v t ≡ true
+  none : (i : ℕ) → i < t → bit_of v i ≡ false
+
+odd : (v r : ℕ) → v % 2 ≡ suc r → bit_of v 0 ≡ true
+odd v r e = let f : v % 2 ≡ 1 = omega arith in bit_low v ∙ rw f refl
+
+even : (v : ℕ) → v % 2 ≡ 0 → bit_of v 0 ≡ false
+even v e = bit_low v ∙ rw e refl
+
+low_none : (v t : ℕ) → v % 2 ≡ 0 → ((i : ℕ) → i < t → bit_of (v / 2) i ≡ false) → (i : ℕ) → i < suc t → bit_of v i ≡ false
+low_none v t e h zero l = even v e
+low_none v t e h (suc i) l = sym (bit_half v i) ∙ h i (le_of_suc-le-suc l)
+
+low_more : (k v r : ℕ) → v % 2 ≡ r → (t : ℕ) → (r ≡ 0 → Low k (v / 2) t) → Low (suc k) v (under r t)
+low_more k v zero e t ih =
+    let L = ih refl in
+    record { below = omega (arith, L.below); set = sym (bit_half v t) ∙ L.set; none = low_none v t e L.none }
+low_more k v (suc r) e t ih = record { below = omega arith; set = odd v r e; none = λ i h. absurd (not-suc-le-zero h) }
+
+none_below_one : (v : ℕ) → 0 < v → v < 1 → ⊥
+none_below_one v h l = omega arith
+
+trailing : (k v : ℕ) → 0 < v → v < 2 ^ k → Low k v (count_trailing_zeros k v)
+unfolding count_trailing_zeros
+trailing zero v h l = absurd (none_below_one v h l)
+trailing (suc k) v h l =
+    low_more k v (v % 2) refl (count_trailing_zeros k (v / 2)) (λ e. trailing k (v / 2) (omega arith) (omega (arith, pow-suc 2 k)))
 
 -- the lowest bit that is set
 pub lowest_is : (v : ℕ) → 0 < v → v < 2 ^ 64 → Lowest v (trailing_zeros w64 v)

@@ -12,7 +12,7 @@ use Rattle.basics.specs.Bit.{bit_of}
 use Rattle.planes.specs.Plane.{bit}
 use Rattle.basics.specs.Laws.Bits.{bit_shift, bit-zero, bit_above, bit_and_lem, bit_not}
 use Rattle.basics.specs.Laws.Tests.{not_both, and_left}
-use Rattle.words.specs.Words.{Word, Lowest, Lacks, FirstAt, First, Spent, StateOf}
+use Rattle.words.specs.Words.{Word, Lowest, Lacks, FirstAt, First, Spent, StateOf, Open}
 
 -- the bits of a part of a buffer
 pub part_bit : (bytes : List ℕ) (a e y : ℕ) → y < (e - a) * 8 → bit (between a e bytes) y ≡ bit bytes (a * 8 + y)
@@ -67,11 +67,15 @@ module _ (line : List ℕ) (i v : ℕ) (W : Word (i / 64 * 8) line v) where
     near : i % 64 + t < 64
     near = inside (dec_lt (i % 64 + t) 64)
 
+    -- none lies below its lowest bit, also where the word ends behind the line
+    pub word_before : Lacks line i (i + t)
+    word_before = record { none = λ j g l. at_ahead j g (omega (arith, near)) ∙ L.none (j - i) (omega arith) }
+
     pub word_found : i / 64 * 8 + 8 ≤ length line → FirstAt line i (i + t)
     word_found h = record {
       later = omega arith;
       within = omega (arith, near);
-      before = record { none = λ j g l. at_ahead j g (omega (arith, near)) ∙ L.none (j - i) (omega arith) };
+      before = word_before;
       set = ahead t near ∙ L.set;
     }
 
@@ -90,6 +94,9 @@ module _ (line : List ℕ) (j v : ℕ) (W : Word (j * 8) line v) where
   whole_lacks z =
       let e : (j * 64 / 64 + 1) * 64 ≡ (j + 1) * 64 = omega arith in
       subst (Lacks line (j * 64)) e (word_lacks line (j * 64) v whole (unshifted ∙ z))
+
+  pub whole_before : (t : ℕ) → Lowest v t → Lacks line (j * 64) (j * 64 + t)
+  whole_before t L = word_before line (j * 64) v whole t (subst (λ (n : ℕ). Lowest n t) (sym unshifted) L)
 
   pub whole_found : (t : ℕ) → Lowest v t → j * 8 + 8 ≤ length line → FirstAt line (j * 64) (j * 64 + t)
   whole_found t L h = word_found line (j * 64) v whole t (subst (λ (n : ℕ). Lowest n t) (sym unshifted) L) (omega arith)
@@ -124,3 +131,9 @@ module _ (line done among : List ℕ) (j u v w : ℕ) (U : Word j line u) (A : W
     within = omega (arith, L.small);
     set = and_left _ _ (and_left _ _ (sym (open_bit t L.small) ∙ L.set));
   }
+
+pub open_none : (line done among : List ℕ) (pitch j : ℕ) → Spent line done among (j * 8) → pitch ≤ j → Open line done among pitch None
+open_none line done among pitch j S h = record { done_too = λ i hi. S.done_too i (omega arith) }
+
+pub open_is : (line done among : List ℕ) (pitch r : ℕ) → r < pitch * 8 → bit line r ≡ true → Open line done among pitch (Some r)
+open_is line done among pitch r h t = record { within = h; set = t }

@@ -32,18 +32,9 @@ module _ (t : Turn) (group : kind (at_turn t) ≡ 9) where
   abbrev last : Bool
   last = not (buckets_there (before_turn t ++ (at_turn t ∷ after_turn t)) (at_turn t))
 
-  module _ (one two : Bool) (first : Either (not good) (out_of_order (before_turn t) (at_turn t)) one) (second : Either one (leb 16 t.seen.groups.count) two) where
-    value : two ≡ ((not good || out_of_order (before_turn t) (at_turn t)) || leb 16 t.seen.groups.count)
-    value = either one _ two second ∙ ap (λ (b : Bool). b || leb 16 t.seen.groups.count) (either (not good) _ one first)
-
-    met : two ≡ true → two ≡ row16 (before_turn t) (at_turn t) (after_turn t)
-    met h = h ∙ sym (group_row _ _ t.known _ (after_turn t) group ∙ go good _ _ (sym value ∙ h))
-      where
-        go : (g o m : Bool) → ((not g || o) || m) ≡ true → (not g || o || m || last) ≡ true
-        go false o m q = refl
-        go true true m q = refl
-        go true false true q = refl
-        go true false false q = absurd (false≢true q)
+  module _ (one two full : Bool) (first : Either (not good) (out_of_order (before_turn t) (at_turn t)) one) (second : Either one full two) where
+    value : two ≡ ((not good || out_of_order (before_turn t) (at_turn t)) || full)
+    value = either one _ two second ∙ ap (λ (b : Bool). b || full) (either (not good) _ one first)
 
     sound : two ≡ false → good ≡ true
     sound h = go good _ _ (sym value ∙ h)
@@ -52,8 +43,21 @@ module _ (t : Turn) (group : kind (at_turn t) ≡ 9) where
         go false o m q = absurd (false≢true (sym q))
         go true o m q = refl
 
+  module _ (one two : Bool) (first : Either (not good) (out_of_order (before_turn t) (at_turn t)) one) (second : Either one (leb 16 t.seen.groups.count) two) where
+    tested : two ≡ ((not good || out_of_order (before_turn t) (at_turn t)) || leb 16 t.seen.groups.count)
+    tested = value one two _ first second
+
+    met : two ≡ true → two ≡ row16 (before_turn t) (at_turn t) (after_turn t)
+    met h = h ∙ sym (group_row _ _ t.known _ (after_turn t) group ∙ go good _ _ (sym tested ∙ h))
+      where
+        go : (g o m : Bool) → ((not g || o) || m) ≡ true → (not g || o || m || last) ≡ true
+        go false o m q = refl
+        go true true m q = refl
+        go true false true q = refl
+        go true false false q = absurd (false≢true q)
+
     unmet : two ≡ false → last ≡ row16 (before_turn t) (at_turn t) (after_turn t)
-    unmet h = sym (group_row _ _ t.known _ (after_turn t) group ∙ go good _ _ (sym value ∙ h))
+    unmet h = sym (group_row _ _ t.known _ (after_turn t) group ∙ go good _ _ (sym tested ∙ h))
       where
         go : (g o m : Bool) → ((not g || o) || m) ≡ false → (not g || o || m || last) ≡ last
         go false o m q = absurd (false≢true (sym q))
@@ -67,7 +71,7 @@ buckets_there-requires c =
     let is = rw c.record-r.ensures.is at c.group_good.ensures in
     let whole = record_length t.at.store.now t.at.i (omega (arith, t.at.room, t.at.within)) in
     let good =
-    sound t c.requires.0 c.if-not-group_good.value c.if-out_of_order.value
+    sound t c.requires.0 c.if-not-group_good.value c.if-out_of_order.value (leb 16 t.seen.groups.count)
     (
     elim c.if-not-group_good.branch [
       | then-not-group_good w ↦ inl (ap not (sym is ∙ w.if-not-group_good.true), w.value-is ∙ ap not is)

@@ -1,0 +1,2 @@
+-- Laws that proofs of this crate use.
+pub mod LoadedRuns
