@@ -1,7 +1,8 @@
 // The tests of a policy's node, made of those of its operands.
-ghost use Rattle.std.specs.Prelude.{◌≡◌, ◌≤◌, ◌<◌};
+ghost use Rattle.std.specs.Prelude.{◌≡◌, false, List, ℕ, ◌≤◌, ◌<◌};
 ghost use Rattle.lines.specs.Shapes.{op_of, Plane};
 ghost use Rattle.forms.specs.Forms.{ranged, Sources, Stands};
+ghost use Rattle.nodes.specs.declared.node.Node.TheVariants.{Over};
 ghost use Rattle.nodes.specs.Node.{node_of, operands, form_at, joined_at, site_of, Makeable, NodeMade};
 
 use format::kinds::{NodeKind, Var};
@@ -116,6 +117,24 @@ fn range_at(
     ensures { Stands (ranged (op_of r.by) r.over (joined_at forms.now t a b) work.old to.pitch) result to.pitch to.base work.old work.new }
 {
     quantify::range(work, r, joined_at(forms, t, a, b), to)
+}
+
+// Makes node k, a SOME or ALL of an operation on two nodes, whatever line of external states there is; answers its form. `make` says
+// that of its own line alone.
+pub fn make_over(
+    work: &mut [u8],
+    forms: &[Option<Form>],
+    r: Ranging,
+    t: Op,
+    a: usize,
+    b: usize,
+    k: usize,
+    pitch: usize,
+) -> Form
+    requires { Makeable (Over r t a b) forms.now k pitch false work.old }
+    ensures { (ext : List ℕ) → NodeMade forms.now (Over r t a b) k pitch ext work.old result work.new }
+{
+    range_at(work, forms, r, t, a, b, site_of(k, pitch))
 }
 
 // Makes node k, in its own plane or by reference to the first two, of the forms of its operands; answers its form. The node is

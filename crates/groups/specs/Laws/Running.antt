@@ -14,6 +14,7 @@ use Rattle.format.specs.Laws.Patterns.{put_lt}
 use Rattle.format.specs.Laws.Records.{length_records, record_at_lem, part_is, record_length}
 use Rattle.widths.specs.declared.Widths.{Widths}
 use Rattle.format.specs.declared.Bucket.{Bucket}
+use Rattle.scan.specs.declared.Layout.{Layout}
 use Rattle.scan.specs.declared.network.Network.{Network}
 use Rattle.scan.specs.Stored.{Stored}
 use Rattle.states.specs.declared.Frame.{Frame}
@@ -35,6 +36,12 @@ use Rattle.groups.specs.Laws.Marking.{added_marked}
 -- record i of a store is the part that is read for it
 pub record_read : (n : ℕ) (s : List ℕ) (i : ℕ) → i < n → get_or (records n s) i [] ≡ take (i * 24 + 24 - i * 24) (drop (i * 24) s)
 record_read n s i h = record_at_lem n s i h ∙ sym (part_is s i)
+
+-- what bucket j of the group at place i makes of a header, as it was read from the table of any store
+pub header_read_at : (n : ℕ) (l : Layout) (s buckets : List ℕ) → BucketHeaders (records n s) l buckets → (i j h header : ℕ) → l.groups ≤ i → i < n → j < 3 → h < 64
+    → header ≡ get_or buckets (entry (i - l.groups) j h) 0 → header ≡ bucket_header l.widths (take (i * 24 + 24 - i * 24) (drop (i * 24) s)) j h
+header_read_at n l s buckets T i j h header low hi lj lh e =
+    e ∙ T i j h low lj lh (omega (arith, length_records n s)) ∙ ap (λ (r : Rec). bucket_header l.widths r j h) (record_read n s i hi)
 
 -- the record of group g, as it was read from a store
 pub record GroupRead (net : Net) (w : Widths) (sw g : ℕ) (r : Rec) : Type 0 where
